@@ -1,14 +1,20 @@
 """Stores far past the usual limits, as years of work leave them: the keys of postings are in no order, and the labels
 and links of a concept lie far apart. SQLite makes their rows, since requests would take hours."""
+from __future__ import annotations
+
+import pathlib
 import sqlite3
 import subprocess
+from collections.abc import Sequence
 from contextlib import closing
 
 from measure import built, line
 
 # How many concepts are right below one.
 WIDTH = 10
-LABELS = (
+# A kind of label: its name, its number in the tables, its language and its text.
+LabelShape = tuple[str, int, str, str]
+LABELS: tuple[LabelShape, ...] = (
     ("pref", 1, "en", "Concept {0}"),
     ("pref", 1, "de", "Begriff {0}"),
     ("alt", 2, "en", "Term {0}"),
@@ -19,23 +25,23 @@ LABELS = (
 KEY_STEP, ROW_STEP = 2_654_435_761, 7_368_787
 
 
-def parent(number):
+def parent(number: int) -> int:
     """The concept above a concept, from 3 on; 2 is the top."""
     return 2 + (number - 3) // WIDTH
 
 
-def key_of(posting):
+def key_of(posting: int) -> str:
     """The key of a posting: of two postings made one after the other the keys are far apart."""
     return f"key-{posting * KEY_STEP % 2**32:010}"
 
 
-def row_of(number, concepts):
+def row_of(number: int, concepts: int) -> tuple[int, str, str, int, int]:
     """A posting's row; each tenth was moved to the next concept."""
     first = 2 + number % (concepts - 1)
     return number, key_of(number), f"Record {number}", first, first + (number % 10 == 0)
 
 
-def make(path, concepts, labels, postings):
+def make(path: pathlib.Path, concepts: int, labels: Sequence[LabelShape], postings: int) -> None:
     """Makes a store of scheme 1, of concepts in a tree from 2 on, and of postings, a tenth of which were moved once.
     Labels are stored kind by kind, and those of a kind in no order, as links are."""
     subprocess.run(

@@ -1,6 +1,10 @@
 """The plain statements of a keeper, as Python's sqlite3 module runs them on a file: what the program's own are timed
 beside."""
+from __future__ import annotations
+
+import os
 import sqlite3
+from collections.abc import Iterable
 
 TABLES = """
 CREATE TABLE posting (num INTEGER PRIMARY KEY, pkey TEXT NOT NULL UNIQUE, record TEXT NOT NULL,
@@ -17,7 +21,7 @@ ROW = "SELECT num, pkey, record, first_at, at, withdrawn FROM posting"
 MOVE = "SELECT num, posting, source, target FROM move"
 
 
-def opened(path, journal="WAL"):
+def opened(path: str | os.PathLike[str], journal: str = "WAL") -> sqlite3.Connection:
     """A connection with a journal of this kind. As the program does, it waits at each commit until the disk has it."""
     base = sqlite3.connect(path, isolation_level=None)
     base.execute(f"PRAGMA journal_mode = {journal}")
@@ -25,7 +29,7 @@ def opened(path, journal="WAL"):
     return base
 
 
-def post_all(base, posts, concepts):
+def post_all(base: sqlite3.Connection, posts: int, concepts: int) -> None:
     """Adds the postings to the concepts in turn, each in a transaction of its own."""
     for number in range(1, posts + 1):
         concept = 2 + (number - 1) % concepts
@@ -34,7 +38,7 @@ def post_all(base, posts, concepts):
         base.execute("COMMIT")
 
 
-def merge(base, source, target, postings, moves):
+def merge(base: sqlite3.Connection, source: int, target: int, postings: Iterable[int], moves: int) -> None:
     """Moves these postings, which are all at a concept, to another one, in one transaction, after this number of
     moves."""
     base.execute("BEGIN")
@@ -44,7 +48,7 @@ def merge(base, source, target, postings, moves):
     base.execute("COMMIT")
 
 
-def fill(base, posts, concepts, is_moved=True):
+def fill(base: sqlite3.Connection, posts: int, concepts: int, is_moved: bool = True) -> None:
     """Adds the postings to the concepts in turn, each moved once or not at all, in one transaction."""
     at = [2 + number % concepts for number in range(posts + 1)]
     numbers = range(1, posts + 1)
@@ -55,7 +59,7 @@ def fill(base, posts, concepts, is_moved=True):
     base.execute("COMMIT")
 
 
-def load_all(base):
+def load_all(base: sqlite3.Connection) -> None:
     """Reads all rows of all tables."""
     for (table,) in base.execute("SELECT name FROM sqlite_schema WHERE type = 'table'").fetchall():
         for _ in base.execute(f"SELECT * FROM {table} ORDER BY 1"):

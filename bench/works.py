@@ -1,8 +1,11 @@
 """The works of bench/ratio: for each a run of a program, the run of what comes before, and the ratio wanted."""
+from __future__ import annotations
+
 import functools
 import pathlib
 import shutil
 import subprocess
+from collections.abc import Callable, Iterable, Iterator, Sequence
 from contextlib import closing
 from typing import NamedTuple
 
@@ -14,6 +17,8 @@ from statements import fill, opened
 # A store past the usual limits, and the seconds in which it may be opened.
 LARGE_CONCEPTS, LARGE_POSTINGS, LARGE_SECONDS = 200_000, 2_000_000, 20
 IN_NO_ORDER = "with keys in no order"
+# The size of a work, of its size as it is named here.
+Size = Callable[[int], int]
 
 
 class Call(NamedTuple):
@@ -35,14 +40,14 @@ class Work(NamedTuple):
     most_seconds: float | None = None
 
 
-def script(*parts, store=None):
+def script(*parts: Iterable[str], store: pathlib.Path | None = None) -> Call:
     return Call(("script",), "".join(it for part in parts for it in part).encode(), store)
 
 
 # --- in memory ---
 
 
-def in_memory(size):
+def in_memory(size: Size) -> Iterator[Work]:
     """The works without a file, of sizes for which there is a function."""
     concepts, length, count = size(10_000), size(1_000), size(19_000)
     made, leveled, many = list(scheme_with(concepts)), list(levels(concepts)), list(scheme_with(count))
@@ -70,7 +75,7 @@ def in_memory(size):
     )
 
 
-def accepted(before, requests):
+def accepted(before: Sequence[str], requests: Sequence[str]) -> list[str]:
     """Those of the requests that the program accepts after others."""
     ran = subprocess.run([built(), "script"], input=script(before, requests).given, stdout=subprocess.PIPE, check=False)
     return [it for it, answer in zip(requests, ran.stdout.splitlines()[len(before) :]) if is_accepted(answer)]
@@ -79,14 +84,14 @@ def accepted(before, requests):
 # --- over a file ---
 
 
-def posting_file(path, rows, concepts):
+def posting_file(path: pathlib.Path, rows: int, concepts: int) -> str:
     """Writes a posting file, and returns its path."""
     text = "".join(f"i{n},r{n},{2 + n % concepts}\n" for n in range(rows))
     path.write_text(f"key,record,concept\n{text}", encoding="utf-8")
     return str(path)
 
 
-def copy_store(source, target):
+def copy_store(source: pathlib.Path, target: pathlib.Path) -> None:
     """Copies a store with its log, over a former copy."""
     for ending in ("", "-wal"):
         pathlib.Path(f"{target}{ending}").unlink(missing_ok=True)
@@ -94,7 +99,7 @@ def copy_store(source, target):
             shutil.copyfile(f"{source}{ending}", f"{target}{ending}")
 
 
-def make_store(path, *parts):
+def make_store(path: pathlib.Path, *parts: Iterable[str]) -> pathlib.Path:
     """Makes a store by requests, and returns its path."""
     given = script(*parts).given
     subprocess.run([built(), "--db", path, "script"], input=given, stdout=subprocess.DEVNULL, check=True)
@@ -102,24 +107,24 @@ def make_store(path, *parts):
 
 
 @functools.cache
-def store_of_concepts(room, concepts):
+def store_of_concepts(room: pathlib.Path, concepts: int) -> pathlib.Path:
     """A store of a scheme with this number of concepts."""
     return make_store(room / f"concepts{concepts}.db", scheme_with(concepts))
 
 
 @functools.cache
-def store_of_texts(room, concepts):
+def store_of_texts(room: pathlib.Path, concepts: int) -> pathlib.Path:
     """A store of concepts in levels with three labels each, some of them related."""
     links = *levels(concepts), *unrelated(concepts, concepts // 5)
     return make_store(room / f"texts{concepts}.db", scheme_with(concepts), labels(concepts, 3 * concepts), links)
 
 
-def over_stores(size, room):
+def over_stores(size: Size, room: pathlib.Path) -> Iterator[Work]:
     """The works with files that are counted and timed: refused rows, texts of an open store, and opening one."""
     concepts, check = size(10_000), Call(("check",))
     rows = [posting_file(room / f"rows{it}.csv", it, concepts) for it in (size(100_000), 0)]
-    imports = (Call(("import", it)) for it in rows)
-    yield Work(f"{size(100_000):,} refused rows of an import in memory", *imports, 1.5)
+    whole, empty = (Call(("import", it)) for it in rows)
+    yield Work(f"{size(100_000):,} refused rows of an import in memory", whole, empty, 1.5)
     texts = store_of_texts(room, concepts)
     for name, words in (
         (f"the alphabetical display of {concepts:,} concepts", "alphabetical --scheme 1 --lang en"),
@@ -139,7 +144,7 @@ def over_stores(size, room):
     )
 
 
-def with_commits(size, room):
+def with_commits(size: Size, room: pathlib.Path) -> Iterator[Work]:
     """The works over a store that are only timed, since the system has its part in them."""
     concepts, check = size(10_000), Call(("check",))
     store = store_of_concepts(room, concepts)
@@ -157,7 +162,7 @@ def with_commits(size, room):
     )
 
 
-def of_large_store(size, room):
+def of_large_store(size: Size, room: pathlib.Path) -> Work:
     """Opening a store past the usual limits, of rows in no order."""
     concepts, postings = size(LARGE_CONCEPTS), size(LARGE_POSTINGS)
     path = room / "large.db"

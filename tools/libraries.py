@@ -16,8 +16,7 @@ def take_libraries(root: Path) -> str | None:
     try:
         import rtlib
 
-        stamp = functools.cache(rtlib.Crate.stamp)
-        rtlib.Crate.stamp = lambda crate: stamp(crate)
+        rtlib.Crate.stamp = functools.cache(rtlib.Crate.stamp)
         for it in rtlib.crates_below(str(root)):
             if Path(it.rlib).is_dir():
                 file = Path(it.rlib).parent / "stamp"

@@ -5,7 +5,7 @@ import logging
 from importlib import import_module
 from typing import Any
 
-from flask import Flask, g, request
+from flask import Flask, current_app, g, request
 from markupsafe import Markup
 from werkzeug.exceptions import HTTPException
 
@@ -105,8 +105,18 @@ def install_words(app: Flask) -> None:
             "entry_kind": app.extensions["entry"].kind,
             "page": page_number(),
             "settings": the_settings(),
-            "here": request.full_path.rstrip("?") if request.method == "GET" else "/",
+            "here": path_of_page(),
         }
+
+
+def path_of_page() -> str:
+    """Returns the path of the page that is shown; of a form that is shown again, that of the page above it."""
+    if request.method == "GET":
+        return request.full_path.rstrip("?")
+    path, routes = request.path, current_app.create_url_adapter(request)
+    while routes and path and not routes.test(path, "GET"):
+        path = path.rpartition("/")[0]
+    return path or "/"
 
 
 def may_see(lowest: str) -> bool:

@@ -84,6 +84,12 @@ def link(number: int) -> Markup:
     return Markup(f'<a href="/c/{int(number)}"{lang}{gone} dir="auto">{escape(text)}</a>{small}')
 
 
+def returned_as(number: int) -> int | None:
+    """Returns the live concept as which one has come back, when its end was taken back."""
+    found = the_desk().history.returned_as(number)
+    return the_mirror().final(found) if found else None
+
+
 def own_path(path: str | None) -> str:
     """Returns a path if it leads to a page of this desk, and the first page's otherwise."""
     return path if path and OWN_PATH.fullmatch(path) else "/"
@@ -93,7 +99,10 @@ def go(path: str, done: int | None = None) -> Response:
     """Returns a redirection to a page after a change; it first says what the plan `done` did."""
     if done is not None:
         head, hash_mark, part = path.partition("#")
-        path = f"{head}{'&' if '?' in head else '?'}{urlencode({'done': done})}{hash_mark}{part}"
+        # (a page may have said what an earlier plan did)
+        before, _, query = head.partition("?")
+        fields = [it for it in query.split("&") if it and not it.startswith("done=")]
+        path = f"{before}?{'&'.join([*fields, urlencode({'done': done})])}{hash_mark}{part}"
     return redirect(path, 303)
 
 

@@ -43,8 +43,10 @@ class OpenStore:
     # --- its life ---
 
     def start(self) -> None:
-        """Reads the store, starts the program, and settles what an earlier desk left open. Raises ToolError."""
+        """Opens the journal, reads the store, starts the program, and settles what an earlier desk left open. Raises
+        ToolError."""
         try:
+            self.journal.open()
             if not self.db.exists():
                 # (the program makes a new store)
                 self.program.start()

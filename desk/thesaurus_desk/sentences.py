@@ -1,7 +1,7 @@
 """A request of the journal, with its answer, as a sentence in the reader's language."""
 from __future__ import annotations
 
-from collections.abc import Callable
+from collections.abc import Callable, Iterable
 from dataclasses import dataclass
 from typing import Any
 
@@ -17,14 +17,14 @@ Row = dict[str, Any]
 
 @dataclass(frozen=True)
 class Telling:
-    """A request and its answer, with what is needed to put them into words. `old`: the term that it replaced."""
+    """A request and its answer, with what is needed to put them into words. `kept`: what it destroyed."""
 
     request: Row
     answer: Row
     mirror: Mirror
     words: Words
     links: Links
-    old: str | None = None
+    kept: Row
 
     def say(self, key: str, /, **values: object) -> Markup:
         return escape(self.words(f"sentences.{key}", **values))
@@ -51,13 +51,18 @@ class Telling:
             return self.links.link(number)
         return self.label()
 
+    def records(self, postings: Iterable[int]) -> int:
+        """Returns the number of records of some postings, each counted once."""
+        found = (self.mirror.postings.get(it) for it in postings)
+        return len({it.record for it in found if it is not None})
+
 
 def sentence_of(
-    request: Row, answer: Row | None, mirror: Mirror, words: Words, links: Links, old: str | None = None
+    request: Row, answer: Row | None, mirror: Mirror, words: Words, links: Links, kept: Row | None = None
 ) -> Markup:
-    """Returns a request, with its answer if it has one, as a sentence without a stop. `old`: the term that a rename
-    has replaced, if it is known."""
-    it = Telling(request, answer or {}, mirror, words, links, old)
+    """Returns a request, with its answer if it has one, as a sentence without a stop. `kept`: what it destroyed, as
+    the term that a rename has replaced, if that is known."""
+    it = Telling(request, answer or {}, mirror, words, links, kept or {})
     write = WRITERS.get(str(request.get("do")))
     return write(it) if write else it.say("other", name=str(request.get("do")))
 
@@ -69,9 +74,10 @@ def write_label(it: Telling) -> Markup:
 
 def write_relabel(it: Telling) -> Markup:
     key = "relabel_keep" if it.request.get("keep") else "relabel"
-    if it.old is None:
+    old = it.kept.get("old")
+    if old is None:
         return it.say(key, owner=it.link("owner"), label=it.label())
-    return it.say(f"{key}_from", owner=it.link("owner"), old=it.quoted(it.old), label=it.label())
+    return it.say(f"{key}_from", owner=it.link("owner"), old=it.quoted(old), label=it.label())
 
 
 def write_link(it: Telling) -> Markup:
@@ -91,12 +97,16 @@ def write_outside(it: Telling) -> Markup:
 
 def write_merge(it: Telling) -> Markup:
     ends = {"source": it.link("source"), "target": it.link("target")}
-    return it.say("merge_moved", n=it.answer["moved"], **ends) if "moved" in it.answer else it.say("merge", **ends)
+    if "moved" not in it.answer:
+        return it.say("merge", **ends)
+    # (a journal may lack the list; the answer counts postings, of which a record may have several)
+    count = it.records(it.kept.get("postings", ())) or it.answer["moved"]
+    return it.say("merge_moved", n=count, **ends)
 
 
 def write_split(it: Telling) -> Markup:
-    count = it.answer.get("moved", len(it.request.get("postings", ())))
-    return it.say("split", n=count, source=it.link("source"), made=it.made())
+    postings = it.request.get("postings", ())
+    return it.say("split", n=it.records(postings) or len(postings), source=it.link("source"), made=it.made())
 
 
 def write_deprecate(it: Telling) -> Markup:

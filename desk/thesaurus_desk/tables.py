@@ -61,7 +61,9 @@ def read_sent_table(name: str, data: bytes, columns: str, options: TableOptions)
             heading, *rows = read_table(path)
         except ToolError as error:
             raise ToolError(str(error).replace(str(path), name), error.status) from None
-    found = find_columns(heading.cells, options.lang, read_choices(columns) if "=" in columns else {})
+    # (a text without = would be taken for a file's name)
+    choices = read_choices(columns if "=" in columns else f"{columns}=") if columns.strip() else {}
+    found = find_columns(heading.cells, options.lang, choices)
     return TableRun(name, heading.cells, found, rows, options)
 
 

@@ -3,6 +3,7 @@ from __future__ import annotations
 
 import os
 import re
+import shutil
 import subprocess
 import sys
 from pathlib import Path
@@ -22,9 +23,10 @@ done
 """
 
 
-def look(path: str = os.environ["PATH"]) -> subprocess.CompletedProcess[str]:
-    call = [sys.executable, str(ROOT / "tools" / "look")]
-    return subprocess.run(call, capture_output=True, text=True, check=False, env={**os.environ, "PATH": path})
+def look(path: str = os.environ["PATH"], home: Path = ROOT) -> subprocess.CompletedProcess[str]:
+    call = [sys.executable, str(home / "tools" / "look")]
+    where = {**os.environ, "PATH": path, "PYTHONDONTWRITEBYTECODE": "1"}
+    return subprocess.run(call, capture_output=True, text=True, check=False, env=where)
 
 
 def write_rt(folder: Path, text: str) -> str:
@@ -54,13 +56,24 @@ def test_the_display_is_printed_and_nothing_else(tmp_path: Path) -> None:
     assert "not proved yet" in first and "half an hour" in last
 
 
+def copy_sources(folder: Path) -> Path:
+    """Copies the files that git follows, so that what other tests write meanwhile isn't beside them."""
+    listed = subprocess.run(["git", "ls-files", "-z"], cwd=ROOT, capture_output=True, text=True, check=True)
+    for name in filter(None, listed.stdout.split("\0")):
+        (folder / name).parent.mkdir(parents=True, exist_ok=True)
+        shutil.copy2(ROOT / name, folder / name)
+    return folder
+
+
+def files_of(folder: Path) -> dict[Path, bytes]:
+    return {it: it.read_bytes() for it in folder.rglob("*") if it.is_file()}
+
+
 @pytest.mark.needs("rt")
-def test_the_sample_is_shown() -> None:
-    states = [subprocess.run(["git", "status", "--porcelain", "--ignored"], cwd=ROOT, capture_output=True, check=False)]
-    ran = look()
-    states += [
-        subprocess.run(["git", "status", "--porcelain", "--ignored"], cwd=ROOT, capture_output=True, check=False)
-    ]
+def test_the_sample_is_shown(tmp_path: Path) -> None:
+    home = copy_sources(tmp_path / "copy")
+    before = files_of(home)
+    ran = look(home=home)
     assert ran.returncode == 0, ran.stderr
     assert TREE and ran.stdout.startswith(TREE[1])
-    assert states[0].stdout == states[1].stdout
+    assert files_of(home) == before

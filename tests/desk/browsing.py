@@ -22,23 +22,31 @@ WIDE, NARROW = (1280, 960), (360, 800)
 WRONG = re.compile(r"Content Security Policy|Uncaught| 5\d\d |Refused to")
 
 
+def start_driver(
+    size: tuple[int, int] = WIDE, is_scripted: bool = True, words: tuple[str, ...] = ()
+) -> webdriver.Chrome:
+    """Starts Chromium without a window."""
+    width, height = size
+    options = webdriver.ChromeOptions()
+    options.binary_location = shutil.which("chromium") or ""
+    fixed = ("--headless=new", "--no-sandbox", "--disable-dev-shm-usage", "--disable-gpu", "--lang=en")
+    for word in (*fixed, f"--window-size={width},{height}", *words):
+        options.add_argument(word)
+    if not is_scripted:
+        options.add_experimental_option("prefs", {"profile.managed_default_content_settings.javascript": 2})
+    options.set_capability("goog:loggingPrefs", {"browser": "ALL"})
+    driver = webdriver.Chrome(service=Service(shutil.which("chromedriver") or ""), options=options)
+    if width < 500:
+        metrics = {"width": width, "height": height, "deviceScaleFactor": 1, "mobile": True}
+        driver.execute_cdp_cmd("Emulation.setDeviceMetricsOverride", metrics)
+    return driver
+
+
 class Browser:
     """A browser at one desk, under one address."""
 
-    def __init__(self, root: str, width: int, height: int, is_scripted: bool, words: tuple[str, ...]):
-        options = webdriver.ChromeOptions()
-        options.binary_location = shutil.which("chromium") or ""
-        fixed = ("--headless=new", "--no-sandbox", "--disable-dev-shm-usage", "--disable-gpu", "--lang=en")
-        for word in (*fixed, f"--window-size={width},{height}", *words):
-            options.add_argument(word)
-        if not is_scripted:
-            options.add_experimental_option("prefs", {"profile.managed_default_content_settings.javascript": 2})
-        options.set_capability("goog:loggingPrefs", {"browser": "ALL"})
-        self.driver = webdriver.Chrome(service=Service(shutil.which("chromedriver") or ""), options=options)
-        self.root = root
-        if width < 500:
-            size = {"width": width, "height": height, "deviceScaleFactor": 1, "mobile": True}
-            self.driver.execute_cdp_cmd("Emulation.setDeviceMetricsOverride", size)
+    def __init__(self, root: str, driver: webdriver.Chrome):
+        self.root, self.driver = root, driver
 
     def enter(self, path: str) -> None:
         """Comes in by an address, and waits for the first page."""
@@ -126,7 +134,7 @@ def browsing(
     root: str, size: tuple[int, int] = WIDE, is_scripted: bool = True, words: tuple[str, ...] = ()
 ) -> Iterator[Browser]:
     """Opens a browser for the time of the block."""
-    browser = Browser(root, *size, is_scripted, words)
+    browser = Browser(root, start_driver(size, is_scripted, words))
     try:
         yield browser
     finally:

@@ -7,7 +7,7 @@ from collections.abc import Callable
 from pathlib import Path
 from typing import Any
 
-from browsing import WIDE, Browser
+from browsing import WIDE, start_driver
 from processes import Running
 from selenium.common.exceptions import StaleElementReferenceException, WebDriverException
 from selenium.webdriver.chrome.webdriver import WebDriver
@@ -35,7 +35,7 @@ OPTIONS = "return [...document.querySelectorAll('.suggestions:not([hidden]) li')
 
 def start_browser() -> WebDriver:
     """Returns a browser without a window, for several desks one after another."""
-    return Browser("", *WIDE, True, ("--hide-scrollbars", "--force-color-profile=srgb")).driver
+    return start_driver(words=("--hide-scrollbars", "--force-color-profile=srgb"))
 
 
 class Hand(ABC):

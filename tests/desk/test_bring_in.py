@@ -62,6 +62,46 @@ def test_no_posting_file(anna: Client, data: bytes) -> None:
     assert page.status_code == 409 and "The first row must be key,record,concept" in text_of(page)
 
 
+@pytest.mark.parametrize("form", ["postings", "table"])
+def test_what_is_wrong_with_typed_rows_is_beside_them(anna: Client, form: str) -> None:
+    """The field for a file was left empty."""
+    page = anna.post(f"/bring-in/{form}", {"form": form, "typed": "a\nb,c", "tag": "en"})
+    assert (
+        page.status_code == 409 and f'id="{form}-typed-why"' in page.text and f'id="{form}-file-why"' not in page.text
+    )
+    assert "a\nb,c</textarea>" in page.text
+
+
+@pytest.mark.parametrize(
+    ("columns", "part"),
+    [
+        ("term=number", "Eine Spalte kann enthalten: pref@TAG, alt@TAG"),
+        ("/etc/passwd", "Eine Spalte kann enthalten: pref@TAG, alt@TAG"),
+        ("Begriff=pref@de", "Keine Spalte heißt begriff."),
+    ],
+)
+def test_what_is_wrong_with_columns_is_beside_them(anna: Client, columns: str, part: str) -> None:
+    anna.http.set_cookie("localhost", "pages", "de")
+    page = anna.post("/bring-in/table", {"form": "table", "tag": "de", "columns": columns, "typed": "term\nLeiern"})
+    assert page.status_code == 409 and 'id="table-columns-why"' in page.text and 'id="table-typed-why"' not in page.text
+    assert part in text_of(page) and "--columns" not in page.text and "HEADING" not in page.text
+
+
+def test_typed_rows_are_corrected_below_what_they_would_do(anna: Client) -> None:
+    """Nothing is typed twice, and the choices stay; of a file there is nothing to correct."""
+    rows = "concept,term\nHarps,Hakenharfen\nLyres,Leiern"
+    asked = {"form": "table", "kind": "", "tag": "de", "columns": "term=alt@de", "typed": rows}
+    page = anna.post("/bring-in/table", asked)
+    assert page.status_code == 200 and "1 row was refused" in text_of(page)
+    again = page.text.split('action="/bring-in/table"')[1]
+    assert f">{rows}</textarea>" in again
+    assert {("kind", ""), ("tag", "de"), ("columns", "term=alt@de")} <= set(
+        re.findall(r'type="hidden" name="(\w+)" value="([^"]*)"', again)
+    )
+    sent = send(anna, "/bring-in/table", rows.encode(), kind="", tag="de", columns=asked["columns"], typed=rows)
+    assert "1 row was refused" in text_of(sent) and "</textarea>" not in sent.text
+
+
 def test_an_indexer_brings_postings_and_no_tables(site: Site) -> None:
     ina = site.client("ina")
     assert ina.get("/bring-in").status_code == 200 and "/bring-in/table" not in ina.get("/bring-in").text

@@ -8,12 +8,15 @@ import re
 import time
 from concurrent.futures import ThreadPoolExecutor
 from typing import Any
+from urllib.parse import urlencode
 
 import pytest
-from clients import Client, Site, text_of
+from clients import Client, Site, site_of, text_of
 from thesaurus_desk.journal.entries import Draft, Request, Step
 from thesaurus_desk.journal.settling import BY_OTHERS, Found
 from thesaurus_desk.journal.takeback import TakeBack
+from thesaurus_desk.mirror.changes import CHANGES
+from thesaurus_desk.pages.changes import KINDS
 
 
 def number(site: Site, text: str) -> int:
@@ -108,11 +111,62 @@ def test_taking_a_merge_back(site: Site, anna: Client) -> None:
     assert f"that was taken back. It is now: Fiddles {back} The old number and address still lead to Violins" in old
 
 
+def test_a_number_that_nothing_has(site: Site, anna: Client) -> None:
+    """Its page says so, and what was asked for and not made; the number is another one's later."""
+    number_to_be = site.desk.mirror.counts()["resources"] + 1
+    page = " ".join(text_of(anna.get(f"/c/{number_to_be}")).split())
+    assert f"Nothing has the number {number_to_be}" in page and f"go from 1 to {number_to_be - 1}" in page
+    assert anna.get(f"/c/{number_to_be}").status_code == 404 and "asked for" not in page
+    refused = [
+        {"do": "concept", "scheme": 1, "tag": "en", "text": "Theremins"},
+        {"do": "link", "kind": "broader", "a": 5, "b": 5},
+    ]
+    assert site.desk.perform("anna", "new", refused).state == "refused"
+    made = perform(site, {"do": "concept", "scheme": 1, "tag": "en", "text": "Keyed fiddles"})
+    page = text_of(anna.get(f"/c/{number_to_be}"))
+    assert "Keyed fiddles" in page and "Theremins" not in page, "that was another one"
+    assert [it.id for it in site.desk.history.recent(number=number_to_be)] == [made]
+
+
+def test_a_reader_who_follows_an_address_that_nothing_has(site: Site, anna: Client) -> None:
+    answer = anna.get("/id/999", Accept="text/html,*/*;q=0.8")
+    assert (answer.status_code, answer.headers["Location"]) == (303, "/c/999") and "Link" not in answer.headers
+    assert anna.get("/id/999", Accept="text/turtle").status_code == 404
+
+
+def test_a_new_concept_that_was_taken_back_says_what_happened(site: Site, anna: Client) -> None:
+    bowed = number(site, "Bowed instruments")
+    requests = [
+        {"do": "concept", "scheme": 1, "tag": "en", "text": "Keyed fiddles"},
+        {"do": "link", "kind": "broader", "a": "$1", "b": bowed},
+    ]
+    plan = perform(site, *requests)
+    assert anna.post(f"/changes/{plan}/back", {"form": "back"}).status_code == 303
+    page = anna.get(f"/c/{site.desk.mirror.counts()['resources']}")
+    said = " ".join(text_of(page).split())
+    assert "nothing replaces it. anna took back its creation: " in said, said
+    assert "It was below Bowed instruments" in said
+    public = site_of(site.desk, site.entry.accounts.path, is_public=True)  # type: ignore[union-attr]
+    assert "anna" not in public.client().get(f"/c/{site.desk.mirror.counts()['resources']}").text
+
+
+def test_a_refusal_names_the_concept_that_came_back(site: Site, anna: Client) -> None:
+    source = number(site, "Fiddles")
+    plan = perform(site, {"do": "merge", "source": source, "target": number(site, "Violins")})
+    assert anna.post(f"/changes/{plan}/back", {"form": "back"}).status_code == 303
+    back = number(site, "Fiddles")
+    assert back != source
+    answer = anna.post("/c/11/links/add", {"form": "add-related", "kind": "related", "other": str(source)})
+    said = " ".join(text_of(answer).split())
+    assert answer.status_code == 409, said
+    assert f"ended, and that was taken back: it is Fiddles now, with the number {back}." in said, said
+
+
 def test_what_takes_a_merge_back_is_shown_first(site: Site, anna: Client) -> None:
     source, target = number(site, "Fiddles"), number(site, "Violins")
     plan = perform(site, {"do": "merge", "source": source, "target": target}, user="anna")
     page = anna.get(f"/c/{target}?done={plan}").text
-    assert f'<a class="button" href="/changes/{plan}/back">Take back</a>' in page
+    assert f'<a class="button" href="/changes/{plan}/back?next=/c/{target}%3Fdone%3D{plan}">Take back</a>' in page
     assert f'action="/changes/{plan}/back"' not in page
     plan = perform(site, label(site, "Fine violins"), user="anna")
     assert f'action="/changes/{plan}/back"' in anna.get(f"/c/{target}?done={plan}").text
@@ -175,6 +229,7 @@ def test_what_can_not_be_taken_back(site: Site, anna: Client) -> None:
     plan = perform(site, {"do": "scheme", "tag": "en", "text": "Places"})
     page = text_of(anna.get(f"/changes/{plan}/back"))
     assert "Nothing can be taken back" in page and "nothing removes it" in page
+    assert f"/changes/{plan}/back" not in anna.get("/changes").text, "it isn't offered"
     assert anna.post(f"/changes/{plan}/back", {"form": "back"}).status_code == 409
     assert anna.get("/changes/99999/back").status_code == 404
 
@@ -188,6 +243,18 @@ def test_a_refused_taking_back_says_why(site: Site, anna: Client) -> None:
     assert answer.status_code == 409 and "Violinen" in text_of(answer)
 
 
+def test_what_was_changed_at_a_concept_that_has_ended_stays(site: Site, anna: Client) -> None:
+    """That is said before, and not only when the program refuses it."""
+    source = number(site, "Fiddles")
+    plan = perform(site, label(site, "Vielles of old", "Fiddles"), label(site, "Fine violins"))
+    perform(site, {"do": "merge", "source": source, "target": number(site, "Violins")})
+    page = " ".join(text_of(anna.get(f"/changes/{plan}/back")).split())
+    assert "Fiddles is no longer in use, so what was changed at it stays as it is." in page
+    assert anna.post(f"/changes/{plan}/back", {"form": "back"}).status_code == 303
+    view = site.desk.mirror.view(number(site, "Violins"))
+    assert view and ("en", "Fine violins") not in view.alt and ("en", "Vielles of old") in view.alt
+
+
 def test_a_change_by_another_program(site: Site, anna: Client) -> None:
     """It is in the history of the concept, in the list of changes, and in the table."""
     violins, journal = number(site, "Violins"), site.desk.journal
@@ -198,7 +265,19 @@ def test_a_change_by_another_program(site: Site, anna: Client) -> None:
         page = text_of(anna.get(path))
         assert "by other means" in page and "changed while the desk was down, by another program" in page, path
         assert "The store was restored from a backup." in page
+        assert "by another program: Violins" in " ".join(page.split()), path
     assert ",by other means,done," in anna.get("/changes.csv").text
+
+
+def test_other_programs_are_one_of_the_users(site: Site, anna: Client) -> None:
+    perform(site, label(site, "Fine harps", "Harps"))
+    journal = site.desk.journal
+    journal.finish(journal.begin(Draft("", BY_OTHERS, [])), "done", [], changed=[number(site, "Violins")])
+    page = anna.get("/changes").text
+    assert re.findall(r"<option[^>]* selected>", page) == []
+    (value,) = re.findall(r'<option value="([^"]*)">by other means', page)
+    only = text_of(anna.get(f"/changes?{urlencode({'by': value})}"))
+    assert "another program" in only and "Fine harps" not in only
 
 
 def test_a_restored_store_is_said(site: Site, anna: Client) -> None:
@@ -232,3 +311,56 @@ def test_a_plan_that_stays_unknown_is_closed(site: Site, anna: Client) -> None:
     assert "nobody knows whether they were performed" not in text_of(anna.get("/"))
     found = journal.plan(plan)
     assert found and (found.state, found.note) == ("unknown", "looked at by anna")
+
+
+def test_changes_of_a_kind(site: Site, anna: Client) -> None:
+    perform(site, label(site, "Fine violins"))
+    perform(site, {"do": "link", "kind": "related", "a": number(site, "Harps"), "b": number(site, "Drums")})
+    assert "Fine violins" in text_of(anna.get("/changes?kind=terms"))
+    assert "Fine violins" not in text_of(anna.get("/changes?kind=links"))
+    assert "related term" in text_of(anna.get("/changes?kind=links"))
+    assert "Fine violins" in text_of(anna.get("/changes?kind=other"))
+    assert {it for kind in KINDS.values() for it in kind} == {*CHANGES, "import"}, "each request is of a kind"
+
+
+def test_the_table_has_what_the_page_shows(site: Site, anna: Client) -> None:
+    perform(site, label(site, "Fine violins"))
+    perform(site, label(site, "Fine harps", "Harps"), user="anna")
+    asked = f"?concept={number(site, 'Harps')}&by=anna&kind=terms&since=2020-01-01"
+    shown = re.search(r'href="(/changes\.csv[^"]*)"', anna.get(f"/changes{asked}").text)
+    assert shown
+    (row,) = csv.DictReader(io.StringIO(anna.get(shown[1].replace("&amp;", "&")).text))
+    assert json.loads(row["request"])["text"] == "Fine harps"
+    assert len(list(csv.DictReader(io.StringIO(anna.get("/changes.csv").text)))) == 2
+
+
+def test_taking_back_leads_to_where_it_was_asked_for(site: Site, anna: Client) -> None:
+    """To the journal with its filters, or to the page that said what was done."""
+    perform(site, label(site, "Fine violins"))
+    page = anna.get("/changes?by=ben")
+    shown = re.search(r'class="button" href="(/changes/[^"]*/back[^"]*)"', page.text)
+    assert shown
+    back = anna.get(shown[1].replace("&amp;", "&")).text
+    kept = re.search(r'name="next" value="([^"]*)"', back)
+    assert kept and kept[1] == "/changes?by=ben" and 'href="/changes?by=ben"' in back
+    answer = anna.post(shown[1].partition("?")[0], {"form": "back", "next": kept[1]})
+    assert answer.headers["Location"].startswith("/changes?by=ben&done=")
+    violins = number(site, "Violins")
+    plan = perform(site, label(site, "Fine violins"), user="anna")
+    said = re.search(r'name="next" value="([^"]*)"', anna.get(f"/c/{violins}?done={plan}").text)
+    assert said
+    answer = anna.post(f"/changes/{plan}/back", {"next": said[1]})
+    assert re.fullmatch(rf"/c/{violins}\?done=[0-9]+", answer.headers["Location"])
+    plan = perform(site, label(site, "Fine violins"), user="anna")
+    elsewhere = anna.post(f"/changes/{plan}/back", {"next": "//evil.example/"})
+    assert elsewhere.headers["Location"].startswith("/?done=")
+
+
+def test_what_was_taken_back_is_found(site: Site, anna: Client) -> None:
+    """Also if a filter leaves it out of the page."""
+    plan = perform(site, label(site, "Fine violins"))
+    for n in range(60):
+        perform(site, label(site, f"Violin {n}"))
+    anna.post(f"/changes/{plan}/back", {"form": "back"})
+    shown = re.search(r'<a href="([^"]*)">takes an earlier change back', anna.get("/changes?by=anna").text)
+    assert shown and f'<li id="plan-{plan}">' in anna.get(shown[1].partition("#")[0]).text

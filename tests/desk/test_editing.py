@@ -5,7 +5,7 @@ from collections.abc import Iterator
 from pathlib import Path
 
 import pytest
-from browsing import WIDE, Browser
+from browsing import start_driver
 from hands import Hand, Keyboard, come_in
 from processes import Running, running
 from selenium.webdriver.chrome.webdriver import WebDriver
@@ -18,7 +18,7 @@ pytestmark = pytest.mark.needs("chromedriver", "selenium")
 @pytest.fixture(scope="module")
 def plain_driver() -> Iterator[WebDriver]:
     """A browser that runs no script of pages."""
-    found = Browser("", *WIDE, True, ()).driver
+    found = start_driver()
     found.execute_cdp_cmd("Network.enable", {})
     found.execute_cdp_cmd("Network.setBlockedURLs", {"urls": ["*/static/*.js*"]})
     yield found
@@ -84,7 +84,9 @@ def test_a_double_click_on_a_sign_changes_nothing(driver: WebDriver, guide_desk:
     hand.wait(lambda: driver.execute_script("return document.readyState") == "complete", "the whole page")
     before = hand.text()
     ActionChains(driver).double_click(hand.find(sign, "summary")).perform()
-    hand.wait(lambda: hand.focused().tag_name in ("input", "select"), "a field with the focus")
+    # (where the second click falls depends on whether the browser has laid out the open form: on a field, beside it, or
+    # on the sign again; nothing that it meets may send anything)
+    driver.execute_async_script("const [done] = arguments; requestAnimationFrame(() => requestAnimationFrame(done))")
     hand.open("/c/3")
     assert hand.text() == before
 
@@ -144,6 +146,18 @@ def test_keys_lead_to_pages(driver: WebDriver, guide_desk: Running, key: str, pa
     hand.wait(lambda: hand.focused().tag_name == "input", "a field with the focus")
 
 
+def test_escape_leaves_no_field_with_a_text(driver: WebDriver, guide_desk: Running) -> None:
+    """A letter that follows is written, and doesn't lead to the tree."""
+    hand = come_in("keyboard", driver, guide_desk)
+    hand.open("/c/3/move")
+    hand.wait(lambda: hand.focused().get_attribute("id") == "move-other", "the field with the focus")
+    hand.type_keys("zzz", Keys.ESCAPE, "t")
+    assert hand.focused().get_attribute("value") == "zzzt"
+    hand.fill("Below", "")
+    hand.type_keys(Keys.ESCAPE, "t")
+    hand.is_at("/tree")
+
+
 def test_two_editors_at_once(driver: WebDriver, program: str, store: Path) -> None:
     with running("--db", store, "--alone", "anna", "--program", program) as desk:
         anna = come_in("mouse", driver, desk)
@@ -172,7 +186,7 @@ def test_two_editors_at_once(driver: WebDriver, program: str, store: Path) -> No
 
 def start_second(first: WebDriver, desk: Running) -> Hand:
     """Returns a second browser of the same person at a desk."""
-    found = Keyboard(Browser("", *WIDE, True, ()).driver, f"http://127.0.0.1:{desk.port}")
+    found = Keyboard(start_driver(), f"http://127.0.0.1:{desk.port}")
     found.open("/login")
     for cookie in first.get_cookies():
         found.driver.add_cookie({"name": cookie["name"], "value": cookie["value"], "path": "/"})

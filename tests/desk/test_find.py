@@ -127,6 +127,36 @@ def test_the_tree_opens(anna: Client) -> None:
         assert anna.get(path).status_code in (200, 404)
 
 
+def test_the_tree_begins_with_the_largest_thesaurus(site: Site, anna: Client) -> None:
+    plan = [
+        {"do": "scheme", "tag": "en", "text": "A small thesaurus"},
+        {"do": "concept", "scheme": "$1", "tag": "en", "text": "Alone"},
+    ]
+    made = site.desk.perform("anna", "new", plan)
+    page = anna.get("/tree").text.split("<main")[1]
+    assert "String instruments" in page and "Alone" not in page
+    assert page.index("A small thesaurus") < page.index('aria-current="page"'), "they are in the order of their names"
+    assert "Alone" in anna.get(f"/tree?scheme={made.number(1)}").text
+
+
+def test_a_thesaurus_is_saved_as_skos(site: Site, anna: Client) -> None:
+    plan = [
+        {"do": "scheme", "tag": "en", "text": "Places & Länder"},
+        {"do": "concept", "scheme": "$1", "tag": "en", "text": "Absam"},
+    ]
+    made = site.desk.perform("anna", "new", plan).number(1)
+    for path in ("/tree", "/schemes", "/c/1"):
+        assert 'href="/export.ttl?scheme=1"' in anna.get(path).text and "/export.nt?scheme=1" in anna.get(path).text
+    answer = anna.get("/export.ttl?scheme=1")
+    assert answer.mimetype == "text/turtle" and "Violins" in answer.text and "Absam" not in answer.text
+    assert answer.headers["Content-Disposition"] == 'attachment; filename="musical-instruments.ttl"'
+    answer = anna.get(f"/export.nt?scheme={made}")
+    assert answer.mimetype == "application/n-triples" and "Absam" in answer.text and "Violins" not in answer.text
+    assert answer.headers["Content-Disposition"] == 'attachment; filename="places-lander.nt"'
+    for path in ("/export.ttl?scheme=5", "/export.ttl?scheme=999", "/export.nt?scheme=x", "/export.xml"):
+        assert anna.get(path).status_code == 404, path
+
+
 def test_schemes_and_collections(anna: Client) -> None:
     assert "30 concepts, 1 top term" in text_of(anna.get("/schemes"))
     page = anna.get("/collections")
@@ -159,6 +189,45 @@ def test_work_lists(site: Site, anna: Client) -> None:
     assert "2 groups" not in text_of(anna.get("/lists/alike")) and "1 group" in text_of(anna.get("/lists/alike"))
     assert "Terms alike 1 " in " ".join(text_of(anna.get("/lists")).split())
     assert anna.get("/lists").status_code == 200 and anna.get("/lists/other").status_code == 404
+
+
+def test_a_list_is_translated_where_it_is(site: Site, anna: Client) -> None:
+    """Each concept has its field; a term that is refused leads there from the concept."""
+    made = [
+        site.desk.perform("anna", "try", [{"do": "concept", "scheme": 1, "tag": "en", "text": it}]).made for it in "AB"
+    ]
+    path = "/lists/untranslated?in=de"
+    assert f'action="/c/{made[0]}/terms/add"' not in site.client("ina").get(path).text
+    page = anna.get(path).text
+    assert page.count('aria-label="Preferred term of ') == 2 and " autofocus" not in page
+    kept = dict(re.findall(r'type="hidden" name="(form|kind|tag|next)" value="([^"]*)"', page.split("<main")[1]))
+    answer = anna.post(f"/c/{made[0]}/terms/add", {**kept, "text": "Geigen"})
+    again = dict(re.findall(r'type="hidden" name="(next)" value="([^"]*)"', answer.text))
+    assert answer.status_code == 409 and again == {"next": path} and 'value="Geigen"' in answer.text
+    answer = anna.post(f"/c/{made[0]}/terms/add", {**kept, "text": "Altes"})
+    assert answer.headers["Location"].startswith(f"{path}&done=")
+    page = anna.get(answer.headers["Location"]).text
+    assert "Altes" in page and page.count('aria-label="Preferred term of ') == page.count(" autofocus>") == 1
+    view = site.desk.mirror.view(made[0] or 0)
+    assert view and ("de", "Altes") in view.pref
+    out = anna.post(f"/c/{made[1]}/terms/add", {**kept, "text": "Neues", "next": "https://evil.example/"})
+    assert out.headers["Location"].startswith("/?done=")
+
+
+@pytest.mark.parametrize(
+    ("path", "page"),
+    [
+        ("/c/5/terms/add", "/c/5"),
+        ("/c/5/move", "/c/5/move"),
+        ("/bring-in/postings", "/bring-in"),
+        ("/record/add", "/record"),
+    ],
+)
+def test_another_language_after_a_refusal_leads_to_the_page(site: Site, anna: Client, path: str, page: str) -> None:
+    answer = anna.post(path, {"form": "x", "kind": "pref", "tag": "en", "text": "Violins", "other": "?", "record": "r"})
+    assert answer.status_code == 409 and f'href="/language?pages=de&amp;next={page}"' in answer.text
+    assert anna.get(f"/language?pages=de&next={page}").headers["Location"] == page
+    assert anna.get(page).status_code == 200
 
 
 def test_terms_alike_are_shown(site: Site, anna: Client) -> None:

@@ -74,7 +74,14 @@ def pages_of(site: Site, numbers: list[int]) -> list[str]:
         }
         found |= {
             f"{path}{asked}"
-            for path in ("/login?next=/", "/languages?next=", "/users?was=add&name=", "/changes?user=", "/")
+            for path in (
+                "/login?next=/",
+                "/languages?next=",
+                "/users?was=add&name=",
+                "/changes?user=",
+                "/changes/1/back?next=/",
+                "/",
+            )
         }
     found |= {f"/search?all=1&q={it}" for it in ("alt", "hidden", "de", "pwned", "right")}
     found |= {f"/tree?at={it}" for it in numbers} | {f"/lists/{it}" for it in ("alike", "orphans", "busiest", "unused")}

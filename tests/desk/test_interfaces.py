@@ -102,6 +102,16 @@ def test_each_form_says_the_same(client: FlaskClient, source: Source, mirror: Mi
     assert isomorphic(found, wanted) and len(wanted) > 5
 
 
+def test_the_export_in_turtle(client: FlaskClient) -> None:
+    import rdflib
+    from rdflib.compare import isomorphic
+
+    found = {it: rdflib.Graph().parse(data=client.get(f"/export.{it}").text, format=it) for it in ("ttl", "nt")}
+    assert isomorphic(found["ttl"], found["nt"]) and len(found["nt"]) > 100
+    whole = rdflib.Graph().parse(data=client.get("/export.ttl?scheme=1").text, format="ttl")
+    assert isomorphic(whole, found["nt"]), "all of it is of one scheme"
+
+
 @pytest.mark.parametrize(
     ("accept", "media"),
     [

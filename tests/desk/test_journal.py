@@ -14,6 +14,7 @@ from typing import Any
 import pytest
 from thesaurus_desk.journal import Draft, Journal, Step, journal_of
 from thesaurus_desk.journal.checking import check
+from thesaurus_desk.journal.history import Filter
 from thesaurus_desk.journal.tables import now
 from thesaurus_desk.mirror import read_mirror
 from thesaurus_desk.mirror.changes import apply
@@ -34,11 +35,12 @@ def test_history(desk: Desk) -> None:
     find = desk.history.recent
     assert [it.id for it in find()] == [3, 2, 1]
     assert [it.id for it in find(number=5)] == [3, 2, 1] and [it.id for it in find(number=11)] == [2]
-    assert [it.id for it in find(user="ben")] == [3, 2] and find(user="cy") == []
+    assert [it.id for it in find(which=Filter(user="ben"))] == [3, 2] and find(which=Filter(user="cy")) == []
     assert [it.id for it in find(before=3, most=1)] == [2]
     assert [it.id for it in find(states=("refused",))] == [refused.plan]
-    assert [it.id for it in find(since=start)] == [3, 2, 1] and find(until=start) == []
-    assert [it.id for it in find(number=5, user="anna", since=start, states=("done",))] == [first.plan]
+    assert [it.id for it in find(which=Filter(since=start))] == [3, 2, 1] and find(which=Filter(until=start)) == []
+    assert [it.id for it in find(which=Filter(requests=("link",)))] == [2]
+    assert [it.id for it in find(number=5, states=("done",), which=Filter(user="anna", since=start))] == [first.plan]
     assert desk.history.users() == ["anna", "ben"]
     assert [it.id for it in desk.journal.since(5, 1)] == [2]
 
@@ -231,7 +233,7 @@ def test_journal_is_for_its_owner(desk: Desk) -> None:
 
 def test_one_desk_at_a_time(desk: Desk, program: str) -> None:
     with pytest.raises(ToolError, match="another desk has this journal open"):
-        Desk(desk.db, program)
+        Desk(desk.db, program).start()
     assert desk.perform("anna", "note", [note(5, "Bowed.")]).is_done
 
 
@@ -308,10 +310,10 @@ def test_journal_survives_a_kill_of_its_writer(tmp_path: Path) -> None:
     if child := os.fork():
         os.waitpid(child, 0)
     else:
-        journal = Journal(path)
+        journal = Journal(path).open()
         journal.begin(Draft("anna", "note", [Step(note(5, "Bowed."))]))
         os._exit(0)
-    with closing(Journal(path)) as journal:
+    with closing(Journal(path).open()) as journal:
         assert [it.user for it in journal.open_plans()] == ["anna"]
 
 

@@ -92,16 +92,21 @@ def test_killed_between_two_requests(
     assert check(store) == []
 
 
-def test_killed_in_an_import(store: Path, program: str, open_desk: Callable[[Path], Desk]) -> None:
+def do_nothing(*words: object, **named: object) -> None:
+    """What a killed desk does at the end of a plan."""
+
+
+def test_killed_in_an_import(
+    store: Path, program: str, open_desk: Callable[[Path], Desk], monkeypatch: pytest.MonkeyPatch
+) -> None:
     """Only its own postings are known as the import's, also if it is the first that a journal has."""
     before = b'{"do":"post","key":"old","record":"Old","concept":5}\n'
     subprocess.run([program, "--db", str(store), "script"], input=before, stdout=subprocess.DEVNULL, check=True)
     desk = open_desk(store)
     rows = b"key,record,concept\n" + b"".join(b"k%d,Record %d,5\n" % (it, it) for it in range(3))
-    finish = desk.journal.finish
-    desk.journal.finish = lambda *_, **__: None  # type: ignore[assignment]
-    desk.bring_in("anna", rows, "rows.csv")
-    desk.journal.finish = finish  # type: ignore[assignment]
+    with monkeypatch.context() as patch:
+        patch.setattr(desk.journal, "finish", do_nothing)
+        desk.bring_in("anna", rows, "rows.csv")
     desk.program.stop()
     desk.journal.close()
     again = open_desk(store)

@@ -46,6 +46,8 @@ PAGES = (
         "/c/31",
         "/c/32",
         "/c/34",
+        "/c/9999",
+        "/c/31/merge?other_number=5",
         "/c/5/move",
         "/c/5/merge",
         "/c/5/split",

@@ -28,6 +28,9 @@ class Proxy(socketserver.ThreadingTCPServer):
     def __init__(self, program: Program) -> None:
         super().__init__((HOST, 0), Passing)
         self.program, self.posts, self.drops, self.how = program, 0, 0, "answer"
+
+    def start(self) -> None:
+        """Begins to serve."""
         threading.Thread(target=self.serve_forever, args=(0.01,), daemon=True).start()
 
 
@@ -62,6 +65,7 @@ class Passing(socketserver.StreamRequestHandler):
 def proxy(desk: Desk, monkeypatch: pytest.MonkeyPatch) -> Iterator[Proxy]:
     """A proxy between the desk and the program."""
     between = Proxy(desk.program)
+    between.start()
 
     def connect(timeout: float) -> http.client.HTTPConnection:
         return http.client.HTTPConnection(HOST, between.server_address[1], timeout=timeout)
@@ -182,7 +186,7 @@ def test_program_dies_between_requests(desk: Desk) -> None:
 
 def test_two_desks(desk: Desk, program: str) -> None:
     with pytest.raises(ToolError, match="another desk has this journal open"):
-        Desk(desk.db, program)
+        Desk(desk.db, program).start()
 
 
 ROWS = b"key,record,concept\n" + b"".join(b"k%d,Record %d,5\n" % (it, it) for it in range(300))

@@ -163,14 +163,16 @@ def test_foreseen_merges(room: Path, open_desk: Callable[[Path], Desk]) -> None:
         merge = foresee_merge(desk.mirror, source, target)
         before = desk.mirror.view(target)
         own = {link for it in desk.mirror.resources.values() for link in it.links()}
+        moving = desk.mirror.postings.numbers_at(source)
         outcome = desk.perform("anna", "merge", [request])
         after = desk.mirror.view(target)
         assert outcome.is_done == (merge.broken is None)
         if not outcome.is_done or not before or not after:
             continue
         merges += 1
-        assert outcome.steps[0].answer == {"moved": merge.postings}
-        assert after.postings == before.postings + merge.postings
+        assert outcome.steps[0].answer == {"moved": len(moving)}
+        assert merge.records == len({desk.mirror.postings.all[it - 1].record for it in moving})
+        assert after.postings == before.postings + len(moving)
         labels = {
             (kind, *term) for kind in ("alt", "hidden") for term in set(after.terms(kind)) - set(before.terms(kind))
         }

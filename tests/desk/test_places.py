@@ -1,6 +1,8 @@
 """New concepts, moves, merges and splits: what each form does, and what is refused in it."""
 from __future__ import annotations
 
+import re
+
 import pytest
 from asking import view
 from reader import Form, Page, Reader
@@ -125,6 +127,13 @@ def test_a_concept_is_moved(reader: Reader, desk: Desk) -> None:
     assert view(desk, VIOLINS).typed[0] == ("broaderGeneric", PLUCKED) and view(desk, VIOLINS).broader == (PLUCKED,)
 
 
+def test_a_move_counts_what_moves_with_it(reader: Reader) -> None:
+    """Those on all levels below: one is below the violins."""
+    assert "7 concepts below it move with it." in reader.get(f"/c/{BOWED}/move").text
+    assert "1 concept below it moves with it." in reader.get(f"/c/{VIOLINS}/move").text
+    assert "below it move" not in reader.get(f"/c/{HARPS}/move").text
+
+
 def test_a_concept_gets_one_more_place(reader: Reader, desk: Desk) -> None:
     move(reader, VIOLINS, other="Plucked instruments", **{"from": "", "kind": "broaderPartitive"})
     assert view(desk, VIOLINS).broader == (BOWED, PLUCKED)
@@ -169,6 +178,20 @@ def test_a_move_of_what_someone_moved_asks_again(reader: Reader, desk: Desk) -> 
     assert view(desk, VIOLINS).broader == (STRINGS, PLUCKED)
 
 
+def test_a_move_from_a_place_that_is_gone_asks_from_where(reader: Reader, desk: Desk) -> None:
+    """Otherwise it would be one more place."""
+    mine = reader.get(f"/c/{VIOLINS}/move").form("move")
+    move(reader, VIOLINS, other="Plucked instruments")
+    page = reader.send(mine, other="String instruments")
+    assert page.status == 409 and "no longer this broader one" in page.text
+    again = page.form("move")
+    assert again.value("from") is None and again.value("other") == "String instruments"
+    assert page.html.count('type="radio" name="from" required') == 2
+    page = reader.send(again)
+    assert page.status == 409 and "Choose from where it moves." in page.text
+    assert view(desk, VIOLINS).broader == (PLUCKED,)
+
+
 # --- merge ---
 
 
@@ -193,6 +216,22 @@ def test_a_merge_shows_what_will_happen_and_does_it(reader: Reader, desk: Desk) 
     assert it.scope and view(desk, FIDDLES).replaced == VIOLINS
     dead = reader.get(f"/c/{FIDDLES}")
     assert "This concept was merged. Use: Violins" in dead.text and f"/c/{VIOLINS}" in dead.links()
+
+
+def test_a_merge_shows_what_becomes_of_the_terms_of_each_language(reader: Reader, desk: Desk) -> None:
+    labels = [{"do": "addLabel", "owner": FIDDLES, "kind": "pref", "tag": "nl", "text": "Vedels"}]
+    assert desk.perform("anna", "add", labels).is_done
+    page = compare(reader, FIDDLES, "Violins")
+    plan = page.form("merge").text
+    assert (
+        "Nederlands nl “Vedels” (nl) becomes an alternative term Violins has no preferred term in Nederlands." in plan
+    )
+    assert "français fr “Vielles” (fr) becomes an alternative term" in plan
+    assert plan.count("has no preferred term") == 1
+    assert plan.index("English") < min(map(plan.index, ("Deutsch", "français", "Nederlands")))
+    page = reader.send(page.form("merge"), sure="1")
+    page = reader.send(page.form("prefer", text="Vedels"))
+    assert page.status == 200 and ("nl", "Vedels") in view(desk, VIOLINS).pref
 
 
 @pytest.mark.parametrize(
@@ -255,6 +294,19 @@ def test_a_split_by_a_filter(reader: Reader, desk: Desk) -> None:
     page = reader.send(page.form("split"), text="Early ones", place="beside", related="1")
     it = view(desk, number_of(desk, "Early ones"))
     assert it.postings == 10 and it.broader == (BOWED,) and it.related == (VIOLINS,)
+
+
+@pytest.mark.parametrize("path", ["split", "records"])
+def test_a_list_that_is_looked_at_has_the_focus(reader: Reader, desk: Desk, path: str) -> None:
+    """Also by the key Enter in its filter: what follows is ticked without going through the page again."""
+    post_many(desk, 3)
+    answer = reader.client.get(f"/c/{VIOLINS}/{path}").text
+    assert re.findall(r"<(\w+)[^>]* autofocus", answer) == ["input"] and "<output" in answer
+    form = next(it for it in reader.get(f"/c/{VIOLINS}/{path}").forms if "kept" in it.names)
+    for sent in ({"filter": "violin"}, {"tick": "page"}, {"go": "0"}, {"look": "1"}):
+        fields = {name: value for name, value in form.fields if name not in ("filter", "do")}
+        answer = reader.client.post(f"/c/{VIOLINS}/{path}", data={**fields, **sent}).text
+        assert re.findall(r"<(\w+)[^>]* autofocus", answer) == ["output"], sent
 
 
 def test_a_split_that_is_refused_keeps_its_ticks(reader: Reader, desk: Desk) -> None:

@@ -90,6 +90,47 @@ def test_declined_with_a_word(site: Site, rita: Client) -> None:
     assert "declined" in text_of(rita.get(f"/proposals/{made}"))
 
 
+def test_an_editor_changes_the_text(site: Site, rita: Client) -> None:
+    """The concept gets it as it was accepted, and the proposal still says what was proposed."""
+    violins = number(site, "Violins")
+    made = propose(rita, concept=str(violins), kind="alt", text="Volk violins")
+    ben = site.client("ben")
+    assert 'name="text" value="Volk violins"' in ben.get(f"/proposals/{made}").text
+    sent = {"form": "accept", "text": " Folk  violins "}
+    assert ben.post(f"/proposals/{made}/accept", sent).status_code == 303
+    view = site.desk.mirror.view(violins)
+    assert view and ("en", "Folk violins") in view.alt and ("en", "Volk violins") not in view.alt
+    page = text_of(rita.get(f"/proposals/{made}"))
+    assert "Folk violins" in page and "Proposed was “Volk violins”." in page
+    below = propose(rita, concept=str(violins), kind="concept", text="Hardanger fiddle")
+    ben.post(f"/proposals/{below}/accept", {"form": "accept", "text": "Hardanger fiddles"})
+    made_one = site.desk.mirror.view(number(site, "Hardanger fiddles"))
+    assert made_one and made_one.broader == (violins,)
+
+
+def test_a_decision_has_the_name_of_who_decided(site: Site, rita: Client) -> None:
+    """In the list, too, where its author looks."""
+    made = propose(rita, concept=str(number(site, "Harps")), kind="words")
+    site.client("ben").post(f"/proposals/{made}/decline", {"form": "decline", "word": "We have it."})
+    for path in (f"/proposals/{made}", "/proposals?state=declined"):
+        page = " ".join(text_of(rita.get(path)).split())
+        assert re.search(r"declined [-0-9: ]+UTC ben: We have it\.", page), path
+    assert re.search(r"rita</span></p>", rita.get(f"/proposals/{made}").text), "she hasn't declined it"
+
+
+@pytest.mark.parametrize(
+    ("kind", "field"), [("words", "text"), ("broader", "text"), ("alt", "other"), ("words", "other")]
+)
+def test_what_a_proposal_has_no_use_for_is_kept(site: Site, rita: Client, kind: str, field: str) -> None:
+    sent = {"text": "Gigues", "other": "Drums"} if kind not in ("words", "alt") else {"text": "", "other": ""}
+    sent = {**sent, **({"text": "Gigues"} if kind == "alt" else {}), field: "Drums"}
+    asked = {"form": "propose", "concept": str(number(site, "Harps")), "kind": kind, "reason": "r", "tag": "en", **sent}
+    answer = rita.post("/propose", asked)
+    assert answer.status_code == 409 and f'id="propose-{field}-why"' in answer.text
+    assert f'name="{field}"' in answer.text and 'value="Drums"' in answer.text
+    assert site.desk.proposals.count_open() == 0
+
+
 def test_a_proposal_that_is_refused_stays_open(site: Site, rita: Client) -> None:
     made = propose(rita, concept=str(number(site, "Harps")), kind="pref", text="Violins")
     answer = site.client("ben").post(f"/proposals/{made}/accept", {"form": "accept"})
@@ -120,6 +161,14 @@ def test_incomplete_proposals(site: Site, rita: Client, values: dict[str, str], 
     assert answer.status_code == status
     if status == 409:
         assert 'role="alert"' in answer.text
+
+
+def test_a_colon_in_french_has_a_space_before_it(site: Site, rita: Client) -> None:
+    made = propose(rita, concept=str(number(site, "Harps")), kind="words")
+    rita.http.set_cookie("localhost", "pages", "fr")
+    for path in (f"/proposals/{made}", "/proposals", "/propose?concept=5", "/changes?concept=5", "/tree"):
+        page = rita.get(path).text.split("<main")[1].split("<footer")[0]
+        assert re.search(r" : (<a|\w)", page) and not re.search(r"\w(</a>)?: ", page), path
 
 
 def test_comments(site: Site, rita: Client) -> None:

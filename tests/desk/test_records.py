@@ -59,6 +59,28 @@ def test_a_record_is_withdrawn_at_a_concept(reader: Reader, desk: Desk) -> None:
     assert page.status == 409 and "has been withdrawn" in page.alerts
 
 
+def test_a_record_that_is_listed_twice_is_counted_once(reader: Reader, desk: Desk) -> None:
+    post_many(desk, 3)
+    posts = [{"do": "post", "key": f"f-{n}", "record": f"Violin {n:04}", "concept": FIDDLES} for n in (1, 1, 7)]
+    for n, it in enumerate(posts):
+        assert desk.perform("anna", "post", [{**it, "key": f"f-{n}"}]).is_done
+    page = reader.get(f"/c/{FIDDLES}")
+    assert "2 records" in page.text and "1 record is listed more than once." in page.text
+    page = reader.get(f"/c/{FIDDLES}/merge?other_number={VIOLINS}")
+    assert "2 records move to Violins. 1 of them already has Violins" in page.text
+    page = reader.send(page.form("merge"), sure="1")
+    assert "Fiddles: merged into Violins, and 2 records moved" in page.text
+    assert "4 records" in page.text and "1 record is listed more than once." in page.text
+    assert [line.count("again") for line in page.html.split('<ul class="postings">')[1].split("<li>")[1:7]] == [
+        *(0, 0, 0),
+        *(1, 1, 0),
+    ]
+    assert "4 with narrower concepts" in reader.get(f"/c/{BOWED}").text
+    for number in ("4", "5"):
+        page = reader.send(page.form("withdraw", posting=number))
+    assert "4 records" in page.text and "more than once" not in page.text and ">again<" not in page.html
+
+
 def test_records_in_pages_with_those_below(reader: Reader, desk: Desk) -> None:
     post_many(desk, 250)
     page = reader.get(f"/c/{VIOLINS}?page=2")

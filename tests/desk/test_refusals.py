@@ -55,6 +55,9 @@ class PlainLinks:
     def new(self, reference: str) -> Markup:
         return Markup()
 
+    def returned(self, number: int) -> int | None:
+        return None
+
 
 @pytest.fixture(scope="module")
 def mirror() -> Mirror:
@@ -189,8 +192,10 @@ def test_sentences_name_what_was_done(mirror: Mirror) -> None:
         said({"do": "merge", "source": 4, "target": 3}, {"moved": 1})
         == "Fiddles: merged into Violins, and 1 record moved"
     )
-    split = {"do": "split", "source": 3, "tag": "en", "text": "Nordic", "postings": [1]}
+    split: dict[str, Any] = {"do": "split", "source": 3, "tag": "en", "text": "Nordic", "postings": [1, 2]}
     assert said(split, {"ok": 77, "moved": 2}).endswith("and 2 records given to the new concept “Nordic” (en)")
+    twice = {**split, "postings": [1, 1]}
+    assert said(twice, {"ok": 77, "moved": 2}).endswith("and 1 record given to the new concept “Nordic” (en)")
     brought = {"do": "import", "name": "x.csv", "sha256": "0", "rows": 4}
     came = {"outcomes": {"new": 1, "KeyReused": 1, "BadKey": 2}, "first": 7, "last": 7}
     assert said(brought, came) == "posting file x.csv: 1 indexed, 3 refused"

@@ -13,7 +13,7 @@ from thesaurus_desk.entry.roles import Role, role_named
 # Routes for programs that take a POST and change nothing: the only ones that need no token.
 READING_POSTS = {"interfaces.reconcile"}
 # Answers for other programs may be read by pages of other sites, and the preview may be shown in their frames.
-FOR_PROGRAMS = ("/id/", "/rest/", "/reconcile", "/changed", "/export.nt")
+FOR_PROGRAMS = ("/id/", "/rest/", "/reconcile", "/changed", "/export.")
 # Forms that a visitor may send.
 OF_VISITORS = {"coming_in.log_in", "coming_in.log_out"}
 # What each role may send, and no lower one. A new form is written down here.
@@ -29,7 +29,15 @@ ROLES = {
     " new.new_collection new.new_concept new.new_scheme proposals.accept proposals.decline",
     "head": "bring_in.perform_skos bring_in.preview_skos edit.deprecate merge.merge people.change_users split.split",
 }
-VALUES = {"number": "5", "posting": "1", "kind": "orphans", "plan": "1", "entry": "1", "filename": "desk.css"}
+VALUES = {
+    "number": "5",
+    "posting": "1",
+    "kind": "orphans",
+    "plan": "1",
+    "entry": "1",
+    "filename": "desk.css",
+    "ending": "ttl",
+}
 
 
 def path_of(rule: Any) -> str:
@@ -166,6 +174,14 @@ def test_pages_below_their_role(site: Site) -> None:
         assert is_asked_in or answer.status_code == 401, (path, answer.status)
         for name in users_below(lowest):
             assert site.client(name).get(path).status_code == 403, (path, name)
+
+
+def test_a_browser_that_follows_the_address_of_a_concept_is_asked_in(site: Site) -> None:
+    for accept, status in (("text/html,application/xhtml+xml,*/*;q=0.8", 303), ("text/turtle", 401), ("*/*", 401)):
+        answer = site.client().get("/id/5", Accept=accept)
+        assert answer.status_code == status, accept
+        assert answer.headers.get("Location") == ("/login?next=%2Fid%2F5" if status == 303 else None)
+    assert site.client("rita").get("/id/5", Accept="text/html").headers["Location"] == "/c/5"
 
 
 def test_pages_of_a_public_desk(site: Site, users: Any) -> None:

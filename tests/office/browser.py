@@ -26,6 +26,9 @@ class Page:
     def __init__(self, commands: IO[bytes], answers: IO[bytes]) -> None:
         self.commands, self.answers, self.number = commands, answers, 0
         self.session: dict[str, str] = {}
+
+    def attach(self) -> None:
+        """Opens an empty page in the browser."""
         target = self.call("Target.createTarget", url="about:blank")["targetId"]
         self.session = {"sessionId": self.call("Target.attachToTarget", targetId=target, flatten=True)["sessionId"]}
         self.call("Emulation.setDeviceMetricsOverride", width=1200, height=760, deviceScaleFactor=1, mobile=False)
@@ -117,6 +120,8 @@ def browsing(profile: Path) -> Iterator[Page]:
         os.close(theirs_in)
         os.close(theirs_out)
         try:
-            yield Page(commands, answers)
+            page = Page(commands, answers)
+            page.attach()
+            yield page
         finally:
             browser.terminate()

@@ -4,7 +4,7 @@ from __future__ import annotations
 import json
 import subprocess
 import time
-from collections.abc import Iterator
+from collections.abc import Iterable, Iterator
 from pathlib import Path
 
 import pytest
@@ -12,7 +12,7 @@ from office import tool
 from ports import free_port
 from program import ROOT, Ended, built
 from thesaurus_tools.feeding import Feed
-from thesaurus_tools.ntriples import parse_ntriples
+from thesaurus_tools.ntriples import Node, parse_ntriples
 from thesaurus_tools.triple_store import plain
 from virtuoso import PASSWORD, Virtuoso
 
@@ -141,14 +141,19 @@ def test_a_whole_graph_is_put(virtuoso: Virtuoso, db: Path) -> None:
     assert is_equal(virtuoso, path)
 
 
-def test_many_changes(virtuoso: Virtuoso, db: Path) -> None:
+def test_many_changes(virtuoso: Virtuoso, db: Path, monkeypatch: pytest.MonkeyPatch) -> None:
     """Each resource that has changed is compared, however many there are."""
     feed(virtuoso, export(db))
     perform(db, "".join(json.dumps({**HOSTILE, "text": f"Concept {it}"}) + "\n" for it in range(300)).encode())
     asked: list[list[str]] = []
     store = virtuoso.store()
     about = store.about
-    store.about = lambda subjects: asked.append(list(subjects)) or about(subjects)  # type: ignore
+
+    def noted(subjects: Iterable[str]) -> set[tuple[str, str, Node]]:
+        asked.append([*subjects])
+        return about(asked[-1])
+
+    monkeypatch.setattr(store, "about", noted)
     fed = Feed(store, db.parent / "fed", print).feed(export(db).read_bytes())
     assert not fed.is_whole and fed.removed == 0 and is_equal(virtuoso, db.with_suffix(".nt"))
     assert len({it for them in asked for it in them}) == 301 and max(map(len, asked)) <= 20

@@ -7,7 +7,7 @@ from pathlib import Path
 
 import pytest
 
-from thesaurus_tools.journal import Journal
+from thesaurus_tools.journal import Journal, open_journal
 from thesaurus_tools.named_scripts import parse_script
 
 
@@ -38,19 +38,19 @@ def send_first(journal: Journal) -> None:
 
 def test_a_new_journal_is_in_its_folder(tmp_path: Path, synchronized: list[str]) -> None:
     path = tmp_path / "a.journal"
-    send_first(Journal(path))
+    send_first(open_journal(path))
     assert synchronized == [str(tmp_path), str(path)]
 
 
 def test_a_journal_behind_a_link_is_in_its_folder(tmp_path: Path, synchronized: list[str]) -> None:
     (tmp_path / "other").mkdir()
     (tmp_path / "link").symlink_to("other/a.journal")
-    send_first(Journal(tmp_path / "link"))
+    send_first(open_journal(tmp_path / "link"))
     assert synchronized == [str(tmp_path / "other"), str(tmp_path / "other" / "a.journal")]
 
 
 def test_an_old_journal_is_only_written(tmp_path: Path, synchronized: list[str]) -> None:
     path = tmp_path / "a.journal"
     path.write_text("# 0\n", encoding="ascii")
-    send_first(Journal(path))
+    send_first(open_journal(path))
     assert synchronized == [str(path)]

@@ -43,7 +43,7 @@ def test_a_state_is_read_again(tmp_path: Path) -> None:
     FedState(path).note_all(now)
     largest = 3 * path.stat().st_size
     for _ in range(100):
-        state = FedState(path)
+        state = FedState(path).read()
         assert state.known and set(state.known) == set(now)
         later = [it.replace(b"new", b"<n>") for it in changed(now, chance, 5)]
         later = list(dict.fromkeys(later))
@@ -58,13 +58,13 @@ def test_a_run_that_ends_within_an_update(tmp_path: Path, cut: int) -> None:
     """Then nobody knows what the store holds; what was cut is at the end of the file."""
     path = tmp_path / "fed"
     FedState(path).note_all(OLD)
-    state = FedState(path)
+    state = FedState(path).read()
     state.begin()
-    assert FedState(path).known is None
+    assert FedState(path).read().known is None
     state.note(OLD[1:] + [b"<c> <d> <e> ."], OLD[:1], [b"<c> <d> <e> ."])
     data = path.read_bytes()
     path.write_bytes(data[: len(data) - cut])
-    known = FedState(path).known
+    known = FedState(path).read().known
     assert (known is None) if cut else (known and set(known) == {*OLD[1:], b"<c> <d> <e> ."})
 
 
@@ -72,4 +72,4 @@ def test_a_state_that_was_cut(tmp_path: Path) -> None:
     path = tmp_path / "fed"
     FedState(path).note_all(OLD)
     path.write_bytes(path.read_bytes()[:-1])
-    assert FedState(path).known is None
+    assert FedState(path).read().known is None

@@ -544,7 +544,6 @@ class Serving:
     def __init__(self, path: Path) -> None:
         self.words: list[str | Path] = [built(), "--db", path, "serve", "--port", str(free_port())]
         self.url = f"http://127.0.0.1:{self.words[-1]}"
-        self.start()
 
     def start(self) -> None:
         self.run = subprocess.Popen(self.words, stdout=subprocess.PIPE)
@@ -573,6 +572,7 @@ def served(shared_room: Path) -> Served:
     over(room / "plain.db", "script", lines_of([it for it, _ in pairs]))
     (room / "served.jsonl").write_bytes(lines_of([it for _, it in pairs]))
     server, wrong = Serving(room / "served.db"), {}
+    server.start()
     victim = Victim(room, dice, [room / "served.jsonl", "--http", server.url])
     for number in range(SERVED):
         victim.wait_for_records()

@@ -82,6 +82,15 @@ class Repository:
 
     def __init__(self, room: Path) -> None:
         self.room, self.origin, self.clone = room, room / "origin", room / "clone"
+        self.program, self.tools = room / "program", room / "bin"
+        self.environment = {
+            **os.environ,
+            "PATH": f"{self.tools}:{os.environ['PATH']}",
+            "STAND_IN_PROGRAM": str(self.program),
+        }
+
+    def make(self) -> None:
+        """Writes the repository, clones it, and writes what stands in for the toolchain."""
         for part in PARTS:
             source, to = ROOT / part, self.origin / part
             to.parent.mkdir(parents=True, exist_ok=True)
@@ -95,21 +104,14 @@ class Repository:
         (self.origin / "crates.txt").write_text(CRATES, encoding="utf-8")
         (self.origin / "HANDLES").write_text("Handles allowed: Net.\n", encoding="utf-8")
         (self.origin / ".gitignore").write_text("out/\n__pycache__/\n", encoding="utf-8")
-        git(self.origin.parent, "init", "--quiet", str(self.origin))
+        git(self.room, "init", "--quiet", str(self.origin))
         git(self.origin, "add", "--all")
         git(self.origin, "commit", "--quiet", "--message", "all")
-        git(room, "clone", "--quiet", str(self.origin), str(self.clone))
-        tools = room / "bin"
-        tools.mkdir()
-        (tools / "rt").write_text(STAND_IN.format(python=sys.executable, kit=KIT), encoding="utf-8")
-        (tools / "rt").chmod(0o755)
-        self.program = room / "program"
+        git(self.room, "clone", "--quiet", str(self.origin), str(self.clone))
+        self.tools.mkdir()
+        (self.tools / "rt").write_text(STAND_IN.format(python=sys.executable, kit=KIT), encoding="utf-8")
+        (self.tools / "rt").chmod(0o755)
         self.use(GOOD)
-        self.environment = {
-            **os.environ,
-            "PATH": f"{tools}:{os.environ['PATH']}",
-            "STAND_IN_PROGRAM": str(self.program),
-        }
 
     def use(self, data: bytes) -> None:
         """Has the stand-in build another program."""
@@ -131,7 +133,9 @@ class Repository:
 
 @pytest.fixture(scope="module")
 def made(tmp_path_factory: pytest.TempPathFactory) -> Repository:
-    return Repository(tmp_path_factory.mktemp("release").resolve())
+    made = Repository(tmp_path_factory.mktemp("release").resolve())
+    made.make()
+    return made
 
 
 @pytest.fixture

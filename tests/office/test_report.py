@@ -20,7 +20,8 @@ from ports import free_port
 from program import Ended, built, lines_of, over, values_of
 from serving import serving
 from thesaurus_tools.opening import open_file
-from thesaurus_tools.served_store import ServedStore
+from thesaurus_tools.served_store import read_served
+from thesaurus_tools.server import Server
 from thesaurus_tools.store import Store
 
 BEFORE: list[Request] = [
@@ -499,4 +500,4 @@ def test_objects_over_http_are_those_of_the_plain_program(room: Path) -> None:
     requests, plain = generated(1, 200)
     over(room / "served.db", "script", lines_of(requests))
     with serving(room / "served.db", 1_000_000) as served:
-        assert objects(ServedStore(f"http://127.0.0.1:{served.port}")) == plain_objects(plain, True)
+        assert objects(read_served(Server(f"http://127.0.0.1:{served.port}"))) == plain_objects(plain, True)

@@ -54,10 +54,13 @@ class Office:
         self.numbers: dict[str, int] = {}
         self.task = ""
         self.checked: dict[str, list[str | None]] = {}
-        launcher = room / "thesaurus"
+
+    def equip(self) -> None:
+        """Puts the program and the tools where the documents' commands find them."""
+        launcher = self.room / "thesaurus"
         launcher.write_text(f'#!/bin/sh\nexec "{built()}" "$@"\n', encoding="utf-8")
         launcher.chmod(0o755)
-        (room / "tools").symlink_to(ROOT / "tools")
+        (self.room / "tools").symlink_to(ROOT / "tools")
 
     def command(self, part: str, page: Path) -> str:
         """Returns the first command of a page that has a part."""
@@ -758,6 +761,7 @@ def is_installed(tool: str) -> bool:
 def week(shared_room: Path) -> Office:
     """The office after its week."""
     office = Office(shared_room)
+    office.equip()
     for task in TASKS:
         office.task = task.name
         office.checked[task.name] = []

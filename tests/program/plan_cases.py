@@ -395,6 +395,7 @@ ACCEPTED: list[tuple[str, list[Request], list[Answer]]] = [
     ),
     ("a concept with its labels", [concept("C"), label("$1", "D"), label("$1", "E", "hidden")], [ok(14), DONE, DONE]),
     ("a label that is dropped again", [concept("C"), label("$1", "D"), drop("$1", "D")], [ok(14), DONE, DONE]),
+    ("a label of before that is dropped", [drop(2, "Kitties"), concept("C")], [DONE, ok(14)]),
     ("a term that is replaced", [concept("C"), relabel("$1", "D", True), concept("C")], [ok(14), DONE, ok(15)]),
     ("two concepts with a link", [concept("C"), concept("D"), link("broader", "$1", "$2")], [ok(14), ok(15), DONE]),
     (

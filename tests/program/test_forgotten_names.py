@@ -2,7 +2,7 @@
 from __future__ import annotations
 
 import tempfile
-from collections.abc import Iterator
+from collections.abc import Callable, Iterator
 from typing import Any
 
 import pytest
@@ -38,5 +38,5 @@ def peak(requests: Iterator[dict[str, Any]]) -> int:
 
 
 @pytest.mark.parametrize("requests", [relabelled, dropped])
-def test_labels_that_are_gone_take_no_memory(requests) -> None:
+def test_labels_that_are_gone_take_no_memory(requests: Callable[[int], Iterator[dict[str, Any]]]) -> None:
     assert peak(requests(MANY)) < peak(requests(FEW)) + MOST

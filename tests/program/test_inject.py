@@ -2,7 +2,8 @@
 opening and renaming of the files in a script, plans, an import, a migration and a service fails in turn, by strace,
 with EIO and with ENOSPC. What was answered Store isn't in the store, or the last line on standard error says that it
 may be; what was accepted is there; and after the failure requests are accepted again, without a new start. A program
-that makes a store fails, or is killed, at each of these calls: the next run makes the store, or has it."""
+that makes a store fails, or is killed, at each of these calls: the next run makes the store, or has it. A migration and
+a load that fail say why."""
 from __future__ import annotations
 
 import contextlib
@@ -23,7 +24,7 @@ from plain import Plain
 from plain_plans import perform_any
 from plain_store import LIMITS, read_rows, rows_of
 from ports import free_port
-from program import Ended, Word, built, lines_of, over, values_of
+from program import Ended, Word, built, fault, lines_of, over, values_of
 
 pytestmark = pytest.mark.needs("strace")
 CALLS = ("fdatasync", "fsync", "pwrite64", "ftruncate", "openat", "rename", "unlink")
@@ -208,7 +209,7 @@ class Import(Work):
 
 
 class Migration(Work):
-    """A migration leaves one of the two versions, and can be run again."""
+    """A migration leaves one of the two versions, and can be run again; its fault has the reason of the failure."""
 
     def prepare(self, path: Path) -> Plain:
         plain = started(path)
@@ -220,6 +221,11 @@ class Migration(Work):
         return ran(path, ["migrate"], b"", *how)
 
     def wrong(self, path: Path, plain: Plain, it: Ended) -> str | None:
+        reason = "no room" if "ENOSPC" in path.name else "can't be written"
+        if "openat" in path.name and path.stem.endswith("-1"):
+            reason = "can't be read"  # (The file is looked at first.)
+        if it.status and it != fault(path, "Store", reason):
+            return f"another reason: {it}"
         again = over(path, "migrate") if it.status else it
         return wrong_rows(path, [plain]) if again == (0, b"version 2\n", b"") else f"migrated again: {again}"
 
@@ -347,3 +353,34 @@ def test_calls_fail(failures: list[Failure]) -> None:
 def test_store_is_as_its_answers_say(call: str, kind: str, failures: list[Failure]) -> None:
     """(Not each work makes each call.)"""
     assert [it for it in failures if (it.call, it.kind) == (call, kind) and it.why] == []
+
+
+# --- the reason why a load fails ---
+
+
+def checked(path: Path, *how: str) -> Ended:
+    """Checks a store below strace, which sees the reads of its file."""
+    words: list[Word] = ["strace", "-f", "-qq", "-o", f"{path}.trace", "-P", path, "-e", "trace=pread64", *how]
+    ended = subprocess.run([*words, built(), "--db", path, "check"], capture_output=True, check=False)
+    return Ended(ended.returncode, ended.stdout, ended.stderr)
+
+
+@pytest.fixture(scope="module")
+def large(shared_room: Path) -> tuple[Path, int]:
+    """A store whose file has more pages than the program keeps in memory, and the number of reads of a check: the last
+    one is the load's, as the pages of the store are the first."""
+    path = shared_room / "large.db"
+    started(path)
+    with contextlib.closing(sqlite3.connect(path)) as base:
+        base.executescript("PRAGMA journal_mode = DELETE; PRAGMA page_size = 65536; VACUUM; CREATE TABLE f (b)")
+        base.executemany("INSERT INTO f VALUES (zeroblob(?))", [(10_000_000,)] * 30)
+        base.commit()
+    assert checked(path).status == 0
+    return path, trace_of(path).count("pread64(")
+
+
+@pytest.mark.parametrize(("how", "why"), [("error=EIO", "can't be read"), ("retval=65536", "damaged")])
+def test_load_that_fails_says_why(how: str, why: str, large: tuple[Path, int]) -> None:
+    """A read that answers without reading leaves other bytes than the page has."""
+    path, reads = large
+    assert checked(path, "-e", f"inject=pread64:{how}:when={reads}") == fault(path, "Store", why)

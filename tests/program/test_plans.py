@@ -17,16 +17,23 @@ from plain_store import LIMITS, rows_of
 from plan_cases import (
     ACCEPTED,
     MOST,
+    NOTHING_MADE,
     REFUSALS,
+    RESOURCE_MADE,
     START,
     WRITTEN,
     Case,
     accepted,
     bad_references,
     concept,
+    deprecate,
     faults,
+    merge,
+    placed,
     post,
     refusals,
+    relabel,
+    split,
 )
 from plan_cases import LIMITS as LIMITED
 from program import Ended, built, lines_of, over, run, text_of, values_of
@@ -162,6 +169,43 @@ def test_plan_is_its_requests_one_after_another(place: int) -> None:
     texts = ("do", "tag", "text", "key", "record", "iri", "kind")
     alone = [{name: it if name in texts else number(it) for name, it in request.items()} for request in plan]
     assert answers_after_start(plans(script(*map(text_of, alone)))) == answers
+
+
+@pytest.mark.parametrize("place", range(len(ACCEPTED)), ids=[name for name, *_ in ACCEPTED])
+def test_refused_plan_is_taken_back(place: int, tmp_path: Path) -> None:
+    """Behind a plan whose last request alone is refused, views are as before it, and the others are done as if new."""
+    _, plan, answers = ACCEPTED[place]
+    refused = [*plan[: MOST - 1], deprecate(1)]
+    views = list(STATES[-1].queries())
+    given = script(text_of(refused), *map(text_of, views), text_of(plan))
+    wanted = [{"at": len(refused), "no": "WrongKind"}, *map(STATES[-1].show, views), {"done": answers}]
+    assert answers_after_start(plans(given)) == wanted
+    assert answers_after_start(over(tmp_path / "script.db", "script", given, after=["--plans"])) == wanted
+
+
+# Each kind of request, and those that destroy much.
+KINDS: dict[str, Request] = {
+    **NOTHING_MADE,
+    **RESOURCE_MADE,
+    "post": post("k9", 9),
+    "relabel that keeps the term": relabel(2, "House cats", True),
+    "deprecate with a link": deprecate(5),
+    "merge with a posting, labels and links": merge(2, 3),
+    "merge of related concepts": merge(3, 5),
+    "split with a posting": split(2, "Lions", [1]),
+}
+
+
+@pytest.mark.parametrize("name", KINDS)
+def test_each_request_is_taken_back_at_each_place(name: str) -> None:
+    """At the first, the middle and the last place of a refused plan; the views are as before, and then it is done."""
+    request = KINDS[name]
+    views = list(STATES[-1].queries())
+    refused = [[*plan, deprecate(1)] for _, _, plan in placed(request)]
+    given = script(*(text_of(it) for plan in refused for it in (plan, *views)), text_of([request]))
+    shown = [{"at": len(refused[0]), "no": "WrongKind"}, *map(STATES[-1].show, views)]
+    done = {"done": [STATES[-1].perform(request)[1]]}
+    assert answers_after_start(plans(given)) == [*shown * len(refused), done]
 
 
 @pytest.mark.parametrize("name", [*REFUSALS, *(it for it, _ in SINGLE)])

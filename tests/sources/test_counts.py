@@ -55,6 +55,14 @@ def test_each_function_of_a_way_calls_the_next_one() -> None:
         assert one[-1] == other[-1] or re.search(rf"\b{other[-1]}(::<[^()]*>)?\(", sources[one[0], one[1]]), one
 
 
+def test_a_way_leads_through_what_is_named() -> None:
+    status, lines = counts("--way", "thes_cli::main", "thes_cli::work_in_memory", "thes_requests::script")
+    names = [it.split("::")[-1] for it in lines]
+    assert not status and "work_in_memory" in names and "work_in_database" not in names
+    assert names[2] == "main" and names[-1] == "script" and lines[0].startswith(f"{len(lines) - 3} calls ")
+    assert "work_in_database" in [it.split("::")[-1] for it in counts("--way")[1]]
+
+
 def test_no_way_is_said() -> None:
     assert counts("--way", "Core::decide", "thes_cli::main") == (
         1,

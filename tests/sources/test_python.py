@@ -14,9 +14,6 @@ FOLDERS = ("tools", "bench", "desk", "tests")
 # What mypy reads at a time, since scripts of two folders may have one name.
 CHECKED = ("tools", "bench", "desk", *(f"tests/{it.name}" for it in sorted((ROOT / "tests").iterdir()) if it.is_dir()))
 
-# In these each function has its types.
-TYPED = ("tools", "tests/builds", "tests/office", "tests/reference", "tests/sources")
-
 
 @cache
 def files_of(folder: str) -> list[str]:
@@ -54,6 +51,6 @@ def test_flake8_finds_nothing(folder: str) -> None:
 @pytest.mark.needs("mypy")
 @pytest.mark.parametrize("folder", CHECKED)
 def test_types_fit(folder: str) -> None:
-    strict = ["--disallow-untyped-defs", "--check-untyped-defs"] if folder in TYPED else []
+    """Each function has its types, too (pyproject.toml)."""
     if files_of(folder):
-        assert not run("mypy", *strict, *files_of(folder))
+        assert not run("mypy", *files_of(folder))

@@ -45,6 +45,11 @@ def language(text: str) -> str:
     return tag
 
 
+def names(text: str) -> list[str]:
+    """Returns the names in an argument as one,two."""
+    return [it for it in text.split(",") if it]
+
+
 def languages(text: str) -> list[str]:
     """Returns the language tags in an argument as en,de, each once."""
     try:

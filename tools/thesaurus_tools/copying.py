@@ -10,7 +10,7 @@ from pathlib import Path
 from typing import Any
 
 from thesaurus_tools.command_line import ToolError
-from thesaurus_tools.holding import Hold, files_of
+from thesaurus_tools.holding import Hold, files_of, take_hold
 from thesaurus_tools.server import Server
 from thesaurus_tools.table_store import TableStore
 
@@ -74,7 +74,7 @@ def copy_served(server: Server, room: Path, patience: float = PATIENCE) -> Path 
     if store is None:
         return None
     try:
-        hold = Hold(port, patience)
+        hold = take_hold(port, patience)
         is_right = hold.has_open(store)
         if is_right:
             copy_store(store, room, hold)
@@ -90,4 +90,4 @@ def open_copy_of_served(server: Server) -> Iterator[TableStore | None]:
     with contextlib.ExitStack() as stack:
         copy = copy_served(server, Path(stack.enter_context(tempfile.TemporaryDirectory())))
         tables: Any = copy and stack.enter_context(contextlib.closing(sqlite3.connect(copy)))
-        yield TableStore(server.name, tables) if copy else None
+        yield TableStore(server.name, tables).read_base() if copy else None

@@ -22,11 +22,15 @@ class FedState:
         self.known: Lines | None = None
         # The bytes of all triples, and those of the differences.
         self.size, self.added = 0, 0
-        if path.exists():
-            self.read(path.read_bytes())
 
-    def read(self, data: bytes) -> None:
-        """Reads the file. It doesn't say what the store holds unless its last difference is whole."""
+    def read(self) -> FedState:
+        """Reads the file, if there is one, and returns itself."""
+        if self.path.exists():
+            self.take(self.path.read_bytes())
+        return self
+
+    def take(self, data: bytes) -> None:
+        """Takes what the file has. It doesn't say what the store holds unless its last difference is whole."""
         lines = data.splitlines()
         first = next((at for at, it in enumerate(lines) if it[:1] in (GONE, COME, UNDER_WAY)), len(lines))
         if not data.endswith(b"\n") or lines[first:] and lines[-1] != DONE:

@@ -34,7 +34,7 @@ class Feed:
     """Feeds a triple store."""
 
     def __init__(self, target: TripleStore, state: Path, report: Callable[[str], object]):
-        self.target, self.state, self.report = target, FedState(state), report
+        self.target, self.state, self.report = target, FedState(state).read(), report
 
     def feed(self, export: bytes) -> Fed:
         """Makes the triple store equal to an export, in which no line stands twice.

@@ -62,6 +62,14 @@ def find_column(heading: str, lang: str) -> Column:
     return Column(heading, "-")
 
 
+class ColumnsError(ToolError):
+    """What is wrong with the roles that a user gives to headings: all roles, or the names that no heading has."""
+
+    def __init__(self, text: str, *, roles: str = "", names: str = "") -> None:
+        super().__init__(text, USAGE)
+        self.roles, self.names = roles, names
+
+
 def language_of(word: str, heading: str) -> str:
     """Returns the tag of a language that a word names, as `german` or `de`; nothing for another word."""
     is_tag = word in WORDS["languages"] and re.search(rf"(^|[\s(_-]){word}[\s)]*$", heading, re.IGNORECASE)
@@ -78,7 +86,7 @@ def read_choices(text: str) -> dict[str, str]:
         kind, _, tag = role.strip().partition("@")
         if not is_given or not (kind in LABEL_KINDS and TAG.fullmatch(tag.lower()) or kind in ROLES and not tag):
             roles = ", ".join((*(f"{kind}@TAG" for kind in LABEL_KINDS), *ROLES))
-            raise ToolError(f"--columns: {it!r} isn't HEADING=ROLE; roles are {roles}", USAGE)
+            raise ColumnsError(f"--columns: {it!r} isn't HEADING=ROLE; roles are {roles}", roles=roles)
         choices[fold_heading(heading)] = f"{kind}@{tag.lower()}" if tag else kind
     return choices
 
@@ -101,5 +109,5 @@ def find_columns(headings: Iterable[str], lang: str, choices: dict[str, str]) ->
         is_plain = [it.role == "pref" and fold_heading(it.heading) in BY_LABEL for it in columns]
         columns = [it._replace(tag="") if plain else it for it, plain in zip(columns, is_plain)]
     if unused:
-        raise ToolError(f"--columns: no column is called {', '.join(unused)}", USAGE)
+        raise ColumnsError(f"--columns: no column is called {', '.join(unused)}", names=", ".join(unused))
     return columns

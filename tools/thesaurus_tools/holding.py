@@ -25,15 +25,21 @@ class Hold:
 
     It ends with this process at the latest."""
 
-    def __init__(self, port: int, patience: float):
-        self.port, self.since = port, time.monotonic()
-        self.connection = connect(port)
+    def __init__(self, port: int, connection: socket.socket):
+        self.port, self.connection = port, connection
+        # When the program began to wait, and when something was last sent.
+        self.since = self.sent = time.monotonic()
+        # The number by which the system knows the connection.
+        self.inode = "0"
+
+    def begin(self, patience: float) -> None:
+        """Sends the beginning of the request, and waits until the program serves it."""
         self.send(b"GET /totals HTTP/1.0\r\nX-Backup: ")
-        end = self.since + patience
+        end = time.monotonic() + patience
         while not self.is_served():
             if time.monotonic() > end:
                 raise ToolError(
-                    f"the program at port {port} serves others for more than {patience:.0f} seconds; "
+                    f"the program at port {self.port} serves others for more than {patience:.0f} seconds; "
                     "try again, or raise --wait",
                     REFUSED,
                 )
@@ -97,6 +103,13 @@ class Hold:
         if not answer:
             raise ToolError(f"the program at port {self.port} went on before the copy was whole; try again")
         raise ToolError(f"what answers at port {self.port} doesn't serve a thesaurus", REFUSED)
+
+
+def take_hold(port: int, patience: float) -> Hold:
+    """Holds the program at a port. Raises ToolError if it serves others for longer than the patience, in seconds."""
+    hold = Hold(port, connect(port))
+    hold.begin(patience)
+    return hold
 
 
 def connect(port: int) -> socket.socket:

@@ -1,7 +1,6 @@
 """The journal of a script: what was sent of it and what was answered, so that a later run can go on."""
 from __future__ import annotations
 
-import contextlib
 import os
 from collections import defaultdict, deque
 from pathlib import Path
@@ -36,28 +35,13 @@ class Journal:
     so many entries from that one on were done; unless NUMBER is 0, they made the resources from it on; `! ENTRY`: it
     wasn't performed, and may be sent again. All this is on the disk before a request is sent."""
 
-    def __init__(self, path: Path | None):
+    def __init__(self, file: int | None = None):
         # The entries of earlier runs, and how many there are with those of this run.
         self.entries: list[Entry] = []
         self.count, self.resources = 0, 0
         self.records: list[str] = []
-        self.file: int | None = None
-        if path:
-            try:
-                import fcntl  # (Windows has none)
-            except ImportError:
-                raise ToolError(
-                    f"{path}: a journal needs locks, which this system lacks: leave out --journal"
-                ) from None
-            self.file = os.open(path, os.O_RDWR | os.O_CREAT | os.O_CLOEXEC, 0o644)
-            with contextlib.suppress(BlockingIOError):
-                fcntl.flock(self.file, fcntl.LOCK_EX | fcntl.LOCK_NB)
-                self.read(path, self.file)
-                if not os.fstat(self.file).st_size:
-                    # A power cut may take a new file's name, and with it all records.
-                    synchronize(path.resolve().parent)
-                return
-            raise ToolError(f"{path}: another load uses this journal")
+        # Without a file nothing is kept.
+        self.file = file
 
     def read(self, path: Path, file: int) -> None:
         """Reads the records, and cuts off one that a crash left unfinished."""
@@ -132,6 +116,25 @@ class Journal:
                 data = data[os.write(self.file, data) :]
             os.fdatasync(self.file)
         self.records.clear()
+
+
+def open_journal(path: Path) -> Journal:
+    """Opens a journal, which is made if there is none, and reads it. Raises ToolError if another load uses it."""
+    try:
+        import fcntl  # (Windows has none)
+    except ImportError:
+        raise ToolError(f"{path}: a journal needs locks, which this system lacks: leave out --journal") from None
+    file = os.open(path, os.O_RDWR | os.O_CREAT | os.O_CLOEXEC, 0o644)
+    try:
+        fcntl.flock(file, fcntl.LOCK_EX | fcntl.LOCK_NB)
+    except BlockingIOError:
+        raise ToolError(f"{path}: another load uses this journal") from None
+    journal = Journal(file)
+    journal.read(path, file)
+    if not os.fstat(file).st_size:
+        # A power cut may take a new file's name, and with it all records.
+        synchronize(path.resolve().parent)
+    return journal
 
 
 def match(

@@ -36,7 +36,7 @@ def add_store_arguments(parser: argparse.ArgumentParser, default: Any = None) ->
 def open_file(path: Path) -> Iterator[Store]:
     """Opens a store or a copy of one."""
     with open_tables(path) as tables:
-        yield TableStore(path, tables)
+        yield TableStore(path, tables).read_base()
 
 
 @contextlib.contextmanager
@@ -53,8 +53,9 @@ def open_served(url: str) -> Iterator[Store]:
     """Opens the store of a program that serves: a copy where that can be had, which takes far less time; or else by
     asking it for each thing."""
     from thesaurus_tools.copying import open_copy_of_served  # (a tool starts faster without what talks HTTP)
-    from thesaurus_tools.served_store import ServedStore
+    from thesaurus_tools.served_store import read_served
     from thesaurus_tools.server import Server
 
-    with open_copy_of_served(Server(url)) as copy:
-        yield copy or ServedStore(url)
+    server = Server(url)
+    with open_copy_of_served(server) as copy:
+        yield copy or read_served(server)

@@ -110,13 +110,12 @@ class Performer:
 
 
 class Script(Performer):
-    """A run of `thesaurus script` over a store, with plans if the program has them."""
+    """Runs of `thesaurus script` over a store, with plans if the program has them; `open` begins the first."""
 
     def __init__(self, program: str, db: Path | None, base: str | None = None, options: Sequence[str] = ()):
         self.words = [program, *(["--db", str(db)] if db else []), *(["--base", base] if base else []), *options]
         self.db = db
         self.has_plans = True
-        self.open()
 
     def start(self) -> None:
         """Starts the program, and asks it something."""
@@ -127,13 +126,13 @@ class Script(Performer):
         self.stdin, self.stdout, self.lines = self.run.stdin, self.run.stdout, 0
         self.ask({"get": "totals"})
 
-    def open(self) -> None:
-        """Starts the program, and waits while another run has the store."""
+    def open(self) -> Script:
+        """Starts the program, waits while another run has the store, and returns itself."""
         end, waits, tries = time.monotonic() + PATIENCE, 0, 0
         while True:
             try:
                 self.start()
-                return
+                return self
             except ToolError:
                 if self.run.returncode == USAGE and self.has_plans:
                     # (an older program has no plans)

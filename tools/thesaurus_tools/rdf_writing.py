@@ -98,6 +98,19 @@ def write_ntriples(triples: Iterable[Triple], base: str) -> Iterator[str]:
 def write_turtle(triples: Iterable[Triple], base: str) -> Iterator[str]:
     """Yields the text of a Turtle document."""
     names = Names(base)
+    parts = list(turtle_parts(triples, names))
+    yield from prefix_lines(names, names.used)
+    yield from parts
+
+
+def prefix_lines(names: Names, used: Iterable[str]) -> Iterator[str]:
+    """Yields the lines of Turtle that say what some prefixes stand for."""
+    for name in sorted(used):
+        yield f"@prefix {name}: <{names.prefixes[name]}> .\n"
+
+
+def turtle_parts(triples: Iterable[Triple], names: Names) -> Iterator[str]:
+    """Yields the part of a Turtle document for each subject."""
 
     def node_text(node: Node) -> str:
         if not isinstance(node, Literal):
@@ -107,17 +120,12 @@ def write_turtle(triples: Iterable[Triple], base: str) -> Iterator[str]:
         kind = f"^^{names.short(node.datatype) or f'<{node.datatype}>'}" if node.datatype else ""
         return quoted(node.text) + (f"@{node.tag}" if node.tag else kind)
 
-    parts = []
     for subject, properties in by_subject(triples):
         lines = []
         for predicate, nodes in properties:
             name = "a" if predicate == RDF + "type" else names.short(predicate) or f"<{predicate}>"
             lines.append(f"    {name} {', '.join(map(node_text, nodes))}")
-        parts.append(f"{names.short(subject) or f'<{subject}>'}\n" + " ;\n".join(lines) + " .\n")
-    for name in sorted(names.used):
-        yield f"@prefix {name}: <{names.prefixes[name]}> .\n"
-    for part in parts:
-        yield "\n" + part
+        yield f"\n{names.short(subject) or f'<{subject}>'}\n" + " ;\n".join(lines) + " .\n"
 
 
 # --- JSON-LD ---

@@ -35,10 +35,21 @@ WHOLE = ("scope", "record", "key")
 class Options(Protocol):
     """What is said of a table beside its columns."""
 
-    lang: str
-    scheme: int | None
-    forget: bool
-    replace: bool
+    @property
+    def lang(self) -> str:
+        ...
+
+    @property
+    def scheme(self) -> int | None:
+        ...
+
+    @property
+    def forget(self) -> bool:
+        ...
+
+    @property
+    def replace(self) -> bool:
+        ...
 
 
 class RowReader:

@@ -3,7 +3,7 @@ from __future__ import annotations
 
 import contextlib
 from collections.abc import Iterator
-from dataclasses import dataclass
+from dataclasses import dataclass, replace
 
 from thesaurus_tools.command_line import USAGE, ToolError
 from thesaurus_tools.drafts import Draft, Reference
@@ -27,7 +27,7 @@ KINDS = {
 }
 
 
-@dataclass
+@dataclass(frozen=True)
 class TableOptions:
     """What is said of a table beside its columns: its kind, the language of terms, the scheme of new concepts."""
 
@@ -46,7 +46,7 @@ def plan_table(
     draft = Draft(store, [options.lang] if options.lang else [])
     schemes = [it.number for it in store.resources.values() if it.kind == "scheme"]
     if options.scheme is None and len(schemes) == 1:
-        options.scheme = schemes[0]
+        options = replace(options, scheme=schemes[0])
     return draft, TableReader(RowReader(draft, columns, options), rows, options).read()
 
 

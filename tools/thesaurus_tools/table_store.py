@@ -53,15 +53,19 @@ class TableStore(Store):
 
     def __init__(self, path: Path | str, tables: sqlite3.Connection):
         self.name, self.tables = str(path), tables
+
+    def read_base(self) -> TableStore:
+        """Reads the version and the base, and returns itself. Raises ToolError for tables of another version."""
         rows = list(self.rows("SELECT version, base FROM meta"))
         if len(rows) != 1:
-            raise ToolError(f"{path}: not the store of a thesaurus")
+            raise ToolError(f"{self.name}: not the store of a thesaurus")
         ((version, self.base),) = rows
         if version != TABLES_VERSION:
             advice = (
                 "run `thesaurus migrate` on it first" if version < TABLES_VERSION else "these tools are older than it"
             )
-            raise ToolError(f"{path}: its tables have version {version}, not {TABLES_VERSION}: {advice}")
+            raise ToolError(f"{self.name}: its tables have version {version}, not {TABLES_VERSION}: {advice}")
+        return self
 
     def rows(self, query: str, *values: object) -> Iterator[tuple]:
         """Yields the rows that a query finds."""

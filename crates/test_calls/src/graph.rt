@@ -601,8 +601,7 @@ fn compare_merge(
     alloc: Global,
     graph: &mut Graph,
     list: &mut Vec<Link>,
-    source: u32,
-    target: u32,
+    (source, target): (u32, u32),
 ) -> Result<(), Fail> {
     let (from, to) = (no(source), no(target));
     if from == to {
@@ -647,7 +646,7 @@ fn as_the_plain_program(rt: HostRuntime) -> Result<(), Fail> {
         }
         for source in 3..nodes {
             let target = numbers.below(nodes.saturating_sub(2)).saturating_add(3);
-            compare_merge(&rt, alloc, &mut graph, &mut list, source, target)?;
+            compare_merge(&rt, alloc, &mut graph, &mut list, (source, target))?;
         }
     }
     Ok(())

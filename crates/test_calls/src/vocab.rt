@@ -67,7 +67,7 @@ fn answer(fixture: &mut Fixture, call: Call) -> Result<Answer, ReadStop> {
         Collection(scheme, text) => fixture.collection(scheme, text),
         Outside(iri) => fixture.outside(iri),
         LabelChange(change, owner, kind, tag, text) => {
-            fixture.change_label(change, owner, kind, tag, text)
+            fixture.change_label(change, owner, (kind, tag, text))
         }
         Relabel(owner, tag, text, keep) => fixture.relabel(owner, tag, text, keep),
         TakeLabels(source, target) => Ok(fixture.take_labels(source, target)?),

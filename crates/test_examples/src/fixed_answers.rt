@@ -7,7 +7,8 @@ use thes_base::fault::{Fault, PipeFault, Refusal, Table};
 use thes_base::pipe::Pipe;
 use thes_base::request::{Answer, Command};
 use thes_plans::plan::{PlanOutcome, PlanRequest};
-use thes_requests::handler::{QueryAnswer, RequestHandler, ViewLine};
+use thes_requests::handler::{QueryAnswer, RequestHandler};
+use thes_requests::page::Page;
 use thes_requests::request::Query;
 use thes_requests::script::{ScriptEnd, script};
 
@@ -75,7 +76,7 @@ impl RequestHandler for FixedAnswers {
 
     fn show(&mut self, alloc: Global, query: &Query) -> Result<QueryAnswer, Fault> {
         match query {
-            Query::Totals => Ok(QueryAnswer::Line(ViewLine::new(Vec::from_slice(alloc, b"{}\n")?))),
+            Query::Totals => Ok(QueryAnswer::Page(Page::new(Vec::from_slice(alloc, b"{}\n")?))),
             _ => Ok(QueryAnswer::No(Refusal::UnknownResource)),
         }
     }

@@ -5,8 +5,8 @@ use test_office::ways::{display_in, export_in};
 use test_office::{Store, invalid, store_after};
 use thes_base::number::ResNo;
 use thes_base::text::Tag;
-use thes_display::writing::{DisplayOutcome, DisplayRequest};
-use thes_requests::request::Display;
+use thes_display::writing::DisplayOutcome;
+use thes_requests::request::{Display, DisplayRequest};
 
 /// Returns a text of the store after the requests: its export, a display, or the name of the
 /// refusal of a display.

@@ -10,7 +10,8 @@ use test_office::serve_in;
 use thes_base::data::Limits;
 use thes_base::fault::{Fault, PipeFault};
 use thes_base::text::Base;
-use thes_import::postings::{ReportEnd, ReportStop, import_postings};
+use thes_import::postings::import_postings;
+use thes_import::report::Report;
 use thes_office::Office;
 use thes_requests::script::ScriptEnd;
 use thes_service::OfficeHandler;
@@ -84,26 +85,21 @@ fn import_in<K: Keeper>(
     alloc: Global,
     office: &mut Office<K>,
     file: &str,
-) -> Result<ReportEnd, ReportStop> {
+) -> Result<Option<Report>, (Fault, Report)> {
     import_postings(alloc, file.as_bytes(), office)
 }
 
 // Appends the lines of an import, and returns whether the fault Store halted it.
 fn push_report(
     rows: &mut String,
-    imported: &Result<ReportEnd, ReportStop>,
+    imported: &Result<Option<Report>, (Fault, Report)>,
 ) -> Result<bool, TrialStop> {
     match imported {
-        Ok(ReportEnd::Rows(report)) => {
+        Ok(Some(report)) => {
             push_bytes(rows, &report.text)?;
             Ok(false)
         }
-        Err(
-            ReportStop {
-                fault: Fault::Store,
-                report,
-            },
-        ) => {
+        Err((Fault::Store, report)) => {
             push_bytes(rows, &report.text)?;
             Ok(true)
         }

@@ -96,21 +96,6 @@ fn add_calls(
     Ok(StoreOutcome::Wrong)
 }
 
-// Runs an example over a storage in memory of which `times` calls in a row fail, beginning with
-// each call in turn.
-fn try_calls(
-    alloc: Global,
-    name: &str,
-    stored: &StoredExample,
-    times: u32,
-    listing: &str,
-    page: &mut String,
-) -> Result<(), TrialStop> {
-    let mut words = String::new(alloc);
-    let outcome = add_calls(alloc, stored, times, listing, &mut words)?;
-    write_calls(page, name, times, outcome, words.as_str())
-}
-
 fn write_calls(
     page: &mut String,
     name: &str,
@@ -129,7 +114,8 @@ fn write_calls(
     Ok(())
 }
 
-// Runs an example over a storage of which one call fails, and over one of which two fail.
+// Runs an example over a storage in memory of which one call fails, and over one of which two in a
+// row fail, beginning with each call in turn.
 fn try_keepers(
     alloc: Global,
     name: &str,
@@ -138,7 +124,9 @@ fn try_keepers(
     page: &mut String,
 ) -> Result<(), TrialStop> {
     for times in [1, 2] {
-        try_calls(alloc, name, stored, times, listing, page)?;
+        let mut words = String::new(alloc);
+        let outcome = add_calls(alloc, stored, times, listing, &mut words)?;
+        write_calls(page, name, times, outcome, words.as_str())?;
     }
     Ok(())
 }

@@ -33,30 +33,15 @@ pub fn commit_one<K: Keeper>(alloc: Global, keeper: &mut K, change: Change) -> R
     keeper.commit(delta)
 }
 
-// Inserts the next posting if its key is new, and returns whether it was.
-fn post<K: Keeper>(
-    alloc: Global,
-    keeper: &mut K,
-    number: PostNo,
-    key: Key,
-    rec: RecordName,
-    concept: ResNo,
-) -> Result<bool, Fault>
-    requires { AwaitsPosting (K.view keeper.old) number }
+// Inserts the row of the next posting if its key is new, and returns whether it was.
+fn post<K: Keeper>(alloc: Global, keeper: &mut K, row: PostingRow) -> Result<bool, Fault>
+    requires { AwaitsPosting (K.view keeper.old) row.number }
     ensures { IfOk result (λ is_new. is_new ≡ true
-        → AwaitsPosting (K.view keeper.new) (number + 1)) }
+        → AwaitsPosting (K.view keeper.new) (row.number + 1)) }
 {
-    match keeper.find(&key)? {
+    match keeper.find(&row.key)? {
         Some(_) => Ok(false),
         None => {
-            let row = PostingRow {
-                number,
-                key,
-                rec,
-                first: concept,
-                place: concept,
-                withdrawn: false,
-            };
             commit_one(alloc, keeper, Change::AddPosting(row))?;
             Ok(true)
         }
@@ -79,7 +64,15 @@ pub fn post_all<K: Keeper>(alloc: Global, keeper: &mut K, count: u32) -> Result<
         let key = Key::read(alloc, name_with_number(alloc, "k", number)?.as_str())?;
         let rec = RecordName::read(alloc, name_with_number(alloc, "r", number)?.as_str())?;
         let concept = ResNo::new(2 + made % CONCEPTS);
-        if !post(alloc, keeper, PostNo::new(number), key, rec, concept)? {
+        let row = PostingRow {
+            number: PostNo::new(number),
+            key,
+            rec,
+            first: concept,
+            place: concept,
+            withdrawn: false,
+        };
+        if !post(alloc, keeper, row)? {
             return Err(Failure::Known);
         }
     }

@@ -9,8 +9,8 @@ use std::alloc::Global;
 use std::io::{Read, Write};
 use test_keeper::fail_once::{FailOnce, Next};
 use thesaurus::{
-    Ended, Fault, Keeper, OfficeHandler, Pipe, PipeFault, Query, QueryAnswer, RequestHandler,
-    ViewLine, WithPlans, script,
+    Ended, Fault, Keeper, OfficeHandler, Page, Pipe, PipeFault, Query, QueryAnswer, RequestHandler,
+    WithPlans, script,
 };
 
 // A posting, sent twice.
@@ -51,8 +51,8 @@ fn view<K: Keeper>(
 }
 
 // Returns the bytes of a view, with its line feed.
-fn bytes_of(line: &ViewLine) -> &[u8] {
-    line.as_bytes()
+fn bytes_of(page: &Page) -> &[u8] {
+    page.as_bytes()
 }
 
 // Appends the answers to the lines, and the view of the totals.
@@ -63,7 +63,7 @@ fn write_answers<K: Keeper>(
 ) -> Result<(), Failure> {
     push(report, &answers(alloc, handler)?)?;
     match view(alloc, handler, &Query::Totals)? {
-        QueryAnswer::Line(line) => Ok(push(report, bytes_of(&line))?),
+        QueryAnswer::Page(page) => Ok(push(report, bytes_of(&page))?),
         QueryAnswer::No(_) => Ok(push(report, b"refused\n")?),
     }
 }

@@ -98,7 +98,7 @@ fn push_view(
     shown: &mut Vec<u8>,
 ) -> io::Result<()> {
     match view(alloc, store, query) {
-        Ok(QueryAnswer::Line(line)) => shown.extend_from_slice(line.as_bytes())?,
+        Ok(QueryAnswer::Page(page)) => shown.extend_from_slice(page.as_bytes())?,
         Ok(QueryAnswer::No(refusal)) => shown.extend_from_slice(refusal.name().as_bytes())?,
         Err(_) => return Err(invalid()),
     }

@@ -2,12 +2,13 @@
 use Rattle.std.proofs.Common.{◌≡◌, ◌∙◌, ◌⊎◌, inl, inr, refl, sym, ap, subst, ℕ, List, Option, Some, None, false}
 use Rattle.std.specs.Prelude.{IfSome, IsSomeAnd, MatchOption, string_bytes}
 use Rattle.sqlite.specs.Held.{Held, state}
+use Rattle.sqlite.specs.Schema.{Schema}
 use Rattle.sqlite_trees.specs.declared.store.Store.{Ghosts}
 use Rattle.thes_base.specs.declared.data.Limits.{Limits}
 use Rattle.thes_tables.specs.Cells.{Raw, cells_of_tables}
 use Rattle.thes_tables.specs.Tables.{Tables}
 use Rattle.thes_tables.proofs.CellLemmas.{listed_one}
-use Rattle.thes_sql.specs.StoredRows.{Keeps}
+use Rattle.thes_sql.specs.StoredRows.{KeepsIn}
 use Rattle.thes_office.specs.Office.{TablesAfterRun}
 use Rattle.thes_sqlite.proofs.KeeperLemmas.{raw_of}
 use Rattle.thes_sqlite.specs.KeeperView.{KeeperView, IsStore, IsUp, ServesTables}
@@ -36,33 +37,38 @@ module _ {S : Type 0} (g : Ghosts S) where
   open_first (Some k) up = up.1
 
   -- Storage whose first connection is returned and up: it is up itself, and its rows are those of the database.
-  pub record ServesReturned (keeper : ReopeningView S) (conn : Held S) : Type 0 where
+  pub record ServesReturned (schema : Schema) (keeper : ReopeningView S) (conn : Held S) : Type 0 where
     pub is_up : IsKeeperStillUp g keeper
     pub same : (state g conn).now ≡ (state g conn).committed
     pub tables : Tables
-    pub keeps : Keeps (state g conn).now tables
+    pub keeps : KeepsIn schema (state g conn).now tables
     pub rows : rows_still g keeper ≡ cells_of_tables tables
 
-  returned_serves : (held : Tables → Type 0) (keeper : ReopeningView S) (back : Option (Held S)) (conn : Held S)
-      (t : Tables) → ReturnsFirst g held keeper back → back ≡ Some conn → IsUp (state g conn) → held t
-      → ServesReturned keeper conn
-  returned_serves held keeper back conn t returns is up holds =
+  returned_serves : (held : Schema → Tables → Type 0) (keeper : ReopeningView S) (back : Option (Held S))
+      (conn : Held S) (schema : Schema) (t : Tables) → ReturnsFirst g held keeper back → back ≡ Some conn
+      → IsUp (state g conn) → held schema t → ServesReturned schema keeper conn
+  returned_serves held keeper back conn schema t returns is up holds =
       let one : returns.keeper.conn ≡ conn = the_value (sym returns.conn_is ∙ is) in
       let up_then : IsUp (state g returns.keeper.conn) = subst (λ (c : Held S). IsUp (state g c)) (sym one) up in
       let known : IsStore (state g returns.keeper.first) =
-      λ up_first. let x = returns.of_files up_first t holds in record { settled = x.0; keeps = (t, x.1) } in
+      λ up_first. let x = returns.of_files up_first schema t holds in record { settled = x.0; keeps = (t, x.1.keeps) } in
       let store = returns.kept.served known up_then in
-      let keeps = store.keeps in record {
+      let keeps = store.keeps in
+      let same = returns.kept.same known up_then in
+      let keeps_in : KeepsIn schema (state g returns.keeper.conn).now keeps.0 = record {
+        schema_is = same.1 ∙ (returns.of_files same.0 schema t holds).1.schema_is;
+        keeps = keeps.1;
+      } in record {
         is_up = subst (IsServingFirst g) (sym returns.first_is) (known, up_then);
         same = subst (λ (c : Held S). (state g c).now ≡ (state g c).committed) one store.settled;
         tables = keeps.0;
-        keeps = subst (λ (c : Held S). Keeps (state g c).now keeps.0) one keeps.1;
+        keeps = subst (λ (c : Held S). KeepsIn schema (state g c).now keeps.0) one keeps_in;
         rows = ap (rows_of_first g) returns.first_is
             ∙ raw_of (state g returns.keeper.conn).now.trees keeps.0 keeps.1.hold;
       }
 
   -- The database was closed, if there is one.
-  pub closes_left : {C : Type 0} (is_clean : C → Type 0) (holds : C → Tables → Type 0) (left : Leaving S)
+  pub closes_left : {C : Type 0} (is_clean : C → Type 0) (holds : C → Schema → Tables → Type 0) (left : Leaving S)
       (conn : Option (Held S)) (files : Option C) → left.conn ≡ conn
       → MatchOption conn (files ≡ None) (λ conn. IsSomeAnd files (λ files.
       is_clean files → ClosesStore (holds files) (state g conn)))
@@ -76,20 +82,21 @@ module _ {S : Type 0} (g : Ghosts S) where
   }
 
   module _ {F R W E : Type 0} (given : F → Option (List ℕ)) (remaining : R → Option (List ℕ))
-      (out : W → Option (List ℕ)) (err : E → Option (List ℕ)) (held : Tables → Type 0) where
+      (out : W → Option (List ℕ)) (err : E → Option (List ℕ))
+      (held : Schema → Tables → Type 0) where
     -- If an office was opened, a run of the machine leads from the tables of the files to those of the storage; else they
     -- are the same.
     tables_lead : {O P L : Type 0} (job : DatabaseWork S O P F L) (old new : Streams R W E) (status : ℕ)
-        (keeper : ReopeningView S) (t after : Tables) → held t → ServesTables held (state g job.conn)
-        → IsKeeperStillUp g keeper → rows_still g keeper ≡ cells_of_tables after
+        (keeper : ReopeningView S) (schema : Schema) (t after : Tables) → held schema t
+        → ServesTables held (state g job.conn) → IsKeeperStillUp g keeper → rows_still g keeper ≡ cells_of_tables after
         → (works : WorksOverKeeper (storage_still g) (IsStillOpen g) (FindsStill g) given remaining out err
         job.work (Some (string_bytes job.file)) job.limits (storage_of_connection job.conn) old status keeper new)
         → RunsIfOpened works.0 job.limits t after
-    tables_lead job old new status keeper t after holds serves up rows (inr unopened, found) =
+    tables_lead job old new status keeper schema t after holds serves up rows (inr unopened, found) =
         let keeps = unopened.fails_to_open.keeps in
-        let at_start = serves (keeps.was up).1 t holds in
-        listed_one after t (sym rows ∙ (keeps.same up ∙ raw_of (state g job.conn).now.trees t at_start.1.hold))
-    tables_lead job old new status keeper t after holds serves up rows (inl opened, found) =
+        let at_start = serves (keeps.was up).1 schema t holds in
+        listed_one after t (sym rows ∙ (keeps.same up ∙ raw_of (state g job.conn).now.trees t at_start.1.keeps.hold))
+    tables_lead job old new status keeper schema t after holds serves up rows (inl opened, found) =
         let last = opened.new_office.keeper in
         let up_last : IsKeeperStillUp g last = subst (λ (v : ReopeningView S). IsKeeperStillUp g v) opened.back_is up in
         let reached = work_leads (storage_still g) given out err remaining job.work opened.old_office opened.new_office
@@ -97,10 +104,10 @@ module _ {S : Type 0} (g : Ghosts S) where
         opened.old_office opened.opens) in
         let up_first = reached.was up_last in
         let finds = found (open_first opened.old_office.keeper.first up_first) in
-        let at_start = serves finds.1.0 t holds in
+        let at_start = serves finds.1.0 schema t holds in
         let run = reached.goes_on up_last in
         let rows_first = opened.opens.keeps.same up_first
-        ∙ raw_of (state g job.conn).now.trees t at_start.1.hold in
+        ∙ raw_of (state g job.conn).now.trees t at_start.1.keeps.hold in
         let rows_last = ap (rows_still g) (sym opened.back_is) ∙ rows in (
           run.0,
           run.1,
@@ -133,6 +140,7 @@ module _ {S : Type 0} (g : Ghosts S) where
         record {
           file = Some (string_bytes job.file);
           fault = unopened.fault;
+          cause = unopened.cause;
           prints_it = unopened.prints_it;
           status_is = unopened.status_is;
         },
@@ -141,27 +149,28 @@ module _ {S : Type 0} (g : Ghosts S) where
       holds_after = x.holds_after;
     }
 
-    module _ {O P L C : Type 0} (is_clean : C → Type 0) (holds : C → Tables → Type 0)
+    module _ {O P L C : Type 0} (is_clean : C → Type 0) (holds : C → Schema → Tables → Type 0)
         (job : DatabaseWork S O P F L) (old new : Streams R W E) (status : ℕ) (left : Leaving S)
         (works : WorksInDatabase given remaining out err g held job old status left new)
         (serves : ServesTables held (state g job.conn)) where
       closed_leaves : (conn : Option (Held S)) (files : Option C) → conn ≡ left.conn → left.is_reopened ≡ false
           → MatchOption conn (files ≡ None) (λ conn. IsSomeAnd files (λ files.
           is_clean files → ClosesStore (holds files) (state g conn)))
-          → IfSome files (λ files. is_clean files → (t : Tables) → held t
-          → LeavesInFiles g works.works.0 job.limits t works.keeper (holds files))
+          → IfSome files (λ files. is_clean files → (schema : Schema) (t : Tables) → held schema t
+          → LeavesInFiles g works.works.0 job.limits t works.keeper (holds files schema))
       closed_leaves None None is kept closes = tt
       closed_leaves None (Some files) is kept closes = absurd (cc)
       closed_leaves (Some conn) None is kept closes = tt
-      closed_leaves (Some conn) (Some files) is kept closes = λ clean t was_held.
+      closed_leaves (Some conn) (Some files) is kept closes = λ clean schema t was_held.
           let closing = closes clean in
-          let end = returned_serves held works.keeper left.conn conn t (works.returns kept) (sym is) closing.was_up
-          was_held in record {
+          let end = returned_serves held works.keeper left.conn conn schema t (works.returns kept) (sym is)
+          closing.was_up was_held in record {
             is_up = end.is_up;
             tables_after = end.tables;
             rows_after = end.rows;
-            run = tables_lead job old new status works.keeper t end.tables was_held serves end.is_up end.rows works.works;
-            holds_after = closing.leaves end.same end.tables end.keeps;
+            run = tables_lead job old new status works.keeper schema t end.tables was_held serves end.is_up end.rows
+                works.works;
+            holds_after = closing.leaves end.same schema end.tables end.keeps;
           }
 
       -- Work over the store of files, and the closing of its database, leave the store in the files.
@@ -173,10 +182,11 @@ module _ {S : Type 0} (g : Ghosts S) where
         closes = closes;
         certain = λ kept. closes.is_in_doubt ∙ works.certain (sym closes.is_reopened ∙ kept);
         leaves = leaves;
-        leads = λ kept. if_some_weaker closed.files _ _ (λ files leaves clean t was_held.
-            to_leads job old new status works.keeper t (holds files) works.works.0 (leaves clean t was_held)) (leaves kept);
+        leads = λ kept. if_some_weaker closed.files _ _ (λ files leaves clean schema t was_held.
+            to_leads job old new status works.keeper t (holds files schema) works.works.0
+            (leaves clean schema t was_held)) (leaves kept);
       }
         where
-          leaves : closed.is_reopened ≡ false → IfSome closed.files (λ files. is_clean files → (t : Tables) → held t
-              → LeavesInFiles g works.works.0 job.limits t works.keeper (holds files))
+          leaves : closed.is_reopened ≡ false → IfSome closed.files (λ files. is_clean files → (schema : Schema) (t : Tables)
+              → held schema t → LeavesInFiles g works.works.0 job.limits t works.keeper (holds files schema))
           leaves kept = closed_leaves left.conn closed.files refl (sym closes.is_reopened ∙ kept) closes.files

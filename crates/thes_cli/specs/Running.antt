@@ -4,6 +4,7 @@ use Rattle.std.specs.Global.{Global}
 use Rattle.std.specs.declared.fs.File.{File}
 use Rattle.std.specs.declared.string.String.{String}
 use Rattle.sqlite.specs.Held.{Held}
+use Rattle.sqlite.specs.Schema.{Schema}
 use Rattle.sqlite_trees.specs.declared.store.Store.{Ghosts}
 use Rattle.thes_tables.specs.Tables.{Tables}
 use Rattle.thes_command_line.specs.Printing.{PrintsText}
@@ -47,8 +48,9 @@ module _ {R W E S : Type 0} (out : W → Option (List ℕ)) (err : E → Option 
     pub prints_it : PrintsText out err old.output new.output old.errors new.errors version_line status
 
 module _ {R W E S C : Type 0} (given : File → Option (List ℕ)) (remaining : R → Option (List ℕ))
-    (out : W → Option (List ℕ)) (err : E → Option (List ℕ)) (store : Ghosts S) (held : Tables → Type 0)
-    (opens : Held S → Type 0) (closes : Held S → C → Type 0) (is_clean : C → Type 0) (holds : C → Tables → Type 0) where
+    (out : W → Option (List ℕ)) (err : E → Option (List ℕ)) (store : Ghosts S) (held : Schema → Tables → Type 0)
+    (opens : Held S → Type 0) (closes : Held S → C → Type 0) (is_clean : C → Type 0)
+    (holds : C → Schema → Tables → Type 0) where
   -- The work of the job that was opened was done and its store closed, or the reason why none was opened is reported.
   -- Only work over a store in files leaves something of them.
   abbrev pub DoesOpened : {O : Type 0} → Result (OpenJob S O) StartFailure → Streams R W E → ℕ → Closed C

@@ -2,6 +2,7 @@
 use mathlib.Core.Logic.{inl, inr}
 use Rattle.std.specs.Prelude.{◌≡◌, ◌⊎◌, ℕ, List, Option, None, Some, false, IfSome, IsSomeAnd, MatchOption, string_bytes}
 use Rattle.sqlite.specs.Held.{Held, state}
+use Rattle.sqlite.specs.Schema.{Schema}
 use Rattle.sqlite_trees.specs.declared.store.Store.{Ghosts}
 use Rattle.thes_base.specs.State.{empty_state}
 use Rattle.thes_base.specs.declared.data.Limits.{Limits}
@@ -16,12 +17,14 @@ use Rattle.thes_tables.specs.Tables.{Tables, empty_tables}
 use Rattle.thes_store.specs.Storage.{StorageView}
 use Rattle.thes_sqlite.specs.Reopening.{ReopeningView, keeper_of_connection, storage_still, IsStillOpen, FindsStill}
 use Rattle.thes_sqlite.specs.Reopening.{IsKeeperStillUp, ReturnsFirst, rows_still}
+use Rattle.thes_sqlite.specs.declared.cause.Cause.{Cause}
 use Rattle.thes_sqlite.specs.declared.reopening.Leaving.{Leaving}
 use Rattle.thes_office.specs.Office.{TablesAfterRun}
 use Rattle.thes_office.specs.TablesOfState.{TablesOfState}
 use Rattle.thes_command_line.specs.Printing.{Prints, fault_line, fault_lines}
 use Rattle.thes_command_line.specs.declared.trouble.StoreTrouble.TheVariants.{Unreadable}
 use Rattle.thes_jobs.specs.Databases.{ClosesStore}
+use Rattle.thes_jobs.specs.Trouble.{trouble_of}
 use Rattle.thes_jobs.specs.declared.work.DatabaseWork.{DatabaseWork}
 use Rattle.thes_jobs.specs.declared.work.MemoryWork.{MemoryWork}
 use Rattle.thes_cli.specs.Checking.{no_sizes, sizes_of}
@@ -47,11 +50,12 @@ abbrev pub RunsIfOpened : {A B : Type 0} → A ⊎ B → Limits → Tables → T
 RunsIfOpened (inl opened) limits t t' = RunLeads limits t t'
 RunsIfOpened (inr unopened) limits t t' = t' ≡ t
 
--- A fault of opening a store is printed, and the status is 3.
+-- A fault of opening a store is printed with the reason that its cause gives, and the status is 3.
 pub record PrintsUnopened {E : Type 0} (err : E → Option (List ℕ)) (old new : Pipe E) (status : ℕ) : Type 0 where
   pub file : Option (List ℕ)
   pub fault : Fault
-  pub prints_it : Prints err old new (fault_lines file Unreadable fault)
+  pub cause : Cause
+  pub prints_it : Prints err old new (fault_lines file (trouble_of cause Unreadable) fault)
   pub status_is : status ≡ 3
 
 -- The files, which held a store with the tables `t`, hold a store with tables to which a run of the machine leads from
@@ -65,16 +69,16 @@ pub record LeadsInFiles {E : Type 0} (err : E → Option (List ℕ)) (old new : 
 
 -- If no failure has shut the database, the files held a store, and they are clean now, they hold the store after a run
 -- of the machine.
-abbrev pub LeadsIfClosed : {E C : Type 0} → (E → Option (List ℕ)) → (Tables → Type 0) → (C → Type 0)
-    → (C → Tables → Type 0) → Pipe E → Pipe E → ℕ → Closed C → Type 0
+abbrev pub LeadsIfClosed : {E C : Type 0} → (E → Option (List ℕ)) → (Schema → Tables → Type 0) → (C → Type 0)
+    → (C → Schema → Tables → Type 0) → Pipe E → Pipe E → ℕ → Closed C → Type 0
 LeadsIfClosed err held is_clean holds old new status closed =
-    closed.is_reopened ≡ false → IfSome closed.files (λ files. is_clean files → (t : Tables) → held t
-    → LeadsInFiles err old new status t (holds files))
+    closed.is_reopened ≡ false → IfSome closed.files (λ files. is_clean files → (schema : Schema) (t : Tables)
+    → held schema t → LeadsInFiles err old new status t (holds files schema))
 
 module _ {S : Type 0} (store : Ghosts S) where
   -- The database was closed, if there is one.
-  pub record ClosesLeft {C : Type 0} (is_clean : C → Type 0) (holds : C → Tables → Type 0) (left : Leaving S)
-      (closed : Closed C) : Type 0 where
+  pub record ClosesLeft {C : Type 0} (is_clean : C → Type 0) (holds : C → Schema → Tables → Type 0)
+      (left : Leaving S) (closed : Closed C) : Type 0 where
     pub is_reopened : closed.is_reopened ≡ left.is_reopened
     pub is_in_doubt : closed.is_in_doubt ≡ left.is_in_doubt
     pub files : MatchOption left.conn (closed.files ≡ None) (λ conn. IsSomeAnd closed.files (λ files.
@@ -114,7 +118,7 @@ module _ {F R W E : Type 0} (given : F → Option (List ℕ)) (remaining : R →
 
   module _ {S : Type 0} (store : Ghosts S) where
     -- The work was done on the tables of the database, through the storage over this connection.
-    pub record WorksInDatabase {O P L : Type 0} (held : Tables → Type 0) (job : DatabaseWork S O P F L)
+    pub record WorksInDatabase {O P L : Type 0} (held : Schema → Tables → Type 0) (job : DatabaseWork S O P F L)
         (old : Streams R W E) (status : ℕ) (left : Leaving S) (new : Streams R W E) : Type 0 where
       pub keeper : ReopeningView S
       pub works : WorksOverKeeper (storage_still store) (IsStillOpen store) (FindsStill store) given remaining out err
@@ -126,14 +130,14 @@ module _ {F R W E : Type 0} (given : F → Option (List ℕ)) (remaining : R →
 
     -- The work was done on the tables of the database, and the database was closed. If no failure has shut it, the files
     -- held a store and the closed files are clean, they hold the store after the work, and so after a run of the machine.
-    pub record WorksToClosing {O P L C : Type 0} (held : Tables → Type 0) (is_clean : C → Type 0)
-        (holds : C → Tables → Type 0) (job : DatabaseWork S O P F L) (old : Streams R W E) (status : ℕ)
+    pub record WorksToClosing {O P L C : Type 0} (held : Schema → Tables → Type 0) (is_clean : C → Type 0)
+        (holds : C → Schema → Tables → Type 0) (job : DatabaseWork S O P F L) (old : Streams R W E) (status : ℕ)
         (closed : Closed C) (new : Streams R W E) : Type 0 where
       pub leaving : Leaving S
       pub works : WorksInDatabase held job old status leaving new
       pub closes : ClosesLeft store is_clean holds leaving closed
       -- A request is in doubt only if a failure has shut the database.
       pub certain : closed.is_reopened ≡ false → closed.is_in_doubt ≡ false
-      pub leaves : closed.is_reopened ≡ false → IfSome closed.files (λ files. is_clean files → (t : Tables) → held t
-          → LeavesInFiles store works.works.0 job.limits t works.keeper (holds files))
+      pub leaves : closed.is_reopened ≡ false → IfSome closed.files (λ files. is_clean files → (schema : Schema) (t : Tables)
+          → held schema t → LeavesInFiles store works.works.0 job.limits t works.keeper (holds files schema))
       pub leads : LeadsIfClosed err held is_clean holds old.errors new.errors status closed

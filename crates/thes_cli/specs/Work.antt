@@ -5,6 +5,7 @@ use Rattle.thes_base.specs.declared.data.Limits.{Limits}
 use Rattle.thes_base.specs.declared.fault.Fault.{Fault}
 use Rattle.thes_base.specs.declared.pipe.Pipe.{Pipe}
 use Rattle.thes_tables.specs.Cells.{Raw}
+use Rattle.thes_sqlite.specs.declared.cause.Cause.{Cause}
 use Rattle.thes_store.specs.Storage.{StorageView}
 use Rattle.thes_office.specs.FoundStates.{FindsLegalState, IsFaultOfFound}
 use Rattle.thes_office.specs.Office.{OfficeView}
@@ -18,6 +19,7 @@ use Rattle.thes_cli.specs.Scripting.{AnswersScript}
 use Rattle.thes_cli.specs.Serving.{ServesStore}
 use Rattle.thes_cli.specs.declared.streams.Streams.{Streams}
 use Rattle.thes_command_line.specs.declared.trouble.StoreTrouble.TheVariants.{Unreadable}
+use Rattle.thes_jobs.specs.Trouble.{trouble_of}
 use Rattle.thes_jobs.specs.declared.work.OutputWork.{OutputWork}
 use Rattle.thes_jobs.specs.declared.work.OutputWork.TheVariants.{Check, Export, Display, Import, Serve}
 use Rattle.thes_jobs.specs.declared.work.Work.{Work}
@@ -64,14 +66,15 @@ module _ {K F R W E : Type 0} (view : K → StorageView)
     pub does : DoesWork work old_office old status new_office new
     pub back_is : back ≡ new_office.keeper
 
-  -- The store couldn't be opened, the fault is printed, and the status is 3.
+  -- The store couldn't be opened, the fault is printed with the reason that its cause gives, and the status is 3.
   pub record ReportsUnopened (file : Option (List ℕ)) (keeper : K) (old : Streams R W E) (status : ℕ)
       (back : K) (new : Streams R W E) : Type 0 where
     pub fault : Fault
+    pub cause : Cause
     pub fails_to_open : IsUnopened view keeper fault back
     pub input : new.input ≡ old.input
     pub output : new.output ≡ old.output
-    pub prints_it : Prints err old.errors new.errors (fault_lines file Unreadable fault)
+    pub prints_it : Prints err old.errors new.errors (fault_lines file (trouble_of cause Unreadable) fault)
     pub status_is : status ≡ 3
 
 module _ {K F R W E : Type 0} (view : K → StorageView) (is_open : K → Type 0) (finds : K → Raw → Type 0)

@@ -7,13 +7,11 @@ ghost use Rattle.thes_cli.specs.Displaying.{DisplaysStore, EndsDisplay, WritesDi
 use std::alloc::Global;
 use std::io::Write;
 use thes_base::fault::PipeFault;
-use thes_base::number::ResNo;
 use thes_base::pipe::Pipe;
-use thes_base::text::Tag;
 use thes_command_line::printing::{report_fault, report_refusal};
-use thes_display::writing::{DisplayOutcome, DisplayRequest, write_display};
+use thes_display::writing::{DisplayOutcome, write_display};
 use thes_office::Office;
-use thes_requests::request::Display;
+use thes_requests::request::DisplayRequest;
 use thes_store::keeper::Keeper;
 
 // Writes a display of the state that the office's tables encode, or returns the refusal of the
@@ -58,26 +56,20 @@ fn report_display<E: Write>(errors: &mut Pipe<E>, shown: Result<DisplayOutcome, 
     }
 }
 
-/// Writes a display of a scheme in the language of the tag, and returns the exit status 0. After a
+/// Writes a display, and returns the exit status 0. After a
 /// refusal or a fault, prints it and returns 1 or 3.
 pub fn display_store<K: Keeper, W: Write, E: Write>(
     alloc: Global,
     office: &mut Office<K>,
-    display: Display,
-    scheme: ResNo,
-    tag: &Tag,
+    wanted: &DisplayRequest<'_>,
     output: &mut Pipe<W>,
     errors: &mut Pipe<E>,
 ) -> u8
     requires { AreFreshOutputs output.old errors.old }
-    ensures { DisplaysStore K.view W.contents display scheme tag.now E.contents
+    ensures { let asked = wanted.now in
+        DisplaysStore K.view W.contents asked.kind asked.scheme asked.tag.now E.contents
         office.old output.old output.new errors.old errors.new result office.new }
 {
-    let wanted = DisplayRequest {
-        kind: display,
-        scheme,
-        tag,
-    };
-    let shown = write_office_display(alloc, office, &wanted, output);
+    let shown = write_office_display(alloc, office, wanted, output);
     report_display(errors, shown)
 }

@@ -44,8 +44,8 @@ fn report_end<E: Write>(errors: &mut Pipe<E>, prints_it: bool, ended: ImportEnd)
     }
 }
 
-// Prints the counts, if `prints_it`, or the form fault or the fault of an import, and returns the
-// exit status.
+// Reports on standard error how an import ended: by the counts of its rows, if `prints_it`, or by a
+// fault. Returns the exit status.
 fn report_import<E: Write>(
     errors: &mut Pipe<E>,
     prints_it: bool,

@@ -1,5 +1,5 @@
-//! The program `thesaurus`: opens the store and the file or socket that its arguments name,
-//! performs their task, and exits with its status.
+//! The program `thesaurus`: opens what its arguments name, performs their task, closes the store,
+//! and exits with its status.
 #![tactic(auto)]
 
 ghost use Rattle.std.specs.Prelude.{IsTrue};

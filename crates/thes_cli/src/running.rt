@@ -98,11 +98,11 @@ pub fn run_in_files<S: Start + ReopenedImage, R: Read, W: Write, E: Write>(
 ) -> (u8, Closed<Option<Files<FileFrom<S>>>>)
     requires { AreFresh streams.old }
     ensures runs { RunsPlan ⟦<File as Read>⟧.remaining R.remaining W.contents E.contents
-        ⟦<FileStore<FileFrom<S>> as Store>⟧ (λ t. HoldsStore (image_at S.Start) t)
+        ⟦<FileStore<FileFrom<S>> as Store>⟧ (HoldsStore (image_at S.Start))
         (OpensFrom (image_at S.Start)) (ClosesFrom ⟦<FileFrom<S> as Disk>⟧)
         (AreCleanFiles ⟦<FileFrom<S> as Disk>⟧) (HoldTables ⟦<FileFrom<S> as Disk>⟧)
         (StoreFiles S) planned streams.old result.0 result.1 streams.new }
-    ensures leads { LeadsIfClosed E.contents (λ t. HoldsStore (image_at S.Start) t)
+    ensures leads { LeadsIfClosed E.contents (HoldsStore (image_at S.Start))
         (AreCleanFiles ⟦<FileFrom<S> as Disk>⟧) (HoldTables ⟦<FileFrom<S> as Disk>⟧)
         streams.old.errors streams.new.errors result.0 result.1 }
 {

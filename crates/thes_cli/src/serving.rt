@@ -3,7 +3,7 @@ ghost use Rattle.std.specs.Prelude.{◌≡◌, IfErr, IfOk};
 ghost use Rattle.thes_base.specs.Pipe.{IsFresh};
 ghost use Rattle.thes_command_line.specs.Printing.{AreFreshOutputs};
 ghost use Rattle.thes_cli.specs.Serving as serving;
-ghost use Rattle.thes_cli.specs.Serving.{EndsUnserved, EndsWell, ServesAll, ServesStore};
+ghost use Rattle.thes_cli.specs.Serving.{EndsUnserved, EndsWell, ServesStore};
 
 use std::alloc::Global;
 use std::io;
@@ -51,8 +51,10 @@ fn report_served<E: Write>(
     ended: io::Result<ConnectionCount>,
 ) -> u8
     requires { IsFresh errors.old }
-    ensures ok { IfOk ended (λ served. EndsWell served errors.old errors.new connections.new result) }
-    ensures err { IfErr ended (λ error. EndsUnserved E.contents error errors.old errors.new result) }
+    ensures ok { IfOk ended
+        (λ served. EndsWell served errors.old errors.new connections.new result) }
+    ensures err { IfErr ended
+        (λ error. EndsUnserved E.contents error errors.old errors.new result) }
 {
     match ended {
         Ok(served) => {
@@ -63,55 +65,8 @@ fn report_served<E: Write>(
     }
 }
 
-// Serves `count` connections, one after another, and returns the exit status.
-fn serve_all<N: Net + Clock, K: Keeper, M: PlanMode + Copy, E: Write>(
-    alloc: Global,
-    clock: &N,
-    listener: &N::Listener,
-    count: u32,
-    handler: &mut OfficeHandler<K, M>,
-    errors: &mut Pipe<E>,
-    connections: &mut ConnectionCount,
-) -> u8
-    requires { IsFresh errors.old }
-    ensures { ServesAll K.view E.contents M.takes count handler.old errors.old errors.new connections.new
-        result handler.new }
-{
-    let ended = office_serve::<N, K, M>(alloc, clock, listener, count, handler);
-    report_served(errors, connections, ended)
-}
-
-// Prints the address, serves the connections, and returns the exit status. If the address can't be
-// printed, it serves none.
-fn serve_printed<N: Net + Clock, K: Keeper, M: PlanMode + Copy, W: Write, E: Write>(
-    alloc: Global,
-    clock: &N,
-    listening: &Listening<N::Listener>,
-    handler: &mut OfficeHandler<K, M>,
-    output: &mut Pipe<W>,
-    errors: &mut Pipe<E>,
-    connections: &mut ConnectionCount,
-) -> u8
-    requires { AreFreshOutputs output.old errors.old }
-    ensures { ServesStore K.view E.contents W.contents M.takes listening.now.port listening.now.count
-        handler.old output.old output.new errors.old errors.new connections.new result handler.new }
-{
-    if print(output, listening_line(listening.port).as_bytes()) {
-        serve_all::<N, K, M, E>(
-            alloc,
-            clock,
-            &listening.listener,
-            listening.count,
-            handler,
-            errors,
-            connections,
-        )
-    } else {
-        report_fault(errors, PipeFault::Write)
-    }
-}
-
-// Serves an office in this mode, and returns the exit status with the office.
+// Prints the address, serves the connections in this mode, and returns the exit status with the
+// office. If the address can't be printed, it serves none.
 fn serve_in_mode<N: Net + Clock, K: Keeper, M: PlanMode + Copy, W: Write, E: Write>(
     alloc: Global,
     clock: &N,
@@ -123,24 +78,23 @@ fn serve_in_mode<N: Net + Clock, K: Keeper, M: PlanMode + Copy, W: Write, E: Wri
     connections: &mut ConnectionCount,
 ) -> (u8, Office<K>)
     requires { AreFreshOutputs output.old errors.old }
-    ensures { ServesStore K.view E.contents W.contents M.takes listening.now.port listening.now.count
-        office output.old output.new errors.old errors.new connections.new result.0 result.1 }
+    ensures { let asked = listening.now in
+        ServesStore K.view E.contents W.contents M.takes asked.port asked.count office output.old
+        output.new errors.old errors.new connections.new result.0 result.1 }
 {
-    let mut handler = OfficeHandler::new(office, mode);
-    let status = serve_printed::<N, K, M, W, E>(
-        alloc,
-        clock,
-        listening,
-        &mut handler,
-        output,
-        errors,
-        connections,
-    );
-    (status, handler.into_office())
+    if print(output, listening_line(listening.port).as_bytes()) {
+        let mut handler = OfficeHandler::new(office, mode);
+        let listener = &listening.listener;
+        let ended = office_serve::<N, K, M>(alloc, clock, listener, listening.count, &mut handler);
+        let status = report_served(errors, connections, ended);
+        (status, handler.into_office())
+    } else {
+        (report_fault(errors, PipeFault::Write), office)
+    }
 }
 
-/// Prints the address, serves the connections, and returns the exit status with the office. If the
-/// address can't be printed, it serves none.
+/// Prints the address, serves the connections, with plans if they are asked for, and returns the
+/// exit status with the office. If the address can't be printed, it serves none.
 pub fn serve_store<N: Net + Clock, K: Keeper, W: Write, E: Write>(
     alloc: Global,
     clock: &N,

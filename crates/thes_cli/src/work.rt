@@ -24,9 +24,12 @@ use thes_jobs::progress::reporting_keeper::ReportingKeeper;
 use thes_jobs::trouble::report_unopened_store;
 use thes_jobs::work::{OutputWork, Work};
 use thes_office::Office;
+use thes_requests::request::DisplayRequest;
+use thes_sqlite::cause::FaultCause;
 use thes_store::keeper::Keeper;
 
-// Does work that reads no standard input over an office, and returns the exit status with the office.
+// Does work that reads no standard input over an office, and returns the exit status with the
+// office.
 fn do_output_work<N: Net + Clock, K: Keeper, F: Read + Drop, W: Write, E: Write>(
     alloc: Global,
     clock: &N,
@@ -55,7 +58,12 @@ fn do_output_work<N: Net + Clock, K: Keeper, F: Read + Drop, W: Write, E: Write>
         OutputWork::Check => (check_store(alloc, &mut office, output, errors), office),
         OutputWork::Export => (export_store(alloc, &mut office, output, errors), office),
         OutputWork::Display(display, DisplayOptions { scheme, lang }) => {
-            let status = display_store(alloc, &mut office, display, scheme, &lang, output, errors);
+            let wanted = DisplayRequest {
+                kind: display,
+                scheme,
+                tag: &lang,
+            };
+            let status = display_store(alloc, &mut office, &wanted, output, errors);
             (status, office)
         }
         OutputWork::Import(file, prints_it) => {
@@ -67,7 +75,14 @@ fn do_output_work<N: Net + Clock, K: Keeper, F: Read + Drop, W: Write, E: Write>
 
 /// Opens an office over a storage, works over it, and returns the exit status with the storage. The
 /// fault of a store that can't be opened is printed, after the name of its file if it has one.
-pub fn work_over_keeper<N: Net + Clock, K: Keeper, F: Read + Drop, R: Read, W: Write, E: Write>(
+pub fn work_over_keeper<
+    N: Net + Clock,
+    K: Keeper + FaultCause,
+    F: Read + Drop,
+    R: Read,
+    W: Write,
+    E: Write,
+>(
     alloc: Global,
     clock: &N,
     work: Work<F, N::Listener>,
@@ -86,7 +101,7 @@ pub fn work_over_keeper<N: Net + Clock, K: Keeper, F: Read + Drop, R: Read, W: W
         Err((fault, keeper)) => {
             drop(work);
             return (
-                report_unopened_store(&mut streams.errors, &file, fault),
+                report_unopened_store(&mut streams.errors, &file, keeper.cause(), fault),
                 keeper,
             );
         }
@@ -115,7 +130,7 @@ pub fn work_over_keeper<N: Net + Clock, K: Keeper, F: Read + Drop, R: Read, W: W
 /// generic over the storage, since the proof of a call sees all calls of the storage.
 pub fn work_with_progress<
     N: Net + Clock,
-    K: Keeper,
+    K: Keeper + FaultCause,
     P: Progress,
     F: Read + Drop,
     R: Read,

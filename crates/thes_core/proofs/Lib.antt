@@ -13,3 +13,6 @@ pub mod CopiedRowLemmas
 pub mod MergeDeltaLemmas
 pub mod DisplayLemmas
 pub mod PartLemmas
+pub mod TakingBackLemmas
+pub mod RelabelUndoLemmas
+pub mod UndoLogLemmas

@@ -3,7 +3,6 @@ use Rattle.std.proofs.lemmas.Grind.{common_steps}
 use Rattle.std.proofs.Common.{◌≡◌, ◌≢◌, ℕ, ◌+◌, List, [], ◌∷◌, ◌++◌, sym, ◌∙◌, subst, Bool, map, append_assoc}
 use Rattle.std.proofs.Common.{length, arith}
 use Rattle.std.specs.Prelude.{filter}
-use Rattle.std.specs.List.{filter_map}
 use Rattle.std.proofs.lemmas.List.{length-map}
 use Rattle.std.proofs.lemmas.List.Sums.{length-filter}
 use Rattle.std.specs.FinSet as set
@@ -15,10 +14,12 @@ use Rattle.thes_base.specs.Links.{Links, Holds, normal_form, links_after_merge}
 use Rattle.thes_base.specs.Postings.{is_assigned_to, assigned_count, move_count}
 use Rattle.thes_base.specs.Resources.{is_outside}
 use Rattle.thes_base.specs.Changes.{state_after_merge}
+use Rattle.thes_base.specs.Machine.{owned_label}
 use Rattle.thes_base.proofs.LinkSetLemmas.{links_total, links_exact}
 use Rattle.thes_links.specs.Reading.{IsRow}
 use Rattle.thes_post.proofs.PostingCountLemmas.{all_assigned}
-use Rattle.thes_vocab.specs.OwnLabels.{AreLabelsOf}
+use Rattle.thes_graph.specs.MergeAdditions.{AreMergeAdditions}
+use Rattle.thes_vocab.specs.CopiedLabels.{AreMissingLabels}
 use Rattle.thes_tables.specs.declared.change.Change.{Change}
 use Rattle.thes_tables.specs.declared.change.Change.TheVariants as change
 use Rattle.thes_tables.specs.Changes.{add_link, drop_link, new_moves}
@@ -27,7 +28,7 @@ use Rattle.thes_tables.specs.Tables.{IsUnsortedListing}
 use Rattle.thes_tables.proofs.ChangeLawLemmas.{leads_merge}
 use Rattle.thes_tables.proofs.RowSetLemmas.{absent_by, turn_into_by}
 use Rattle.thes_core.specs.declared.thesaurus.Thesaurus.{Thesaurus}
-use Rattle.thes_core.specs.Deltas.{link_added_by_merge, move_rows, copied_label_rows}
+use Rattle.thes_core.specs.Deltas.{move_rows}
 use Rattle.thes_core.specs.Facts.{assigned_posting_numbers}
 use Rattle.thes_core.specs.Requests.{PartsAccept}
 use Rattle.thes_core.specs.PartsView.{parts_state}
@@ -37,7 +38,7 @@ use Rattle.thes_base.proofs.RefusalRuleLemmas.{passed_unless}
 use Rattle.thes_core.proofs.OutsideLemmas.{concept_inside}
 use Rattle.thes_core.proofs.MergeLinkLemmas.{merge_goes, merge_comes}
 use Rattle.thes_core.proofs.RequestMoveLemmas.{moves_passing}
-use Rattle.thes_core.proofs.CopiedRowLemmas.{taken_absent, taken_same}
+use Rattle.thes_core.proofs.CopiedRowLemmas.{missing_absent, missing_same}
 
 -- A list of changes is the same however its parts are grouped.
 regroup : {A : Type 0} (x y : A) (a b c d : List A) → ((((x ∷ a) ++ b) ++ c) ++ y ∷ []) ++ d ≡ x ∷ a ++ (b ++ c) ++ y
@@ -46,7 +47,8 @@ regroup {A} x y a b c d = grind (arith, common_steps, append_assoc)
 
 module _ (t : Thesaurus) (hs : List History) (source target : ℕ) (ok : PartsAccept t hs (request.Merge source target))
     (gone : List Link) (row : IsRow t.graph.links source gone)
-    (own : List LabelData) (are : AreLabelsOf t.vocab.labels source own) where
+    (come : List Link) (added : AreMergeAdditions t.graph source target come)
+    (copies : List LabelData) (missing : AreMissingLabels t.vocab.labels source target copies) where
   ends_differ : source ≢ target
   ends_differ = merge_apart t hs source target ok
 
@@ -60,9 +62,6 @@ module _ (t : Thesaurus) (hs : List History) (source target : ℕ) (ok : PartsAc
   inside : set.contains t.graph.outside source ≡ set.contains t.graph.outside target
   inside = grind (arith, common_steps, concept_inside, passed_unless)
 
-  abbrev come : List Link
-  come = filter_map (link_added_by_merge t.graph source target) gone
-
   abbrev links_after_contract : (ℕ → Bool) → Links
   links_after_contract f = links_after_merge f source target t.graph.links
 
@@ -71,14 +70,14 @@ module _ (t : Thesaurus) (hs : List History) (source target : ℕ) (ok : PartsAc
   links_removed =
       subst (λ (f : ℕ → Bool). IsUnsortedListing (λ q. Holds t.graph.links q × (Holds (links_after_contract f) q → ⊥))
       gone) (outside_same t hs ok.kept)
-      (merge_goes t.graph source target ends_differ two normal inside gone row)
+      (merge_goes t.graph source target ends_differ two normal gone row)
 
   links_inserted : IsUnsortedListing (λ q. Holds (links_after_contract (is_outside t.vocab.resources)) q
       × (Holds t.graph.links q → ⊥)) come
   links_inserted =
       subst (λ (f : ℕ → Bool). IsUnsortedListing (λ q. Holds (links_after_contract f) q × (Holds t.graph.links q → ⊥))
       come) (outside_same t hs ok.kept)
-      (merge_comes t.graph source target ends_differ two normal inside gone row)
+      (merge_comes t.graph source target come inside added)
 
   abbrev first : ℕ
   first = move_count hs + 1
@@ -89,7 +88,7 @@ module _ (t : Thesaurus) (hs : List History) (source target : ℕ) (ok : PartsAc
       (all_assigned source target ends_differ hs)
 
   abbrev rows : List Change
-  rows = map change.AddLabel (copied_label_rows t.vocab.labels target own)
+  rows = map change.AddLabel (map (owned_label target) copies)
 
   abbrev Merges : List Change → Type 0
   Merges changes = AreChangesBetween t.vocab.base changes (parts_state t hs)
@@ -102,9 +101,9 @@ module _ (t : Thesaurus) (hs : List History) (source target : ℕ) (ok : PartsAc
       (parts_state t hs) (state_after_merge source target (parts_state t hs))
   merged_leads =
       let law = leads_merge t.vocab.base (parts_state t hs) ok.kept.legal source target
-      (copied_label_rows t.vocab.labels target own)
-      (taken_absent t.vocab.labels source target ok.kept.legal.labels.disjoint own are)
-      (taken_same t.vocab.labels source target ok.kept.legal.labels.disjoint own are)
+      (map (owned_label target) copies)
+      (missing_absent t.vocab.labels source target ok.kept.legal.labels.disjoint copies missing)
+      (missing_same t.vocab.labels source target ok.kept.legal.labels.disjoint copies missing)
       gone come
       (absent_by links_total links_exact t.graph.links (links_after_contract (is_outside t.vocab.resources)) gone come
       links_inserted)

@@ -30,7 +30,7 @@ test_passed rs n e = grind (arith, common_steps)
 pub concept_inside : (rs : List Resource) (n : ℕ) → IsConcept rs n → is_outside rs n ≡ false
 concept_inside rs n (r, at, concept) = grind (arith, common_steps)
 
-same_outside : (rs ss : List Resource) (n : ℕ) → (IsOutside rs n → IsOutside ss n) → (IsOutside ss n → IsOutside rs n)
+pub same_outside : (rs ss : List Resource) (n : ℕ) → (IsOutside rs n → IsOutside ss n) → (IsOutside ss n → IsOutside rs n)
     → is_outside rs n ≡ is_outside ss n
 same_outside rs ss n there back = both_ways _ _ (λ e. outside_test ss n (there (test_passed rs n e)))
     (λ e. outside_test rs n (back (test_passed ss n e)))

@@ -5,6 +5,7 @@ use Rattle.thes_base.specs.declared.fault.Fault.TheVariants.{OutOfMemory}
 use Rattle.thes_base.specs.declared.request.Command.{Command}
 use Rattle.thes_base.specs.declared.request.Command.TheVariants as request
 use Rattle.thes_base.specs.declared.request.Answer.{Answer}
+use Rattle.thes_base.specs.Legal.{IsLegalState}
 use Rattle.thes_base.specs.State.{State}
 use Rattle.thes_base.specs.Refusals.{Setting}
 use Rattle.thes_base.specs.Machine.{HasNewKey, Step, next_state, answer_of, refusal_rule_of}
@@ -13,7 +14,7 @@ use Rattle.thes_tables.specs.ChangeLaw.{AreChangesBetween}
 use Rattle.thes_core.specs.declared.facts.Facts.{Facts}
 use Rattle.thes_core.specs.declared.verdict.Verdict.{Verdict}
 use Rattle.thes_core.specs.declared.verdict.Verdict.TheVariants.{Settled, Accepted}
-use Rattle.thes_core.specs.CoreView.{CoreView, IsViewOf, with_histories}
+use Rattle.thes_core.specs.CoreView.{CoreView, IsViewOf, with_histories, without_postings}
 use Rattle.thes_core.specs.Facts.{AreFacts}
 
 -- The request passes all checks in this state, and its key, if it has one, is new.
@@ -54,6 +55,13 @@ IsAcceptedWithoutPostings setting s command = IsAccepted setting s command
 -- In the core's state without its postings, the request passes its checks, except those of the postings that it names.
 abbrev pub MayApply : CoreView → Command → Type 0
 MayApply core command = IsAcceptedWithoutPostings core.setting (with_histories [] core) command
+
+-- The request may be applied in the state `s`, which has no postings, and leads to the state `t`, apart from postings.
+pub record IsAppliedWithoutPostings (setting : Setting) (s : State) (command : Command) (t : State) : Type 0 where
+  pub bare : s.histories ≡ []
+  pub legal : IsLegalState setting.base s
+  pub may : IsAcceptedWithoutPostings setting s command
+  pub after : t ≡ without_postings (next_state command s)
 
 -- If the verdict accepts the request, it may be applied.
 abbrev pub VerdictMayApply : CoreView → Command → Verdict → Type 0

@@ -10,3 +10,5 @@ pub mod Requests
 pub mod PartsView
 pub mod LabelLists
 pub mod Terms
+pub mod Losses
+pub mod UndoLogs

@@ -29,8 +29,8 @@ impl Core {
         self.thesaurus.vocab.live_of(scheme)
     }
 
-    /// Returns the term that displays show for a concept: its preferred label in the language, or its number in square
-    /// brackets if it has none.
+    /// Returns the term that displays show for a concept: its preferred label in the language, or
+    /// its number in square brackets if it has none.
     pub fn term(&self, alloc: Global, n: ResNo, tag: &Tag) -> Result<String, AllocError>
         requires { self.now.spent ≡ false }
         ensures { IfOk result (λ text. string_bytes text ≡ term_text self.now.labels tag.now n) }

@@ -13,7 +13,8 @@ use thes_tables::rows::PostingRow;
 pub struct Facts {
     /// For a Post, the posting with its key, if there is one.
     pub known: Option<PostingRow>,
-    /// For a Withdraw or a Split, the postings that it lists, in the order of its list; `None` for an unknown one.
+    /// For a Withdraw or a Split, the postings that it lists, in the order of its list; `None` for
+    /// an unknown one.
     pub named_postings: Vec<Option<PostingRow>>,
     /// For a Merge, the numbers of the postings assigned to its source, in ascending order.
     pub standing: Vec<PostNo>,
@@ -33,8 +34,8 @@ impl Facts {
         }
     }
 
-    // Returns the row of the first posting that the request lists; None if it lists none, or if that posting is
-    // unknown.
+    // Returns the row of the first posting that the request lists; None if it lists none, or if
+    // that posting is unknown.
     pub(crate) fn first(&self) -> Option<&PostingRow>
         ensures { option_copied result ≡ first_named_posting self.now.named_postings.items }
     {

@@ -1,12 +1,12 @@
 //! The machine: the answer to each request and the state after it, with counts in place of the
 //! histories of postings.
-ghost use Rattle.std.specs.Prelude.{◌≡◌, false, IfOk, OnOk};
+ghost use Rattle.std.specs.Prelude.{◌≡◌, false, [], IfOk, OnOk};
 ghost use Rattle.thes_base.specs.State.{State, empty_state};
 ghost use Rattle.thes_base.specs.Headline.{IsConsistentState};
 ghost use Rattle.thes_base.specs.Machine.{next_state};
 ghost use Rattle.thes_core.specs.Facts.{AreFacts};
-ghost use Rattle.thes_core.specs.CoreView.{IsUsableWith, IsViewOf};
-ghost use Rattle.thes_core.specs.CoreDecisions.{IsAccepted, DecideResult, MayApply, ApplyFrame, CoreStepResult, VerdictMayApply};
+ghost use Rattle.thes_core.specs.CoreView.{IsUsableWith, IsViewOf, with_histories};
+ghost use Rattle.thes_core.specs.CoreDecisions.{IsAccepted, IsAppliedWithoutPostings, DecideResult, MayApply, ApplyFrame, CoreStepResult, VerdictMayApply};
 
 use crate::checking::known_answer;
 use crate::facts::Facts;
@@ -94,6 +94,8 @@ impl Core {
             → IsAccepted self.old.setting s command.now
             → OnOk result (IsViewOf self.new (next_state command.now s)) }
         ensures frame { ApplyFrame self.old result self.new }
+        ensures parts { OnOk result (IsAppliedWithoutPostings self.old.setting
+            (with_histories [] self.old) command.now (with_histories [] self.new)) }
     {
         // No effect; states the form of each text for the proof.
         command.learn_forms();

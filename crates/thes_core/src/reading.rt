@@ -36,8 +36,8 @@ pub struct Sizes {
 }
 
 impl Core {
-    /// Returns whether the core is unusable until it is loaded again: running out of memory has left
-    /// its state half changed, or `mark_spent` was called. The state of a usable core is
+    /// Returns whether the core is unusable until it is loaded again: running out of memory has
+    /// left its state half changed, or `mark_spent` was called. The state of a usable core is
     /// consistent: each posting that isn't withdrawn is assigned to exactly one live concept, the
     /// counts add up, and the triples meet the conditions of SKOS.
     pub fn is_spent(&self) -> bool
@@ -147,7 +147,8 @@ impl Core {
         self.thesaurus.vocab.outside_iri(n)
     }
 
-    /// Checks whether the link is held in its normal form, so that a symmetric link may be stated from either end.
+    /// Checks whether the link is held in its normal form, so that a symmetric link may be stated
+    /// from either end.
     pub fn has(&self, link: &Link) -> bool
         requires { self.now.spent ≡ false }
         ensures { let s = self.now in
@@ -204,8 +205,8 @@ impl Core {
         self.thesaurus.graph.mappings(alloc, n)
     }
 
-    /// Returns the typed hierarchical links of the concept as seen from it, sorted by the names of their types and then
-    /// by number.
+    /// Returns the typed hierarchical links of the concept as seen from it, sorted by the names of
+    /// their types and then by number.
     pub fn typed_of(&self, alloc: Global, n: ResNo) -> Result<Vec<(TypedKind, ResNo)>, AllocError>
         requires { self.now.spent ≡ false }
         ensures { let is_typed = IsTypedLink self.now.links n in

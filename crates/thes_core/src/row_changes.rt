@@ -24,7 +24,6 @@ use thes_base::data::{Label, LabelValue, Link, LinkKind, Resource, ResourceKind}
 use thes_base::number::ResNo;
 use thes_base::request::Command;
 use thes_base::text::{Iri, Tag, Text};
-use thes_links::normal_form::normalize_ends;
 use thes_tables::change::Change;
 use thes_tables::delta::Delta;
 use thes_tables::rows::{HierRow, HierType, LabelRow};
@@ -220,8 +219,8 @@ impl Thesaurus {
         Ok(delta)
     }
 
-    // Returns the changes that replace a preferred label, and keep the old one as an alternative label if `keep` is
-    // true; no changes if the owner has no preferred label in the language.
+    // Returns the changes that replace a preferred label, and keep the old one as an alternative
+    // label if `keep` is true; no changes if the owner has no preferred label in the language.
     fn changes_of_relabel(
         &self,
         owner: ResNo,
@@ -252,7 +251,6 @@ impl Thesaurus {
         requires { AreLegal self.now [] }
         ensures { result ≡ normal_form (is_outside self.now.vocab.resources) (link kind a b) }
     {
-        let outside = self.graph.is_outside(a) || self.graph.is_outside(b);
-        normalize_ends(&Link { kind, a, b }, outside)
+        self.graph.normal(&Link { kind, a, b })
     }
 }

@@ -1,4 +1,4 @@
-//! A core's decisions on requests.
+//! What a core decides on a request: the answer, and the changes of rows if it is accepted.
 use thes_base::request::Answer;
 use thes_tables::delta::Delta;
 

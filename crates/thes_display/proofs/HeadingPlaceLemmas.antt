@@ -93,7 +93,10 @@ module _ (headings : List Heading) where
       → IsStrictlySortedBy term_cmp (map (term_at headings) ks)
   unfolding IsStrictlySortedBy
   terms_rise rises [] s own = tt
-  terms_rise rises (k ∷ ks) s own = (below ks s.0 (λ j i. own j (inr i)), terms_rise rises ks s.1 (λ j i. own j (inr i)))
+  terms_rise rises (k ∷ ks) s own = (
+    below ks s.0 (λ j i. own j (inr i)),
+    terms_rise rises ks s.1 (λ j i. own j (inr i)),
+  )
     where
       below : (js : List ℕ) → AllByRecursion (λ j. nat_cmp k j ≡ Less) js
           → ((j : ℕ) → IsOneOf j js → (n : ℕ) × IsOwnAt headings n j)

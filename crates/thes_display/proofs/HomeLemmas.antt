@@ -112,7 +112,8 @@ module _ (links : Links) (terms : List Term) where
       at_rank None e = ⊎_elim
           (λ same. λ b r.
           let l = kept None e same b r in
-          let ne : m ≡ b → ⊥ = λ q. not_narrower e (kept None e same) (subst (IsNarrowerTerm links terms k) (sym q) r) in
+          let ne : m ≡ b → ⊥ = λ q. not_narrower e (kept None e same)
+          (subst (IsNarrowerTerm links terms k) (sym q) r) in
           omega (arith, l, ne))
           (λ s. absurd (none_some (sym e ∙ s.4))) (set.same k)
         where

@@ -58,7 +58,12 @@ module _ (homes : List (Option ℕ)) where
   is_gathered links terms tops below are t a = record {
     size = a.size;
     tops_listed = listing_as child_cmp _ _ tops (λ c i. (i.0, root c.rank i.1 i.2))
-        (λ c i. (i.0, rank_within terms i.1.concept c.rank i.1.rank, homeless c.rank i.1 (rank_at homes c.rank) refl)) t;
+        (λ c i. (
+          i.0,
+          rank_within terms i.1.concept c.rank i.1.rank,
+          homeless c.rank i.1 (rank_at homes c.rank)
+              refl,
+        )) t;
     below_listed = a.each;
   }
     where
@@ -67,7 +72,11 @@ module _ (homes : List (Option ℕ)) where
           let none = subst (IsHomeBelow links terms (length terms) k) e (are k) in
           record {
             concept = _;
-            rank = record { term = _; term_at = slice_get-get_or terms k (record { text = []; concept = 0 }) l; concept = refl };
+            rank = record {
+              term = _;
+              term_at = slice_get-get_or terms k (record { text = []; concept = 0 }) l;
+              concept = refl;
+            };
             none = λ b r. let m = none b r in let w = rank_within terms r.upper b r.upper_rank in omega (arith, m, w);
           }
 

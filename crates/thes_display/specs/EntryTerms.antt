@@ -46,7 +46,8 @@ concepts_on sides Narrower = sides.narrower.items
 abbrev pub HasNoTypedLink : Links → ℕ → Type 0
 HasNoTypedLink links n = (t : TypedKind × ℕ) → IsTypedLink links n t → ⊥
 
--- The record lists the concepts on both sides of its concept, and says that no link to them has a type only if none has.
+-- The record lists the concepts on both sides of its concept, and says that no link to them has a type only if none
+-- has.
 pub record AreSides (links : Links) (sides : Sides) : Type 0 where
   pub each_side : (side : Side) → IsListing nat_cmp (IsOnSide links side sides.concept) (concepts_on sides side)
   pub no_typed_link : sides.is_typed ≡ false → HasNoTypedLink links sides.concept

@@ -19,7 +19,7 @@ pub record IsSchemeTerm (s : State) (scheme : ℕ) (tag : List ℕ) (t : Term) :
   pub in_scheme : IsConceptOf s.resources scheme t.concept
   pub term : t.text ≡ term_text s.labels tag t.concept
 
--- The list has the terms of the live concepts of the scheme, in alphabetical order.
+-- The list has the terms, in the language, of the scheme's live concepts, each once, in alphabetical order.
 abbrev pub AreTerms : State → ℕ → List ℕ → List Term → Type 0
 AreTerms s scheme tag terms = IsListing term_cmp (IsSchemeTerm s scheme tag) terms
 

@@ -4,9 +4,10 @@ ghost use Rattle.thes_base.specs.Listing.{IsListing};
 ghost use Rattle.thes_base.specs.State.{State};
 ghost use Rattle.thes_core.specs.CoreView.{IsViewOf, with_histories};
 ghost use Rattle.thes_display.specs.TextAppends.{AppendsText};
-ghost use Rattle.thes_display.specs.Alphabetical.{AreLinesOf, AreTexts, IsAlphabetical, IsEntry, IsHeading, heading_cmp, entry_line, symbol_text, symbols};
+ghost use Rattle.thes_display.specs.Alphabetical.{AreTexts, IsAlphabetical, IsEntry, IsHeading, heading_cmp, entry_line, symbol_text, symbols};
 ghost use Rattle.thes_display.specs.EntryTerms.{AreSides};
-ghost use Rattle.thes_display.specs.HeadingIndex.{IsHeadingIndex, term_at};
+ghost use Rattle.thes_display.specs.EntrySource.{AreSourceLines, IsEntrySource};
+ghost use Rattle.thes_display.specs.HeadingIndex.{term_at};
 ghost use Rattle.thes_display.specs.Headings.{heading_key, IsHeadingAt};
 
 use crate::entry_terms::{Sides, labels_in, sides_of, terms_under};
@@ -111,22 +112,28 @@ fn push_entry_line(text: &mut Vec<u8>, symbol: &[u8], shown: &[u8]) -> Result<()
     Ok(())
 }
 
+// What the entries of a display are made of: the state, the language, and the headings.
+#[derive(Clone, Copy)]
+struct EntrySource<'a> {
+    alloc: Global,
+    core: &'a Core,
+    tag: &'a Tag,
+    index: &'a HeadingIndex,
+}
+
 // Appends the lines of one symbol, with terms made for it.
 fn write_terms(
-    alloc: Global,
+    source: &EntrySource<'_>,
     text: &mut Vec<u8>,
-    core: &Core,
     sides: &Sides,
-    tag: &Tag,
     symbol: Symbol,
 ) -> Result<(), AllocError>
-    requires unspent { core.now.spent ≡ false }
-    requires sides { AreSides core.now.links sides.now }
-    ensures { let n = sides.now.concept in
-        let are_lines = AreLinesOf (with_histories [] core.now) tag.now n symbol in
+    requires unspent { source.now.core.now.spent ≡ false }
+    requires sides { AreSides source.now.core.now.links sides.now }
+    ensures { let are_lines = AreSourceLines source.now sides.now.concept symbol in
         OnOk result (AppendsText are_lines text.old.items text.new.items) }
 {
-    let terms = terms_under(alloc, core, sides, tag, symbol)?;
+    let terms = terms_under(source.alloc, source.core, sides, source.tag, symbol)?;
     for term in &terms {
         push_entry_line(text, symbol.text().as_bytes(), term.text())?;
     }
@@ -161,73 +168,65 @@ fn write_places(
 
 // Appends the lines of one symbol, in alphabetical order.
 fn write_symbol(
-    alloc: Global,
+    source: &EntrySource<'_>,
     text: &mut Vec<u8>,
-    core: &Core,
-    index: &HeadingIndex,
     sides: &Sides,
-    tag: &Tag,
     symbol: Symbol,
 ) -> Result<(), AllocError>
-    requires unspent { core.now.spent ≡ false }
-    requires index { IsHeadingIndex (with_histories [] core.now) tag.now index.now }
-    requires sides { AreSides core.now.links sides.now }
-    ensures { let n = sides.now.concept in
-        let are_lines = AreLinesOf (with_histories [] core.now) tag.now n symbol in
+    requires source { IsEntrySource source.now }
+    requires sides { AreSides source.now.core.now.links sides.now }
+    ensures { let are_lines = AreSourceLines source.now sides.now.concept symbol in
         OnOk result (AppendsText are_lines text.old.items text.new.items) }
 {
-    match places_under(alloc, core, index, sides, symbol)? {
-        Some(places) => { write_places(text, index.headings.as_slice(), places.as_slice(), symbol) }
-        None => write_terms(alloc, text, core, sides, tag, symbol),
+    match places_under(source.alloc, source.core, source.index, sides, symbol)? {
+        Some(places) => write_places(
+            text,
+            source.index.headings.as_slice(),
+            places.as_slice(),
+            symbol,
+        ),
+        None => write_terms(source, text, sides, symbol),
     }
 }
 
 // Appends the lines of all symbols, in the order of `Symbol::all`.
 fn write_symbols(
-    alloc: Global,
+    source: &EntrySource<'_>,
     text: &mut Vec<u8>,
-    core: &Core,
-    index: &HeadingIndex,
     sides: &Sides,
-    tag: &Tag,
 ) -> Result<(), AllocError>
-    requires unspent { core.now.spent ≡ false }
-    requires index { IsHeadingIndex (with_histories [] core.now) tag.now index.now }
-    requires sides { AreSides core.now.links sides.now }
-    ensures { let are_lines = AreTexts
-        (AreLinesOf (with_histories [] core.now) tag.now sides.now.concept) symbols in
+    requires source { IsEntrySource source.now }
+    requires sides { AreSides source.now.core.now.links sides.now }
+    ensures { let are_lines = AreTexts (AreSourceLines source.now sides.now.concept) symbols in
         OnOk result (AppendsText are_lines text.old.items text.new.items) }
 {
     let symbols = Symbol::all();
     for symbol in &symbols {
-        write_symbol(alloc, text, core, index, sides, tag, *symbol)?;
+        write_symbol(source, text, sides, *symbol)?;
     }
     Ok(())
 }
 
 // Appends an entry: a term with its lines, or a lead-in term with the term to use (USE).
 fn write_entry(
-    alloc: Global,
+    source: &EntrySource<'_>,
     text: &mut Vec<u8>,
-    core: &Core,
-    index: &HeadingIndex,
     heading: &Heading,
-    tag: &Tag,
 ) -> Result<(), AllocError>
-    requires unspent { core.now.spent ≡ false }
-    requires index { IsHeadingIndex (with_histories [] core.now) tag.now index.now }
-    ensures { let is_entry = IsEntry (with_histories [] core.now) tag.now heading.now in
+    requires { IsEntrySource source.now }
+    ensures { let s = with_histories [] source.now.core.now in
+        let is_entry = IsEntry s source.now.tag.now heading.now in
         OnOk result (AppendsText is_entry text.old.items text.new.items) }
 {
     let n = heading.term.concept();
     text.extend_from_slice(heading.term.text())?;
     text.push(b'\n')?;
     if heading.lead_in {
-        let preferred = core.term(alloc, n, tag)?;
+        let preferred = source.core.term(source.alloc, n, source.tag)?;
         push_entry_line(text, b"USE", preferred.as_bytes())?;
     } else {
-        let sides = sides_of(alloc, core, n)?;
-        write_symbols(alloc, text, core, index, &sides, tag)?;
+        let sides = sides_of(source.alloc, source.core, n)?;
+        write_symbols(source, text, &sides)?;
     }
     Ok(())
 }
@@ -245,9 +244,15 @@ pub fn alphabetical_text(
 {
     let headings = headings_of(alloc, core, scheme, tag)?;
     let index = index_of(alloc, headings)?;
+    let source = EntrySource {
+        alloc,
+        core,
+        tag,
+        index: &index,
+    };
     let mut text = Vec::new(alloc);
     for heading in &index.headings {
-        write_entry(alloc, &mut text, core, &index, heading, tag)?;
+        write_entry(&source, &mut text, heading)?;
     }
     Ok(text)
 }

@@ -81,8 +81,8 @@ pub(crate) enum Side {
     Narrower,
 }
 
-/// The concepts that hierarchical links of any kind join to one, in ascending order on each side, and whether one of
-/// these links has a type.
+/// The concepts that hierarchical links of any kind join to one, in ascending order on each side,
+/// and whether one of these links has a type.
 #[derive(Drop)]
 pub struct Sides {
     pub concept: ResNo,

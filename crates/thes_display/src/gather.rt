@@ -84,26 +84,35 @@ fn types_at(core: &Core, terms: &[Term], is_typed: bool, child: usize, rank: usi
     }
 }
 
-// Returns the children of a concept, sorted by rank: its narrower concepts that have a rank. It is the home of those
-// that have none among the concepts before it.
+// The terms of a scheme's concepts, sorted, and the rank of each concept, which is its term's
+// place.
+#[derive(Clone, Copy)]
+struct RankedTerms<'a> {
+    terms: &'a [Term],
+    ranks: &'a [Option<usize>],
+}
+
+// Returns the children of a concept, sorted by rank: its narrower concepts that have a rank. It is
+// the home of those that have none among the concepts before it.
 fn children_of(
     alloc: Global,
     core: &Core,
-    terms: &[Term],
-    ranks: &[Option<usize>],
+    ranked: &RankedTerms<'_>,
     homes: &[Option<usize>],
     rank: usize,
 ) -> Result<Vec<Child>, AllocError>
-    requires links { CanFollowLinks core.now terms.now (rank_at ranks.now) }
-    requires within { rank < length terms.now }
-    requires homes { AreHomes core.now.links terms.now rank homes.now }
-    ensures { IfOk result
-        (λ children. IsListing child_cmp (IsChild core.now.links terms.now rank) children.items) }
+    requires links { CanFollowLinks core.now ranked.now.terms.now (rank_at ranked.now.ranks.now) }
+    requires within { rank < length ranked.now.terms.now }
+    requires homes { AreHomes core.now.links ranked.now.terms.now rank homes.now }
+    ensures { let is_child = IsChild core.now.links ranked.now.terms.now rank in
+        IfOk result (λ children. IsListing child_cmp is_child children.items) }
 {
+    let terms = ranked.terms;
     let n = terms[rank].concept();
     let narrower = core.narrower_of(alloc, n)?;
     let is_typed = has_typed_link(alloc, core, n)?;
-    let found = ranks_at(alloc, ranks, narrower.as_slice())?;
+    // Without links to concepts that have no rank (DECISIONS.md, Displays and exports).
+    let found = ranks_at(alloc, ranked.ranks, narrower.as_slice())?;
     let mut children = Vec::new(alloc);
     for child in &found {
         let types = types_at(core, terms, is_typed, *child, rank);
@@ -138,20 +147,19 @@ fn set_homes(
 fn below_of(
     alloc: Global,
     core: &Core,
-    terms: &[Term],
-    ranks: &[Option<usize>],
+    ranked: &RankedTerms<'_>,
     homes: &mut Vec<Option<usize>>,
 ) -> Result<Vec<Vec<Child>>, AllocError>
-    requires links { CanFollowLinks core.now terms.now (rank_at ranks.now) }
+    requires links { CanFollowLinks core.now ranked.now.terms.now (rank_at ranked.now.ranks.now) }
     requires none { homes.old.items ≡ [] }
-    ensures below { IfOk result
-        (λ below. AreBelow core.now.links terms.now (length terms.now) (lists below.items)) }
-    ensures homes { OnOk result
-        (AreHomes core.now.links terms.now (length terms.now) homes.new.items) }
+    ensures below { let terms = ranked.now.terms.now in
+        IfOk result (λ below. AreBelow core.now.links terms (length terms) (lists below.items)) }
+    ensures homes { let terms = ranked.now.terms.now in
+        OnOk result (AreHomes core.now.links terms (length terms) homes.new.items) }
 {
     let mut below = Vec::new(alloc);
-    for rank in 0..terms.len() {
-        let children = children_of(alloc, core, terms, ranks, homes, rank)?;
+    for rank in 0..ranked.terms.len() {
+        let children = children_of(alloc, core, ranked, homes, rank)?;
         set_homes(homes, children.as_slice(), rank)?;
         below.push(children)?;
     }
@@ -191,8 +199,9 @@ pub fn hierarchical_text(
     let terms = owned.as_slice();
     let owned_ranks = ranks_of(alloc, terms)?;
     let ranks = owned_ranks.as_slice();
+    let ranked = RankedTerms { terms, ranks };
     let mut homes = Vec::new(alloc);
-    let below = below_of(alloc, core, terms, ranks, &mut homes)?;
+    let below = below_of(alloc, core, &ranked, &mut homes)?;
     let tops = tops_of(alloc, homes.as_slice(), terms.len())?;
     let text = hierarchy_text(alloc, terms, tops, below)?;
     Ok(text)

@@ -86,8 +86,8 @@ fn sorted_places(
     Ok(Some(found))
 }
 
-/// Returns the places of the terms for a symbol in the entry of a concept, in alphabetical order. Returns None if the
-/// symbol is for labels, or one of the terms has no heading.
+/// Returns the places of the terms for a symbol in the entry of a concept, in alphabetical order.
+/// Returns None if the symbol is for labels, or one of the terms has no heading.
 pub fn places_under(
     alloc: Global,
     core: &Core,

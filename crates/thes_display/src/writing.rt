@@ -18,7 +18,7 @@ use thes_base::number::ResNo;
 use thes_base::pipe::Pipe;
 use thes_base::text::Tag;
 use thes_core::Core;
-use thes_requests::request::Display;
+use thes_requests::request::{Display, DisplayRequest};
 
 /// The outcome of writing a display that no fault stopped.
 #[derive(Clone, Copy, Debug, PartialEq, Eq)]
@@ -27,14 +27,6 @@ pub enum DisplayOutcome {
     Written,
     /// The number isn't a scheme's, and nothing was written.
     No(Refusal),
-}
-
-/// What is asked for: the kind of a display, the number of a scheme, and a language.
-#[derive(Clone, Copy)]
-pub struct DisplayRequest<'a> {
-    pub kind: Display,
-    pub scheme: ResNo,
-    pub tag: &'a Tag,
 }
 
 /// Checks that the number is a scheme's: returns None if it is, or else UnknownResource or

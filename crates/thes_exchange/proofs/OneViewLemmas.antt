@@ -142,10 +142,10 @@ one_refusal s (asked.Posting n) r q x y =
     let same : Some r ≡ Some q = one_posting_refusal s n (Some r) (Some q) x y in cc
 
 pub one_view : HasOneView
-one_view s query (viewed.Line x) (viewed.Line y) a b =
-    ap viewed.Line (one_line s query x y (line_of s query a.0 x a.1 a.2) (line_of s query b.0 y b.1 b.2))
-one_view s query (viewed.Line x) (viewed.No r) a b =
+one_view s query (viewed.Page x) (viewed.Page y) a b =
+    ap viewed.Page (one_line s query x y (line_of s query a.0 x a.1 a.2) (line_of s query b.0 y b.1 b.2))
+one_view s query (viewed.Page x) (viewed.No r) a b =
     absurd (not_both s query x r (line_of s query a.0 x a.1 a.2) b)
-one_view s query (viewed.No r) (viewed.Line y) a b =
+one_view s query (viewed.No r) (viewed.Page y) a b =
     absurd (not_both s query y r (line_of s query b.0 y b.1 b.2) a)
 one_view s query (viewed.No r) (viewed.No q) a b = ap viewed.No (one_refusal s query r q a b)

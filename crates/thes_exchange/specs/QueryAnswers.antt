@@ -22,7 +22,7 @@ IsViewLine view text = text ≡ view_text view
 
 -- The answer to a query in a state: the line of the view or the refusal, unless memory runs out.
 abbrev pub IsQueryAnswer : State → Query → Result QueryAnswer Fault → Type 0
-IsQueryAnswer s query (Ok (viewed.Line text)) =
+IsQueryAnswer s query (Ok (viewed.Page text)) =
     (view : View) × IsView s query view × IsViewLine view text
 IsQueryAnswer s query (Ok (viewed.No r)) = IsView s query (views.No r)
 IsQueryAnswer s query (Err fault) = fault ≡ OutOfMemory

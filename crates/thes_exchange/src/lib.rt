@@ -1,4 +1,5 @@
-//! Views of a core, as lines of JSON: totals, a concept, the postings of a concept, and a posting.
+//! The answers to queries as lines of JSON: totals, a concept, the postings of a concept, and a
+//! posting.
 #![tactic(auto)]
 
 pub mod concept;

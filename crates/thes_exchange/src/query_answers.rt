@@ -12,7 +12,8 @@ use std::alloc::{AllocError, Global};
 use std::io::Write;
 use thes_base::fault::PipeFault;
 use thes_base::pipe::Pipe;
-use thes_requests::handler::{QueryAnswer, ViewLine};
+use thes_requests::handler::QueryAnswer;
+use thes_requests::page::Page;
 use thes_requests::request::Query;
 
 /// Returns the answer to a query: the line of the view, or the refusal of the number.
@@ -22,7 +23,7 @@ pub fn query_answer(alloc: Global, view: &View) -> Result<QueryAnswer, AllocErro
 {
     match view {
         View::No(refusal) => Ok(QueryAnswer::No(*refusal)),
-        _ => Ok(QueryAnswer::Line(ViewLine::new(view_line(alloc, view)?))),
+        _ => Ok(QueryAnswer::Page(Page::new(view_line(alloc, view)?))),
     }
 }
 

@@ -438,46 +438,16 @@ pub(crate) fn value_line(alloc: Global, value: &Value) -> Result<Vec<u8>, AllocE
     Ok(text)
 }
 
-// Returns the line of JSON for the totals.
-fn totals_line(alloc: Global, totals: &Totals) -> Result<Vec<u8>, AllocError>
-    ensures { IfOk result (λ text. text.items ≡ line_text (totals_data totals.now)) }
-{
-    value_line(alloc, &totals_value(alloc, totals)?)
-}
-
-// Returns the line of JSON for a concept.
-#[tactic(auto, using(crate::proofs::ViewLemmas::concept_has_no_float))]
-fn concept_line(alloc: Global, concept: &ConceptView) -> Result<Vec<u8>, AllocError>
-    ensures { IfOk result (λ text. text.items ≡ line_text (concept_data concept.now)) }
-{
-    value_line(alloc, &concept_value(alloc, concept)?)
-}
-
-// Returns the line of JSON for the postings of a concept.
-#[tactic(auto, using(crate::proofs::ViewLemmas::postings_have_no_float))]
-fn postings_line(alloc: Global, postings: &PostingRows) -> Result<Vec<u8>, AllocError>
-    ensures { IfOk result (λ text. text.items ≡ line_text (postings_data postings.now)) }
-{
-    value_line(alloc, &postings_value(alloc, postings)?)
-}
-
-// Returns the line of JSON for a posting.
-#[tactic(auto, using(crate::proofs::ViewLemmas::posting_has_no_float))]
-fn posting_line(alloc: Global, history: &History) -> Result<Vec<u8>, AllocError>
-    ensures { IfOk result (λ text. text.items ≡ line_text (posting_data history.now)) }
-{
-    value_line(alloc, &posting_value(alloc, history)?)
-}
-
 // Returns the line of JSON for a view or a refusal.
+#[tactic(auto, using(crate::proofs::ViewLemmas::concept_has_no_float, crate::proofs::ViewLemmas::postings_have_no_float, crate::proofs::ViewLemmas::posting_has_no_float))]
 pub(crate) fn view_line(alloc: Global, view: &View) -> Result<Vec<u8>, AllocError>
     ensures { IfOk result (λ text. text.items ≡ view_text view.now) }
 {
     match view {
-        View::Totals(totals) => totals_line(alloc, totals),
-        View::Concept(concept) => concept_line(alloc, concept),
-        View::Postings(postings) => postings_line(alloc, postings),
-        View::Posting(history) => posting_line(alloc, history),
+        View::Totals(totals) => value_line(alloc, &totals_value(alloc, totals)?),
+        View::Concept(concept) => value_line(alloc, &concept_value(alloc, concept)?),
+        View::Postings(postings) => value_line(alloc, &postings_value(alloc, postings)?),
+        View::Posting(history) => value_line(alloc, &posting_value(alloc, history)?),
         View::No(refusal) => Vec::from_slice(alloc, refusal_line(*refusal).as_bytes()),
     }
 }

@@ -82,7 +82,8 @@ module _ (core : CoreView) (i n : ℕ) (next : n ≡ i + 1) where
   pub members_first : (lists : Lists ℕ) → AreMembersUpTo core i lists
       → AreListings nat_cmp (IsMemberBefore core i n []) lists
   members_first lists are =
-      listings_same nat_cmp (IsMemberUpTo core i) (IsMemberBefore core i n []) lists lists (λ m. refl) (λ m x is. inl is)
+      listings_same nat_cmp (IsMemberUpTo core i) (IsMemberBefore core i n []) lists lists (λ m. refl)
+      (λ m x is. inl is)
       (λ m x is. ⊎_elim (λ was. was) (λ new. absurd (Contains-none m new.1)) is) are.listings
 
   pub members_next : (ks : List ℕ) (j k : ℕ) (old new : Lists ℕ) → j < length ks → k ≡ get_or ks j k

@@ -45,13 +45,28 @@ ordered_by_iri [] (d ∷ b) one two other x y u v = then_same (nat_cmp 62 d) _ _
     (λ e. absurd (iri_not d 62 (All-head IsIriByte d b two) (sym (exact_unsigned 62 d e)) refl))
 ordered_by_iri (c ∷ a) [] one two other x y u v = then_same (nat_cmp c 62) _ _
     (λ e. absurd (iri_not c 62 (All-head IsIriByte c a one) (exact_unsigned c 62 e) refl))
-ordered_by_iri (c ∷ a) (d ∷ b) one two other x y u v = grind (arith, common_steps, All-tail, exact_unsigned, then_same, ordered_by_iri a b (All-tail IsIriByte c a one) (All-tail IsIriByte d b two))
+ordered_by_iri (c ∷ a) (d ∷ b) one two other x y u v = grind (
+  arith,
+  common_steps,
+  All-tail,
+  exact_unsigned,
+  then_same,
+  ordered_by_iri a b (All-tail IsIriByte c a one) (All-tail IsIriByte d b two),
+)
 
 same_iri : (a b : List ℕ) → All IsIriByte a → All IsIriByte b → (x y : List ℕ) → a ++ 62 ∷ x ≡ b ++ 62 ∷ y → a ≡ b
 same_iri [] [] one two x y e = refl
 same_iri [] (d ∷ b) one two x y e = grind (arith, common_steps, All-head, head_of, iri_not)
 same_iri (c ∷ a) [] one two x y e = absurd (iri_not c 62 (All-head IsIriByte c a one) (head_of _ _ _ _ e) refl)
-same_iri (c ∷ a) (d ∷ b) one two x y e = grind (arith, common_steps, All-tail, head_of, tail_of, same_iri a b (All-tail IsIriByte c a one) (All-tail IsIriByte d b two) x y (tail_of _ _ _ _ e))
+same_iri (c ∷ a) (d ∷ b) one two x y e = grind (
+  arith,
+  common_steps,
+  All-tail,
+  head_of,
+  tail_of,
+  same_iri a b
+      (All-tail IsIriByte c a one) (All-tail IsIriByte d b two) x y (tail_of _ _ _ _ e),
+)
 
 -- The text begins with the IRI in angle brackets.
 abbrev Begins : List ℕ → List ℕ → Type 0
@@ -176,7 +191,8 @@ module _ (core : CoreView) (hs : List History) (legal : IsLegalState core.settin
       → ((x : List ℕ) → Contains texts x → IsPart x) → AreLinesOf texts
   lines_found [] sorted each = grind (arith, common_steps, Contains-none, sorted_none)
   lines_found (x ∷ xs) sorted each =
-      let more = lines_found xs (sorted_tail (slice_cmp nat_cmp) x xs sorted) (λ y c. each y (Contains-later x xs y c)) in
+      let more = lines_found xs (sorted_tail (slice_cmp nat_cmp) x xs sorted)
+      (λ y c. each y (Contains-later x xs y c)) in
       let one = each x (Contains-head x xs) in
       let part = one.2 in
       let own = part.0 in
@@ -195,7 +211,8 @@ module _ (core : CoreView) (hs : List History) (legal : IsLegalState core.settin
             (Contains-append_cases own more.lines l c);
         complete = λ y l n there c of about. ⊎_elim
             (λ same. Contains-append_left own more.lines l (listed.complete l
-            (subst (λ m. IsAbout m l) (one_resource n one.0 x l there one.1 (subst (IsPartOf core n) (sym same) of) about part) about)))
+            (subst (λ m. IsAbout m l) (one_resource n one.0 x l there one.1
+            (subst (IsPartOf core n) (sym same) of) about part) about)))
             (λ later. Contains-append_right own more.lines l (more.complete y l n there later of about))
             (Contains-cons_cases x xs y c);
       }

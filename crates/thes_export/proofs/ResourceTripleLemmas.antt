@@ -137,8 +137,12 @@ module _ (core : CoreView) (hs : List History) (legal : IsLegalState core.settin
   node_written property.TopConceptOf x y (c, m, top, d, e) = topic_written c Top _ (live_found c m top)
       (m, top_in c m top, nodes property.TopConceptOf c m x y d e)
   node_written property.HasTopConcept x y (m, c, top, d, e) =
-      topic_written m TopConcepts _ (scheme_found c m top)
-      (c, counted (λ n. IsTopIn core n m) c (live_found c m top) (top_in c m top), nodes property.HasTopConcept m c x y d e)
+      topic_written m TopConcepts _ (scheme_found c m top) (
+        c,
+        counted (λ n. IsTopIn core n m) c (live_found c m top)
+            (top_in c m top),
+        nodes property.HasTopConcept m c x y d e,
+      )
   node_written property.IsReplacedBy x y (m, n, by, d, e) = topic_written m Replacement _ (by.0, by.1)
       (n, by, nodes property.IsReplacedBy m n x y d e)
   node_written property.Broader x y (m, n, l, d, e) = let has = broader_link m n l in
@@ -250,7 +254,18 @@ module _ (core : CoreView) (hs : List History) (legal : IsLegalState core.settin
 
   -- Each triple written is asserted by the state, topic by topic.
   said_of : (topic : Topic) (n : ℕ) (t : Triple) → IsTopicTriple core topic n t → IsAsserted base k t
-  said_of topic n t h = grind (arith, common_steps, asserted_same, belongs, class_said, label_said, link_broader, link_kind, map_said, top_said)
+  said_of topic n t h = grind (
+    arith,
+    common_steps,
+    asserted_same,
+    belongs,
+    class_said,
+    label_said,
+    link_broader,
+    link_kind,
+    map_said,
+    top_said,
+  )
 
   pub written_to : (n : ℕ) (t : Triple) → IsResourceTriple core n t → IsAsserted base k t
   written_to n t (topic, is) = said_of topic n t is

@@ -53,7 +53,15 @@ iri_pieces [] (Plain b ∷ ps) x y own their e = grind (arith, common_steps, All
 iri_pieces [] (Echar b ∷ ps) x y own their e = absurd (All-head IsIriPiece (Echar b) ps their)
 iri_pieces [] (Uchar b ds ∷ ps) x y own their e = heads_differ _ _ _ _ (λ q. omega arith) e
 iri_pieces (c ∷ iri) [] x y own their e = absurd (iri_not c 62 (All-head IsIriByte c iri own) (head_of _ _ _ _ e) refl)
-iri_pieces (c ∷ iri) (Plain b ∷ ps) x y own their e = grind (arith, common_steps, All-tail, head_of, tail_of, iri_pieces iri ps x y (All-tail IsIriByte c iri own) (All-tail IsIriPiece (Plain b) ps their) (tail_of _ _ _ _ e))
+iri_pieces (c ∷ iri) (Plain b ∷ ps) x y own their e = grind (
+  arith,
+  common_steps,
+  All-tail,
+  head_of,
+  tail_of,
+  iri_pieces
+      iri ps x y (All-tail IsIriByte c iri own) (All-tail IsIriPiece (Plain b) ps their) (tail_of _ _ _ _ e),
+)
 iri_pieces (c ∷ iri) (Echar b ∷ ps) x y own their e = absurd (All-head IsIriPiece (Echar b) ps their)
 iri_pieces (c ∷ iri) (Uchar b ds ∷ ps) x y own their e = grind (arith, common_steps, All-head, head_of, iri_not)
 
@@ -139,7 +147,15 @@ pub run_same : (a b x y : List ℕ) → All IsTagByte a → All IsTagByte b → 
 run_same [] [] x y h k s t e = (refl, e)
 run_same [] (q ∷ b) x y h k s t e = absurd (subst Stops e s (All-head IsTagByte q b k))
 run_same (r ∷ a) [] x y h k s t e = absurd (subst Stops (sym e) t (All-head IsTagByte r a h))
-run_same (r ∷ a) (q ∷ b) x y h k s t e = grind (arith, common_steps, All-tail, head_of, tail_of, run_same a b x y (All-tail IsTagByte r a h) (All-tail IsTagByte q b k) s t (tail_of _ _ _ _ e))
+run_same (r ∷ a) (q ∷ b) x y h k s t e = grind (
+  arith,
+  common_steps,
+  All-tail,
+  head_of,
+  tail_of,
+  run_same a b x y
+      (All-tail IsTagByte r a h) (All-tail IsTagByte q b k) s t (tail_of _ _ _ _ e),
+)
 
 pub part_bytes : (parts : List (List ℕ)) → All (AreSome IsAsciiAlphanumeric) parts
     → All IsTagByte (flat_map (λ part. 45 ∷ part) parts)

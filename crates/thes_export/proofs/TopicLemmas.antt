@@ -83,7 +83,15 @@ module _ (core : CoreView) (n : ℕ) (r : Resource) where
   pub death_line : (line : List ℕ) (old new : List (List ℕ)) → entry_at core.resources n ≡ Some r
       → (is_concept_kind r.kind && not r.live) ≡ true → line ≡ line_of (dead_triple core n) → Adds (λ l. l ≡ line) old
       new → Adds (IsLineOf (IsTopicTriple core Death n)) old new
-  death_line line old new found e spelling = grind (arith, common_steps, and_parts, both_ways, not-true, one_triple, same_resource)
+  death_line line old new found e spelling = grind (
+    arith,
+    common_steps,
+    and_parts,
+    both_ways,
+    not-true,
+    one_triple,
+    same_resource,
+  )
 
   -- The lines of a top concept are those of its topic.
 
@@ -105,7 +113,8 @@ module _ (core : CoreView) (n : ℕ) where
   same_top m k a b = let q : Some k ≡ Some m = sym b.1 ∙ a.1 in cc
 
   pub top_line : (m : ℕ) (old new : List (List ℕ)) → IsTopIn core n m
-      → Adds (IsLineOf (IsNode core n property.TopConceptOf m)) old new → Adds (IsLineOf (IsTopicTriple core Top n)) old new
+      → Adds (IsLineOf (IsNode core n property.TopConceptOf m)) old new
+      → Adds (IsLineOf (IsTopicTriple core Top n)) old new
   top_line m old new top = grind (arith, common_steps, same_lines, same_top)
 
   -- The lines of labels are those of their topic.
@@ -115,7 +124,8 @@ module _ (core : CoreView) (n : ℕ) where
     pub adds : Adds (IsLineOf (OfSome (λ (d : LabelData) (t : Triple). t ≡ label_triple core n d) (take i own))) old new
 
   pub label_lines : (own : List LabelData) (i : ℕ) (old new : List (List ℕ)) → length own ≤ i
-      → AreLabelsOf core.labels n own → AreLabelsAdded own i old new → Adds (IsLineOf (IsTopicTriple core Labels n)) old new
+      → AreLabelsOf core.labels n own → AreLabelsAdded own i old new
+      → Adds (IsLineOf (IsTopicTriple core Labels n)) old new
   label_lines own i old new all are so_far =
       same_lines (OfSome (λ (d : LabelData) (t : Triple). t ≡ label_triple core n d) own) (IsTopicTriple core Labels n)
       old new

@@ -72,7 +72,8 @@ fn join_parts(alloc: Global, parts: &[ExportPart]) -> Result<Vec<u8>, AllocError
     Ok(text)
 }
 
-// Returns the lines about the resource with this index, counted from 0, sorted by their bytes, each once.
+// Returns the lines about the resource with this index, counted from 0, sorted by their bytes, each
+// once.
 fn part_at(
     alloc: Global,
     core: &Core,
@@ -104,8 +105,9 @@ fn all_parts(alloc: Global, core: &Core) -> Result<Vec<ExportPart>, AllocError>
     Ok(parts)
 }
 
-/// Returns the export of the state that the core holds: the lines of its triples, sorted by their bytes, each once.
-/// Lines about one resource begin alike, so its lines are sorted by themselves, and then the parts.
+/// Returns the export of the state that the core holds: the lines of its triples, sorted by their
+/// bytes, each once. Lines about one resource begin alike, so its lines are sorted by themselves,
+/// and then the parts.
 pub fn export_text(alloc: Global, core: &Core) -> Result<Vec<u8>, AllocError>
     requires { core.now.spent ≡ false }
     ensures { (s : State) → IsViewOf core.now s →

@@ -1,8 +1,8 @@
 //! Laws of exports, whatever code writes them.
 ghost use Rattle.thes_export.specs.Export.{HasOneExport, ReadsExports};
 
-/// No effect; states for the proof that the export of a legal state is an N-Triples document whose only reading is the
-/// state's triples.
+/// No effect; states for the proof that the export of a legal state is an N-Triples document whose
+/// only reading is the state's triples.
 pub fn reads_exports()
     ensures { ReadsExports }
 {}

@@ -1,4 +1,5 @@
-//! The export of a thesaurus as triples in N-Triples: SKOS, with rdf:type, owl:deprecated and dct:isReplacedBy.
+//! The export of a thesaurus as triples in N-Triples: SKOS, with rdf:type, owl:deprecated and
+//! dct:isReplacedBy.
 #![tactic(auto)]
 
 pub mod gather;

@@ -17,8 +17,8 @@ use thes_base::number::ResNo;
 use thes_base::triple::{Class, Property};
 use thes_core::Core;
 
-/// A part of an export's text: a line with its line feed, or all lines about a resource. Parts are compared by their
-/// bytes.
+/// A part of an export's text: a line with its line feed, or all lines about a resource. Parts are
+/// compared by their bytes.
 #[derive(Drop)]
 pub struct ExportPart {
     text: Vec<u8>,

@@ -96,7 +96,8 @@ pub(crate) fn push_belonging(
     }
 }
 
-/// Returns the scheme of which the resource is a top concept; None if it isn't a live concept without broader ones.
+/// Returns the scheme of which the resource is a top concept; None if it isn't a live concept
+/// without broader ones.
 pub(crate) fn top_scheme_of(
     alloc: Global,
     core: &Core,
@@ -117,7 +118,8 @@ pub(crate) fn top_scheme_of(
     Ok(scheme_in(resource))
 }
 
-// Appends the line of the scheme of which the resource is a top concept (`skos:topConceptOf`), if it is one.
+// Appends the line of the scheme of which the resource is a top concept (`skos:topConceptOf`), if
+// it is one.
 pub(crate) fn push_top(about: &LineSource, lines: &mut Vec<ExportPart>) -> Result<(), AllocError>
     ensures { OnOk result (AddsTopic about.now Topic.Top lines.old.items lines.new.items) }
 {
@@ -130,7 +132,8 @@ pub(crate) fn push_top(about: &LineSource, lines: &mut Vec<ExportPart>) -> Resul
     }
 }
 
-// Appends the lines of the top concepts of a scheme (`skos:hasTopConcept`); other resources have none.
+// Appends the lines of the top concepts of a scheme (`skos:hasTopConcept`); other resources have
+// none.
 pub(crate) fn push_top_concepts(
     about: &LineSource,
     lines: &mut Vec<ExportPart>,

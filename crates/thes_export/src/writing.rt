@@ -10,8 +10,8 @@ use thes_base::fault::PipeFault;
 use thes_base::pipe::Pipe;
 use thes_core::Core;
 
-/// Writes the triples of the state that the core holds as N-Triples, in the order of their lines' bytes. All memory is
-/// allocated before the first byte is written.
+/// Writes the triples of the state that the core holds as N-Triples, in the order of their lines'
+/// bytes. All memory is allocated before the first byte is written.
 #[tactic(auto, using(crate::proofs::ExportLemmas::export_read))]
 pub fn export<W: Write>(alloc: Global, core: &Core, writer: &mut Pipe<W>) -> Result<(), PipeFault>
     requires unspent { core.now.spent ≡ false }

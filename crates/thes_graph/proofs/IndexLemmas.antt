@@ -1,7 +1,7 @@
 -- The index of a graph stays correct: each node's row has the links of the set with an end there, sorted by side.
 use Rattle.std.proofs.lemmas.Grind.{common_steps}
 use Rattle.std.proofs.Common.{◌≡◌, ◌≢◌, ◌+◌, ◌⊎◌, inl, inr, ℕ, List, [], ◌∷◌, Bool, true, false, cond, ◌||◌, ◌==◌}
-use Rattle.std.proofs.Common.{◌<◌, Contains, length, get_or, map, Less, refl, sym, ap, subst, ◌∙◌, arith}
+use Rattle.std.proofs.Common.{◌<◌, AllPairs, Contains, length, get_or, map, Less, refl, sym, ap, subst, ◌∙◌, arith}
 use Rattle.std.specs.Prelude.{filter}
 use Rattle.std.specs.List.{list_any}
 use Rattle.std.specs.List.Sorted.{IsStrictlySortedBy}
@@ -241,6 +241,12 @@ links_at_from links n l has =
 pub links_at_to : (links : Links) (n : ℕ) (l : Link) → Holds links l → HasEnd n l → Contains (links_at links n) l
 links_at_to links n l held ends = Contains-map link_of (sided_links_at links n) (sided_link_at n l)
     (sided_links_to links n l held ends)
+
+pub sided_links_once : (links : Links) (n : ℕ) → AllPairs (λ x y. x ≢ y) (sided_links_at links n)
+sided_links_once links n i j d lt within same =
+    never_below_itself sided_link_cmp sided_links_total (get_or (sided_links_at links n) i d)
+    (subst (λ (s : SidedLink). sided_link_cmp (get_or (sided_links_at links n) i d) s ≡ Less) (sym same)
+    (Less-from_sorted sided_link_cmp (sided_links_at links n) i j d (sided_links_sorted links n) lt within))
 
 -- The links at different indexes of a row differ.
 links_once : (links : Links) (n : ℕ) (i j : ℕ) (d : Link) → i < j → j < length (links_at links n)

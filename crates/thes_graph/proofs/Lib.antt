@@ -1,8 +1,11 @@
 mod LinkOrderLemmas
 mod IndexLemmas
+mod CountLemmas
+mod FirstEndLemmas
 mod LookUpLemmas
 mod MarkLemmas
 mod ChangeLemmas
+mod RedirectLemmas
 mod MergeAdditionLemmas
 mod MappingLemmas
 mod ReaderLemmas

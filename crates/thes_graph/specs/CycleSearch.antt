@@ -41,8 +41,8 @@ stack_measure (s ∷ ss) = 1 + length s.above.items + stack_measure ss
 abbrev pub search_measure : (met : List ℕ) → List PathNode → ℕ
 search_measure met stack = (2 ^ 63 - length met) * 2 ^ 64 + stack_measure stack
 
--- One step of the search: it found a cycle, or came to a later state with a smaller measure. Nodes that were met or done
--- still are.
+-- One step of the search: it found a cycle, or came to a later state with a smaller measure. Nodes that were met or
+-- done still are.
 pub record IsSearchStep (Held : Link → Type 0) (met done : List ℕ) (stack : List PathNode) (later_met later_done : List ℕ)
     (later_stack : List PathNode) (found : Bool) : Type 0 where
   pub verdict : MatchBool found (HasCycle Held) (IsCycleSearch Held later_met later_done later_stack)

@@ -6,3 +6,4 @@ pub mod MergeAdditions
 pub mod Whole
 pub mod UpperSets
 pub mod SidedLinks
+pub mod FirstEnds

@@ -1,13 +1,12 @@
 -- The links that a merge adds in place of those with an end at its source.
-use Rattle.std.specs.Prelude.{◌≡◌, ℕ, List, [], ◌∷◌, Contains, if◌then◌else◌, Option, None, Some, option_and_then}
-use Rattle.std.specs.List.{filter_map}
+use Rattle.std.specs.Prelude.{◌≡◌, ◌≢◌, ℕ, List, [], ◌∷◌, Contains, AllPairs, if◌then◌else◌, Option, None, Some}
+use Rattle.std.specs.Prelude.{option_and_then}
 use Rattle.std.specs.FinSet.{insert, remove, contains}
 use Rattle.thes_base.specs.declared.data.Link.{Link}
-use Rattle.thes_base.specs.Links.{Links, Holds, normal_form}
+use Rattle.thes_base.specs.Links.{Links, Holds, normal_form, links_after_merge}
 use Rattle.thes_links.specs.Reading.{HaveTwoEnds}
 use Rattle.thes_links.specs.LinkEdit.{link_after_merge}
 use Rattle.thes_links.specs.GraphView.{GraphView, is_marked}
-use Rattle.thes_graph.specs.SidedLinks.{sided_links_at}
 
 -- Each link held is in normal form.
 abbrev pub AreNormal : GraphView → Type 0
@@ -23,11 +22,14 @@ abbrev pub added_link : GraphView → (source target : ℕ) → Link → Option 
 added_link net source target l = option_and_then (λ m. link_if_new net.links (normal_form (is_marked net) m))
     (link_after_merge source target l)
 
--- The list has the links that a merge adds in place of those at its source, in the order of the links that they
--- replace.
-abbrev pub AreMergeAdditions : GraphView → (source target : ℕ) → List Link → Type 0
-AreMergeAdditions net source target ms = ms ≡ filter_map (λ s. added_link net source target s.link)
-    (sided_links_at net.links source)
+-- The links are exactly those that a merge adds: held after it, and not before. None is listed twice if both of its
+-- concepts or neither are marked as outside concepts.
+pub record AreMergeAdditions (net : GraphView) (source target : ℕ) (ms : List Link) : Type 0 where
+  pub sound : (m : Link) → Contains ms m → Holds (links_after_merge (is_marked net) source target net.links) m
+      × (Holds net.links m → ⊥)
+  pub complete : (m : Link) → Holds (links_after_merge (is_marked net) source target net.links) m
+      → (Holds net.links m → ⊥) → Contains ms m
+  pub distinct : is_marked net source ≡ is_marked net target → AllPairs (λ x y. x ≢ y) ms
 
 -- The links are new: each has two different ends, is in normal form, and isn't held.
 pub record AreNew (net : GraphView) (ls : List Link) : Type 0 where

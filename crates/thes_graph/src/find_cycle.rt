@@ -11,7 +11,8 @@ use thes_links::nodes::Nodes;
 use thes_links::relation::Relation;
 use thes_links::walk::next_nodes;
 
-/// A node on the stack of the search, with those of its broader nodes that are still to be searched from.
+/// A node on the stack of the search, with those of its broader nodes that are still to be searched
+/// from.
 #[derive(Drop)]
 pub struct PathNode {
     pub node: ResNo,
@@ -69,8 +70,9 @@ fn advance_path<L: Links>(
     Ok(false)
 }
 
-/// Searches for a cycle through the node or above it, unless the node is done, and returns whether there is one. If
-/// there is none, the node is appended to those that are done, after all nodes broader than it.
+/// Searches for a cycle through the node or above it, unless the node is done, and returns whether
+/// there is one. If there is none, the node is appended to those that are done, after all nodes
+/// broader than it.
 pub fn find_cycle<L: Links>(
     alloc: Global,
     links: &mut L,

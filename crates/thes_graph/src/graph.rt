@@ -1,19 +1,21 @@
 //! A set of links, indexed by their ends, with its edits and its look-ups.
-ghost use Rattle.std.specs.Prelude.{◌≡◌, ◌≢◌, ◌⊎◌, IfOk, OnOk, OnErr, MatchOption, slice_get};
+ghost use Rattle.std.specs.Prelude.{◌≡◌, ◌≢◌, ◌⊎◌, ◌≤◌, ℕ, [], IfOk, OnOk, OnErr, MatchOption, slice_get};
 ghost use Rattle.std.specs.Ordering.{nat_cmp};
 ghost use Rattle.std.specs.FinSet.{empty, contains, insert, remove, len, items};
 ghost use Rattle.thes_base.specs.declared.data.Link.{Link};
 ghost use Rattle.thes_base.specs.declared.data.LinkKind.TheVariants as kinds;
 ghost use Rattle.thes_base.specs.Links.{Holds, normal_form, links_after_merge, links_after_deprecation, IsFirstBroken, HasEnd};
 ghost use Rattle.thes_base.specs.Listing.{IsListing};
-ghost use Rattle.thes_links.specs.Reading.{HaveTwoEnds};
+ghost use Rattle.thes_links.specs.Reading.{AreAll, HaveTwoEnds};
 ghost use Rattle.thes_links.specs.Side.{IsPart};
+ghost use Rattle.thes_lists.specs.Lists.{HasSpare, HaveSameValues};
 ghost use Rattle.thes_links.specs.GraphView.{is_marked};
 ghost use Rattle.thes_graph.specs.SidedLinks.{sided_links_at, links_at};
 ghost use Rattle.thes_base.specs.Views.{HasLink, HasBroader, IsMapping, mapping_cmp, IsTypedLink, typed_cmp};
 ghost use Rattle.thes_graph.specs.Neighbours.{IsNeighbour};
 ghost use Rattle.thes_graph.specs.MergeAdditions.{AreNormal, AreMergeAdditions, AreNew, added_link, with_all, without_links};
 
+use crate::first_ends::list_first_ends;
 use crate::mappings::{list_mapping, mapping_from, typed_link_from};
 use crate::neighbours::{NeighbourKind, direction_to, list_in};
 use crate::sided_links::{SidedLink, count_before, count_until, sided_link_of};
@@ -31,13 +33,25 @@ use thes_links::relation::lead;
 use thes_links::side::{Part, Side};
 use thes_lists::Lists;
 
+// Reserves room for one more link in the rows of both its ends.
+fn reserve_ends(rows: &mut Lists<SidedLink>, link: &Link) -> Result<(), AllocError>
+    ensures same { HaveSameValues rows.old rows.new }
+    ensures rooms { OnOk result (HasSpare rows.new link.now.a × HasSpare rows.new link.now.b) }
+{
+    rows.make_room(link.a)?;
+    rows.make_room(link.b)?;
+    Ok(())
+}
+
 /// A set of links, indexed by their ends, and the resources marked as outside concepts. Each link has two different
 /// ends, and is held in normal form, whichever end it was stated from.
 #[derive(Drop)]
 pub struct Graph {
     alloc: Global,
-    held: BTreeSet<Link>,
+    // Each link is in the rows of both its ends.
     rows: Lists<SidedLink>,
+    // The number of links, each counted once.
+    total: u64,
     marked: BTreeSet<ResNo>,
 }
 
@@ -46,16 +60,16 @@ impl Model for Graph {
     ghost use Rattle.std.specs.FinSet as set;
     ghost use Rattle.std.specs.FinSet.{from_list};
     ghost use Rattle.thes_links.specs.GraphView.{GraphView};
-    ghost use Rattle.thes_graph.specs.Index.{IsIndexed};
+    ghost use Rattle.thes_graph.specs.Index.{IsCountedIndex, links_in};
 
     ghost Value = { GraphView };
 
     ghost coded = { Prim.hlevel (codes, set.code) };
 
     ghost view = { λ g.
-        record { links = from_list g.held.keys; outside = from_list g.marked.keys } };
+        record { links = links_in g.rows; outside = from_list g.marked.keys } };
 
-    ghost invariant = { λ g. IsIndexed g.held.keys g.rows g.marked.keys };
+    ghost invariant = { λ g. IsCountedIndex g.rows g.marked.keys g.total };
 }
 
 impl Graph {
@@ -65,20 +79,21 @@ impl Graph {
     {
         Graph {
             alloc,
-            held: BTreeSet::new(alloc),
             rows: Lists::new(alloc),
+            total: 0,
             marked: BTreeSet::new(alloc),
         }
     }
 
-    // Returns the normal form of the link, in which it is held.
-    fn normal(&self, link: &Link) -> Link
+    /// Returns the normal form of the link, in which it is held.
+    pub fn normal(&self, link: &Link) -> Link
         ensures { result ≡ normal_form (is_marked self.now) link.now }
     {
         normalize_ends(link, self.is_outside(link.a) || self.is_outside(link.b))
     }
 
     // Returns the links with an end at the node, sorted by the side of the node on which they lie.
+    #[inline(always)]
     fn row_of_node(&self, n: ResNo) -> &[SidedLink]
         ensures row { result.now ≡ sided_links_at self.now.links n }
         ensures two_ends { HaveTwoEnds (Holds self.now.links) }
@@ -87,7 +102,35 @@ impl Graph {
         self.rows.at(n)
     }
 
+    // Returns the links with an end at the node of this number, sorted by the side of the node on which they lie.
+    fn row_at(&self, number: usize) -> &[SidedLink]
+        ensures { result.now ≡ sided_links_at self.now.links number }
+    {
+        self.rows.list(number)
+    }
+
+    // Returns a number above those of all nodes with links.
+    fn row_count(&self) -> usize
+        ensures none { (n : ℕ) → result ≤ n → sided_links_at self.now.links n ≡ [] }
+        ensures two_ends { HaveTwoEnds (Holds self.now.links) }
+    {
+        self.rows.list_count()
+    }
+
+    // Lists all links, sorted by their first ends.
+    #[tactic(auto, using(crate::proofs::FirstEndLemmas::none_below, crate::proofs::FirstEndLemmas::listed_more, crate::proofs::FirstEndLemmas::all_below))]
+    fn all_links(&self, alloc: Global) -> Result<Vec<Link>, AllocError>
+        ensures { IfOk result (λ all. AreAll self.now.links all.items) }
+    {
+        let mut all = Vec::new(alloc);
+        for number in 0..self.row_count() {
+            list_first_ends(&mut all, self.row_at(number), number)?;
+        }
+        Ok(all)
+    }
+
     // Returns the i-th of the node's links, with the side on which it lies.
+    #[inline(always)]
     fn sided_link(&self, n: ResNo, i: usize) -> Option<SidedLink>
         ensures place { result ≡ slice_get (sided_links_at self.now.links n) i }
         ensures two_ends { HaveTwoEnds (Holds self.now.links) }
@@ -96,6 +139,7 @@ impl Graph {
     }
 
     // Returns the i-th of the node's links, in the order of sides.
+    #[inline(always)]
     fn nth_at(&self, n: ResNo, i: usize) -> Option<Link>
         ensures link { result ≡ slice_get (links_at self.now.links n) i }
         ensures two_ends { HaveTwoEnds (Holds self.now.links) }
@@ -167,7 +211,7 @@ impl Graph {
     pub fn size(&self) -> u64
         ensures { result ≡ len self.now.links }
     {
-        self.held.len() as u64
+        self.total
     }
 
     // Lists the neighbours of this sort of the concept in ascending order.
@@ -263,12 +307,16 @@ impl Graph {
         ensures err { OnErr result (self.new ≡ self.old) }
     {
         let new = self.normal(link);
-        self.rows.make_room(new.a)?;
-        self.rows.make_room(new.b)?;
-        if self.held.insert(new)? {
-            self.rows.insert(new.a, sided_link_of(&new, new.a));
-            self.rows.insert(new.b, sided_link_of(&new, new.b));
+        if self.holds(&new) {
+            return Ok(());
         }
+        let Some(total) = self.total.checked_add(1) else {
+            return Err(AllocError);
+        };
+        reserve_ends(&mut self.rows, &new)?;
+        self.rows.insert(new.a, sided_link_of(&new, new.a));
+        self.rows.insert(new.b, sided_link_of(&new, new.b));
+        self.total = total;
         Ok(())
     }
 
@@ -287,9 +335,10 @@ impl Graph {
     fn detach(&mut self, link: &Link)
         ensures { self.new ≡ record self.old { links = remove self.old.links link.now } }
     {
-        if self.held.remove(link) {
+        if self.holds(link) {
             self.rows.remove(link.a, &sided_link_of(link, link.a));
             self.rows.remove(link.b, &sided_link_of(link, link.b));
+            self.total = self.total.saturating_sub(1);
         }
     }
 
@@ -302,8 +351,9 @@ impl Graph {
         if self.holds(&new) { None } else { Some(new) }
     }
 
-    // Returns the links that a merge adds in place of those with an end at the source.
-    fn merge_additions(&self, source: ResNo, target: ResNo) -> Result<Vec<Link>, AllocError>
+    /// Returns the links that a merge adds in place of those at the source: those held after it, in normal form, and not
+    /// before.
+    pub fn merge_additions(&self, source: ResNo, target: ResNo) -> Result<Vec<Link>, AllocError>
         requires { source ≢ target }
         ensures merge_additions { IfOk result
             (λ merge_additions. AreMergeAdditions self.now source target merge_additions.items) }
@@ -407,7 +457,7 @@ impl Graph {
     pub fn check_whole(&self, alloc: Global) -> Result<Option<Refusal>, AllocError>
         ensures { IfOk result (IsFirstBroken (Holds self.now.links)) }
     {
-        let all: Vec<Link> = self.held.iter().copied().collect(alloc)?;
+        let all = self.all_links(alloc)?;
         let mut walk = self.walk();
         let first = check_listed_links(alloc, &mut walk, &all)?;
         Ok(first)

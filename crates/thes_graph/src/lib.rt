@@ -1,8 +1,9 @@
-//! A graph of links, indexed by their ends: its edits, its look-ups, and the check of all its links for the rules Cycle,
-//! S27 and S46.
+//! The graph of all links, indexed by their ends: its edits, its look-ups, and the check of a
+//! loaded graph for the rules Cycle, S27 and S46.
 #![tactic(auto)]
 
 mod find_cycle;
+mod first_ends;
 pub mod graph;
 mod mappings;
 mod neighbours;

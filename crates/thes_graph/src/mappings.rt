@@ -1,4 +1,5 @@
-//! Mappings and typed hierarchical links as seen from one of their ends, in the order of their names.
+//! Mappings and typed hierarchical links as seen from one of their ends, in the order of their
+//! names.
 ghost use Rattle.std.specs.Prelude.{◌≡◌, OnOk};
 ghost use Rattle.std.specs.BTreeSet.{insert_key};
 ghost use Rattle.std.specs.List.Sorted.{IsStrictlySortedBy};
@@ -28,7 +29,8 @@ fn place_of(kind: LinkKind) -> u8
     }
 }
 
-// Returns the sort key of a mapping: the rank of its kind's name, and then the number of the other end.
+// Returns the sort key of a mapping: the rank of its kind's name, and then the number of the other
+// end.
 fn key_of(mapping: &(LinkKind, ResNo)) -> (u8, ResNo)
     ensures { result ≡ (kind_name_rank mapping.now.0, mapping.now.1) }
 {

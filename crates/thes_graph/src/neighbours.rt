@@ -50,7 +50,7 @@ pub fn direction_to(neighbours: NeighbourKind, kind: LinkKind) -> Direction
     }
 }
 
-/// Inserts the value at its place in a sorted list, unless an equal one is there.
+/// Inserts what a look-up of links lists at its place in the list, unless an equal value is there.
 pub fn list_in<T: Ord + Drop>(list: &mut Vec<T>, x: T) -> Result<(), AllocError>
     requires { IsStrictlySortedBy T.cmp list.old.items }
     ensures { OnOk result (list.new.items ≡ insert_key T.cmp list.old.items x) }

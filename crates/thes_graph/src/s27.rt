@@ -79,8 +79,8 @@ fn some_has_bit(words: &[u64], nodes: &[ResNo], j: usize) -> bool
     false
 }
 
-// Checks whether some concept of the block is related to one below it. Bit j of a node's word states whether the j-th
-// concept of the block is at or above the node.
+// Checks whether some concept of the block is related to one below it. Bit j of a node's word
+// states whether the j-th concept of the block is at or above the node.
 fn some_breaks_s27<L: Links>(
     alloc: Global,
     links: &mut L,
@@ -137,8 +137,8 @@ fn some_block_breaks_s27<L: Links>(
     Ok(false)
 }
 
-/// Checks whether one of two related concepts is above the other (SKOS S27). The list `order` has the ends of all
-/// links, each node after all nodes broader than it.
+/// Checks whether one of two related concepts is above the other (SKOS S27). The list `order` has
+/// the ends of all links, each node after all nodes broader than it.
 pub fn breaks_s27<L: Links>(
     alloc: Global,
     links: &mut L,

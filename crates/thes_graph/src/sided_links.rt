@@ -49,7 +49,8 @@ fn is_until(sided_link: &SidedLink, number: u8) -> bool
     sided_link.side.number() <= number
 }
 
-/// Returns the number of links on sides whose rank is less than `number`, in a row that is sorted by side.
+/// Returns the number of links on sides whose rank is less than `number`, in a row that is sorted
+/// by side.
 pub fn count_before(row: &[SidedLink], number: u8) -> usize
     ensures bound { result ≤ length row.now }
     ensures place { IsPartitionIndex (λ s. ltb (side_no s.side) number) row.now result }
@@ -62,7 +63,8 @@ pub fn count_before(row: &[SidedLink], number: u8) -> usize
     }
 }
 
-/// Returns the number of links on sides whose rank is at most `number`, in a row that is sorted by side.
+/// Returns the number of links on sides whose rank is at most `number`, in a row that is sorted by
+/// side.
 pub fn count_until(row: &[SidedLink], number: u8) -> usize
     ensures bound { result ≤ length row.now }
     ensures place { IsPartitionIndex (λ s. leb (side_no s.side) number) row.now result }

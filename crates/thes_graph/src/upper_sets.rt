@@ -21,7 +21,8 @@ fn word_of_node(words: &[u64], n: ResNo) -> u64
     word_of(words, n.get())
 }
 
-/// Checks whether bit j of the node's word is set, so that the j-th node of the block is at or above the node.
+/// Checks whether bit j of the node's word is set, so that the j-th node of the block is at or
+/// above the node.
 pub fn is_set(words: &[u64], n: ResNo, j: usize) -> bool
     requires { j < 64 }
     ensures { MatchBool result (HasBit words.now n j) (HasBit words.now n j → ⊥) }
@@ -64,7 +65,8 @@ fn set_bits_above(words: &mut Vec<u64>, row: &PathNode) -> Result<(), AllocError
     Ok(())
 }
 
-/// Finds the words of all nodes for a block, by one pass over rows in which each node comes after its broader nodes.
+/// Finds the words of all nodes for a block, by one pass over rows in which each node comes after
+/// its broader nodes.
 #[tactic(auto, using(crate::proofs::UpperSetLemmas::sets_found))]
 pub fn find_upper_sets(
     words: &mut Vec<u64>,

@@ -1,5 +1,5 @@
-//! The check of all links: Cycle by one search of all nodes, S27 for the related concepts in blocks, S46 once for each
-//! class of exact matches.
+//! The check of all links: Cycle by one search of all nodes, S27 for the related concepts in
+//! blocks, S46 once for each class of exact matches.
 ghost use Rattle.std.specs.Prelude.{◌≡◌, Contains, IfOk, OnOk, MatchBool};
 ghost use Rattle.thes_base.specs.declared.data.Link.{Link};
 ghost use Rattle.thes_base.specs.Links.{Holds, NoCycle, S46, IsFirstBroken};
@@ -21,8 +21,8 @@ use thes_links::nodes::Nodes;
 use thes_links::relation::{Relation, has_direction};
 use thes_links::walk::{gather, has_link_between};
 
-// Checks whether a chain of broader links leads from some node back to itself. If none does, `order` has the ends of
-// all links afterwards, each node after all nodes broader than it.
+// Checks whether a chain of broader links leads from some node back to itself. If none does,
+// `order` has the ends of all links afterwards, each node after all nodes broader than it.
 fn has_cycle<L: Links>(
     alloc: Global,
     links: &mut L,
@@ -57,8 +57,8 @@ fn add_done(done: &mut Nodes, nodes: &[ResNo]) -> Result<(), AllocError>
     Ok(())
 }
 
-// Checks whether two members of the node's class of exact matches are also broader or related matches. If not, appends
-// all members of the class to `done`.
+// Checks whether two members of the node's class of exact matches are also broader or related
+// matches. If not, appends all members of the class to `done`.
 fn breaks_s46_at<L: Links>(
     alloc: Global,
     links: &mut L,
@@ -97,7 +97,8 @@ fn breaks_s46<L: Links>(alloc: Global, links: &mut L, all: &[Link]) -> Result<bo
     Ok(false)
 }
 
-/// Returns the first of Cycle, S27 and S46 that the links break. The list `all` has exactly these links.
+/// Returns the first of Cycle, S27 and S46 that the links break. The list `all` has exactly these
+/// links.
 pub fn check_listed_links<L: Links>(
     alloc: Global,
     links: &mut L,

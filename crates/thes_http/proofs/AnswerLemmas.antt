@@ -26,11 +26,12 @@ use Rattle.thes_http_request.specs.Queries.{DisplayQuery, display_query_of}
 use Rattle.thes_http_request.proofs.HeadLawLemmas.{head_is_whole, one_head}
 use Rattle.thes_http_request.proofs.HeadLemmas.{cut_is_not_bad}
 use Rattle.thes_http.proofs.ServeLemmas.{has_more}
+use Rattle.thes_http.specs.declared.response.MediaType.TheVariants.{Json, Plain}
 use Rattle.thes_http.specs.declared.response.Response.{Response}
 use Rattle.thes_requests.specs.declared.request.Display.{Display}
 use Rattle.thes_requests.specs.declared.request.Display.TheVariants as display
 use Rattle.thes_http.specs.Responses.{problem_response, form_response, fault_response, command_response, plan_response}
-use Rattle.thes_http.specs.Responses.{query_response, import_response, export_response, display_response}
+use Rattle.thes_http.specs.Responses.{query_response, import_response, export_response}
 use Rattle.thes_http.specs.ServiceBehaviour.{ServiceBehaviour}
 use Rattle.thes_http.specs.Serving.{RespondsUnchanged, CommandEffect, QueryEffect, WithNumber}
 use Rattle.thes_http.specs.Serving.{DisplayEffect, DisplayQueryEffect, EndpointEffect, AnswersHead, Answers}
@@ -171,13 +172,13 @@ module _ {S : Type 0} (d : ServiceBehaviour S) where
   same_call old x y r q one (plan_answers body a b p p' e e') = same_results plan_response
       (λ c. ServesPlan d.requests old (json_in body) c) x y r q (λ f. refl) (λ a' b'. one.plans body a' b' x y) a b p p'
       e e'
-  same_call old x y r q one (query_answers query a b p p' e e') = same_results query_response
+  same_call old x y r q one (query_answers query a b p p' e e') = same_results (query_response Json)
       (λ c. d.requests.shows old query c) x y r q (λ f. refl) (λ a' b'. one.shows query a' b' x y) a b p p' e e'
   same_call old x y r q one (import_answers file a b p p' e e') = same_results import_response
       (λ c. d.imports old file c) x y r q (λ f. refl) (λ a' b'. one.imports file a' b' x y) a b p p' e e'
   same_call old x y r q one (export_answers a b p p' e e') = same_results export_response
       (λ c. d.exports old c) x y r q (λ f. refl) (λ a' b'. one.exports a' b' x y) a b p p' e e'
-  same_call old x y r q one (display_answers which scheme tag a b p p' e e') = same_results display_response
+  same_call old x y r q one (display_answers which scheme tag a b p p' e e') = same_results (query_response Plain)
       (λ c. d.displays old which scheme tag c) x y r q (λ f. refl)
       (λ a' b'. one.displays which scheme tag a' b' x y) a b p p' e e'
   same_call old x y r q one (no_call e s t) = inl (e, s ∙ sym t)

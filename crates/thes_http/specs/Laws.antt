@@ -1,5 +1,5 @@
 -- Laws of the answers to connections.
-use Rattle.std.specs.Prelude.{ℕ, ◌≡◌, ◌⊎◌, ◌++◌, List, Result, Ok}
+use Rattle.std.specs.Prelude.{ℕ, ◌≡◌, ◌⊎◌, ◌++◌, List, Option, Result, Ok}
 use Rattle.thes_base.specs.declared.fault.Fault.{Fault}
 use Rattle.thes_base.specs.declared.fault.Fault.TheVariants.{OutOfMemory}
 use Rattle.thes_base.specs.declared.request.Command.{Command}
@@ -9,12 +9,11 @@ use Rattle.thes_requests.specs.declared.request.Query.{Query}
 use Rattle.thes_requests.specs.declared.plan_reply.PlanReply.{PlanReply}
 use Rattle.thes_requests.specs.Requests.{json_in}
 use Rattle.thes_requests.specs.Serving.{ServesPlan}
+use Rattle.thes_http.specs.declared.response.MediaType.TheVariants.{Json, Plain}
 use Rattle.thes_http.specs.declared.response.Response.{Response}
-use Rattle.thes_http.specs.declared.service.ImportAnswer.{ImportAnswer}
 use Rattle.thes_requests.specs.declared.request.Display.{Display}
-use Rattle.thes_http.specs.declared.service.DisplayAnswer.{DisplayAnswer}
 use Rattle.thes_http.specs.Responses.{fault_response, command_response, plan_response, query_response, import_response}
-use Rattle.thes_http.specs.Responses.{export_response, display_response}
+use Rattle.thes_http.specs.Responses.{export_response}
 use Rattle.thes_http.specs.ServiceBehaviour.{ServiceBehaviour}
 use Rattle.thes_http.specs.Serving.{Answers, IsCutRequest}
 
@@ -30,15 +29,15 @@ module _ {S : Type 0} (d : ServiceBehaviour S) (old : S) where
         → r ≡ plan_response a → q ≡ plan_response b → AnswerOneCall r x q y
     query_answers : (query : Query) (a b : Result QueryAnswer Fault)
         → d.requests.shows old query a x → d.requests.shows old query b y
-        → r ≡ query_response a → q ≡ query_response b → AnswerOneCall r x q y
-    import_answers : (file : List ℕ) (a b : Result ImportAnswer Fault)
+        → r ≡ query_response Json a → q ≡ query_response Json b → AnswerOneCall r x q y
+    import_answers : (file : List ℕ) (a b : Result (Option (List ℕ)) Fault)
         → d.imports old file a x → d.imports old file b y
         → r ≡ import_response a → q ≡ import_response b → AnswerOneCall r x q y
     export_answers : (a b : Result (List ℕ) Fault) → d.exports old a x → d.exports old b y
         → r ≡ export_response a → q ≡ export_response b → AnswerOneCall r x q y
-    display_answers : (which : Display) (scheme : ℕ) (tag : List ℕ) (a b : Result DisplayAnswer Fault)
+    display_answers : (which : Display) (scheme : ℕ) (tag : List ℕ) (a b : Result QueryAnswer Fault)
         → d.displays old which scheme tag a x → d.displays old which scheme tag b y
-        → r ≡ display_response a → q ≡ display_response b → AnswerOneCall r x q y
+        → r ≡ query_response Plain a → q ≡ query_response Plain b → AnswerOneCall r x q y
     no_call : r ≡ q → x ≡ old → y ≡ old → AnswerOneCall r x q y
 
   -- The response reports that memory ran out, and the state is unchanged.
@@ -53,11 +52,11 @@ module _ {S : Type 0} (d : ServiceBehaviour S) (old : S) where
         → d.requests.shows old query (Ok a) x → d.requests.shows old query (Ok b) y → (a ≡ b) × (x ≡ y)
     pub plans : (body : List ℕ) (a b : PlanReply) (x y : S) → ServesPlan d.requests old (json_in body) (Ok a) x
         → ServesPlan d.requests old (json_in body) (Ok b) y → (a ≡ b) × (x ≡ y)
-    pub imports : (file : List ℕ) (a b : ImportAnswer) (x y : S)
+    pub imports : (file : List ℕ) (a b : Option (List ℕ)) (x y : S)
         → d.imports old file (Ok a) x → d.imports old file (Ok b) y → (a ≡ b) × (x ≡ y)
     pub exports : (a b : List ℕ) (x y : S)
         → d.exports old (Ok a) x → d.exports old (Ok b) y → (a ≡ b) × (x ≡ y)
-    pub displays : (which : Display) (scheme : ℕ) (tag : List ℕ) (a b : DisplayAnswer) (x y : S)
+    pub displays : (which : Display) (scheme : ℕ) (tag : List ℕ) (a b : QueryAnswer) (x y : S)
         → d.displays old which scheme tag (Ok a) x → d.displays old which scheme tag (Ok b) y
         → (a ≡ b) × (x ≡ y)
 

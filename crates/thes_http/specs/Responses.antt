@@ -1,5 +1,6 @@
 -- Responses, each with a status, a media type and a body, and their bytes.
-use Rattle.std.specs.Prelude.{ℕ, ◌++◌, [], List, Option, unwrap_or, length, codes, decimal, Result, Ok, Err, OnOk, OnErr}
+use Rattle.std.specs.Prelude.{ℕ, ◌++◌, [], List, Option, Some, None, unwrap_or, length, codes, decimal, Result, Ok, Err}
+use Rattle.std.specs.Prelude.{OnOk, OnErr}
 use Rattle.std.specs.Io.KnownBytes.{Appends}
 use Rattle.thes_base.specs.declared.fault.Fault.{Fault}
 use Rattle.thes_base.specs.declared.fault.FormFault.{FormFault}
@@ -28,10 +29,6 @@ use Rattle.thes_http.specs.declared.response.MediaType.TheVariants as media
 use Rattle.thes_http.specs.declared.response.Body.{Body}
 use Rattle.thes_http.specs.declared.response.Body.TheVariants as body
 use Rattle.thes_http.specs.declared.response.Response.{Response}
-use Rattle.thes_http.specs.declared.service.ImportAnswer.{ImportAnswer}
-use Rattle.thes_http.specs.declared.service.ImportAnswer.TheVariants as imported
-use Rattle.thes_http.specs.declared.service.DisplayAnswer.{DisplayAnswer}
-use Rattle.thes_http.specs.declared.service.DisplayAnswer.TheVariants as displayed
 use Rattle.http.specs.StatusCode.{code_digits, reason_phrase}
 use Rattle.thes_http_request.specs.Endpoints.{method_of}
 use Rattle.thes_base.specs.declared.fault.FormFault.TheVariants.{BadShape}
@@ -102,7 +99,6 @@ allow_text b = []
 abbrev pub body_text : Body → List ℕ
 body_text (body.Problem p) = problem_text p
 body_text (body.Reply r) = reply_text r
-body_text (body.View line) = line
 body_text (body.Plan r) = plan_reply_text r
 body_text (body.Page page) = page
 
@@ -177,28 +173,21 @@ abbrev pub plan_response : Result PlanReply Fault → Response
 plan_response (Ok r) = record { status = plan_status r; media = media.Json; body = body.Plan r }
 plan_response (Err f) = fault_response f
 
--- The response to a query: 200 with the view, 404 with the refusal, or 503 for a fault.
-abbrev pub query_response : Result QueryAnswer Fault → Response
-query_response (Ok (view.Line line)) =
-    record { status = status.Fine; media = media.Json; body = body.View line }
-query_response (Ok (view.No r)) = reply_response status.NotFound (reply.Answer (No r))
-query_response (Err f) = fault_response f
+-- The response to a query for a view or a display: 200 with a page of this media type, 404 with the refusal, or 503 for
+-- a fault.
+abbrev pub query_response : MediaType → Result QueryAnswer Fault → Response
+query_response type (Ok (view.Page page)) = page_response type page
+query_response type (Ok (view.No r)) = reply_response status.NotFound (reply.Answer (No r))
+query_response type (Err f) = fault_response f
 
 -- The response to an import: 200 with the outcomes as CSV, 400 for a malformed file, or 503 for a
 -- fault.
-abbrev pub import_response : Result ImportAnswer Fault → Response
-import_response (Ok (imported.Outcomes page)) = page_response media.Csv page
-import_response (Ok imported.Malformed) = form_response BadShape
+abbrev pub import_response : Result (Option (List ℕ)) Fault → Response
+import_response (Ok (Some page)) = page_response media.Csv page
+import_response (Ok None) = form_response BadShape
 import_response (Err f) = fault_response f
 
 -- The response to an export: 200 with N-Triples, or 503 for a fault.
 abbrev pub export_response : Result (List ℕ) Fault → Response
 export_response (Ok page) = page_response media.NTriples page
 export_response (Err f) = fault_response f
-
--- The response to a request for a display: 200 with plain text, 404 with the refusal, or 503 for a
--- fault.
-abbrev pub display_response : Result DisplayAnswer Fault → Response
-display_response (Ok (displayed.Lines page)) = page_response media.Plain page
-display_response (Ok (displayed.No r)) = reply_response status.NotFound (reply.Answer (No r))
-display_response (Err f) = fault_response f

@@ -1,5 +1,5 @@
 -- The behaviour of a service.
-use Rattle.std.specs.Prelude.{◌≡◌, ℕ, List, Result}
+use Rattle.std.specs.Prelude.{◌≡◌, ℕ, List, Option, Result}
 use Rattle.thes_base.specs.declared.fault.Fault.{Fault}
 use Rattle.thes_base.specs.declared.request.Command.{Command}
 use Rattle.thes_base.specs.declared.request.Answer.{Answer}
@@ -8,18 +8,16 @@ use Rattle.thes_plans.specs.declared.plan.PlanRequest.{PlanRequest}
 use Rattle.thes_requests.specs.RequestBehaviour.{RequestBehaviour}
 use Rattle.thes_requests.specs.declared.handler.QueryAnswer.{QueryAnswer}
 use Rattle.thes_requests.specs.declared.request.Query.{Query}
-use Rattle.thes_http.specs.declared.service.ImportAnswer.{ImportAnswer}
 use Rattle.thes_requests.specs.declared.request.Display.{Display}
-use Rattle.thes_http.specs.declared.service.DisplayAnswer.{DisplayAnswer}
 
 -- What a service does: for commands, queries and plans, for a posting file, for an export, and for a
 -- display of a scheme in the language of a tag. Each is a relation of the state before, what is
 -- asked for, the answer, and the state after.
 pub record ServiceBehaviour (S : Type 0) : Type 1 where
   pub requests : RequestBehaviour S
-  pub imports : S → List ℕ → Result ImportAnswer Fault → S → Type 0
+  pub imports : S → List ℕ → Result (Option (List ℕ)) Fault → S → Type 0
   pub exports : S → Result (List ℕ) Fault → S → Type 0
-  pub displays : S → Display → ℕ → List ℕ → Result DisplayAnswer Fault → S → Type 0
+  pub displays : S → Display → ℕ → List ℕ → Result QueryAnswer Fault → S → Type 0
 
 -- All that a handler does for requests is what the service does for them.
 pub record DoesRequests {S : Type 0} (handler : RequestBehaviour S) (service : ServiceBehaviour S) : Type 0 where

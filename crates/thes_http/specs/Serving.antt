@@ -21,17 +21,16 @@ use Rattle.thes_http_request.specs.declared.endpoint.Endpoint.{Endpoint}
 use Rattle.thes_http_request.specs.declared.endpoint.Endpoint.TheVariants as endpoint
 use Rattle.thes_http_request.specs.declared.problem.Problem.{Problem}
 use Rattle.thes_http_request.specs.declared.problem.Problem.TheVariants.{BadHead, BadQuery}
+use Rattle.thes_http.specs.declared.response.MediaType.TheVariants.{Json, Plain}
 use Rattle.thes_http.specs.declared.response.Response.{Response}
-use Rattle.thes_http.specs.declared.service.ImportAnswer.{ImportAnswer}
 use Rattle.thes_requests.specs.declared.request.Display.{Display}
 use Rattle.thes_requests.specs.declared.request.Display.TheVariants as display
-use Rattle.thes_http.specs.declared.service.DisplayAnswer.{DisplayAnswer}
 use Rattle.thes_http_request.specs.Heads.{parts_of, HasHead, IsCutHead, IsBadHead}
 use Rattle.thes_http_request.specs.HeadRequests.{HeadRequest, head_request_of}
 use Rattle.thes_http_request.specs.Queries.{DisplayQuery, display_query_of}
 use Rattle.thes_http.specs.ServiceBehaviour.{ServiceBehaviour}
 use Rattle.thes_http.specs.Responses.{problem_response, form_response, fault_response, command_response, plan_response}
-use Rattle.thes_http.specs.Responses.{query_response, import_response, export_response, display_response}
+use Rattle.thes_http.specs.Responses.{query_response, import_response, export_response}
 
 -- The text isn't the numeral of a resource's or posting's number.
 abbrev pub IsNoNumeral : List ℕ → Type 0
@@ -64,7 +63,7 @@ module _ {S : Type 0} (d : ServiceBehaviour S) (old : S) (r : Response) (new : S
   -- The effect of importing a posting file, and its response.
   abbrev pub ImportEffect : List ℕ → Type 0
   ImportEffect file =
-      (answer : Result ImportAnswer Fault) × d.imports old file answer new × (r ≡ import_response answer)
+      (answer : Result (Option (List ℕ)) Fault) × d.imports old file answer new × (r ≡ import_response answer)
 
   -- The effect of an export, and its response.
   abbrev pub ExportEffect : Type 0
@@ -73,7 +72,7 @@ module _ {S : Type 0} (d : ServiceBehaviour S) (old : S) (r : Response) (new : S
   -- The effect of a query, and its response.
   abbrev pub QueryEffect : Query → Type 0
   QueryEffect query =
-      (answer : Result QueryAnswer Fault) × d.requests.shows old query answer new × (r ≡ query_response answer)
+      (answer : Result QueryAnswer Fault) × d.requests.shows old query answer new × (r ≡ query_response Json answer)
 
   -- The effect for the number whose numeral is the text; if the text is no numeral of a number,
   -- `BadNumber` and no effect.
@@ -91,9 +90,9 @@ module _ {S : Type 0} (d : ServiceBehaviour S) (old : S) (r : Response) (new : S
   abbrev pub DisplayEffect : Display → ℕ → List ℕ → Type 0
   DisplayEffect which scheme lang =
       ((¬ IsTag lang) × RespondsUnchanged (form_response BadTag))
-      ⊎ (IsTag lang × (answer : Result DisplayAnswer Fault)
+      ⊎ (IsTag lang × (answer : Result QueryAnswer Fault)
       × d.displays old which scheme (map to_ascii_lowercase lang) answer new
-      × (r ≡ display_response answer))
+      × (r ≡ query_response Plain answer))
 
   -- The effect of a display with this query string; the scheme is checked before the language.
   abbrev pub DisplayQueryEffect : Display → Option DisplayQuery → Type 0

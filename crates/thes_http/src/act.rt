@@ -1,9 +1,9 @@
-//! Performs the request of a head, with its body.
+//! Performs the request of a head with its body, by the endpoint that it names.
 ghost use Rattle.std.specs.Prelude.{◌≡◌, if◌then◌else◌, true};
-ghost use Rattle.thes_http.specs.Serving.{CommandEffect, PlanEffect, QueryEffect, NumberQueryEffect, DisplayEffect, DisplayQueryEffect, OrOutOfMemory, EndpointEffectOrFailure};
+ghost use Rattle.thes_http.specs.Serving.{CommandEffect, PlanEffect, QueryEffect, NumberQueryEffect, DisplayQueryEffect, OrOutOfMemory, EndpointEffectOrFailure};
 ghost use Rattle.thes_http_request.specs.Queries.{display_query_of};
 
-use crate::response::Response;
+use crate::response::{MediaType, Response};
 use crate::service::Service;
 use std::alloc::Global;
 use thes_base::fault::{Fault, FormFault, ReadStop};
@@ -14,7 +14,9 @@ use thes_http_request::head_request::HeadRequest;
 use thes_http_request::problem::Problem;
 use thes_http_request::query::read_query;
 use thes_requests::plan_serving::serve_plan;
-use thes_requests::request::{Display, Query, Request, RequestScratch, read_request};
+use thes_requests::request::{
+    Display, DisplayRequest, Query, Request, RequestScratch, read_request,
+};
 
 /// Performs the request of a head with this body, and returns the response.
 pub fn act<S: Service>(
@@ -68,7 +70,7 @@ fn show<S: Service>(alloc: Global, service: &mut S, query: Query) -> Response
     requires { S.is_open service.old ≡ true }
     ensures { QueryEffect S.behaviour service.old result service.new query }
 {
-    Response::for_query(service.show(alloc, &query))
+    Response::for_query(MediaType::Json, service.show(alloc, &query))
 }
 
 // Answers the query for a concept or, if `postings`, for its postings, by the number in the path.
@@ -108,8 +110,8 @@ fn show_posting<S: Service>(alloc: Global, service: &mut S, number: &str) -> Res
     }
 }
 
-// Displays the scheme in the language that the query string names; the form of the scheme's number
-// is checked before that of the tag.
+// Displays the scheme in the language that the query string names. The form of the scheme's number
+// is checked before that of the tag, which is converted to lower case.
 fn display<S: Service>(alloc: Global, service: &mut S, which: Display, query: &str) -> Response
     requires { S.is_open service.old ≡ true }
     ensures { OrOutOfMemory S.behaviour service.old result service.new
@@ -121,27 +123,19 @@ fn display<S: Service>(alloc: Global, service: &mut S, which: Display, query: &s
         Ok(None) => return Response::problem(Problem::BadQuery),
         Err(_) => return Response::fault(Fault::OutOfMemory),
     };
-    match ResNo::read(asked.scheme.as_str()) {
-        Ok(scheme) => display_in(alloc, service, which, scheme, asked.lang.as_str()),
-        Err(fault) => Response::form(fault),
-    }
-}
-
-// Displays a scheme in the language of a tag, which is converted to lower case.
-fn display_in<S: Service>(
-    alloc: Global,
-    service: &mut S,
-    which: Display,
-    scheme: ResNo,
-    lang: &str,
-) -> Response
-    requires { S.is_open service.old ≡ true }
-    ensures { OrOutOfMemory S.behaviour service.old result service.new
-        (DisplayEffect S.behaviour service.old result service.new which scheme lang.now) }
-{
-    match Tag::read(alloc, lang) {
-        Ok(tag) => Response::for_display(service.display(alloc, which, scheme, &tag)),
-        Err(ReadStop::Form(fault)) => Response::form(fault),
-        Err(ReadStop::OutOfMemory) => Response::fault(Fault::OutOfMemory),
-    }
+    let scheme = match ResNo::read(asked.scheme.as_str()) {
+        Ok(scheme) => scheme,
+        Err(fault) => return Response::form(fault),
+    };
+    let tag = match Tag::read(alloc, asked.lang.as_str()) {
+        Ok(tag) => tag,
+        Err(ReadStop::Form(fault)) => return Response::form(fault),
+        Err(ReadStop::OutOfMemory) => return Response::fault(Fault::OutOfMemory),
+    };
+    let wanted = DisplayRequest {
+        kind: which,
+        scheme,
+        tag: &tag,
+    };
+    Response::for_query(MediaType::Plain, service.display(alloc, &wanted))
 }

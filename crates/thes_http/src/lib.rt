@@ -1,5 +1,5 @@
-//! An HTTP/1.0 and HTTP/1.1 server: it reads a request from each connection, performs it, and
-//! writes the response.
+//! An HTTP/1.0 and HTTP/1.1 server over any service: it reads requests, has them performed, and
+//! writes responses.
 #![tactic(auto)]
 
 mod act;

@@ -1,10 +1,9 @@
 //! Responses, each with a status, a media type and a body, and their bytes.
 ghost use Rattle.std.specs.Prelude.{◌≡◌, ◌≤◌, false, length};
 ghost use Rattle.thes_base.specs.Pipe.{failed_of};
-ghost use Rattle.thes_http.specs.Responses.{status_code, status_line, media_type, problem_text, problem_status, allow_line, allow_text, body_text, head_text, ResponseWriteOutcome, reply_response, page_response, problem_response, form_response, fault_response, command_response, plan_response, plan_status, query_response, import_response, export_response, display_response};
+ghost use Rattle.thes_http.specs.Responses.{status_code, status_line, media_type, problem_text, problem_status, allow_line, allow_text, body_text, head_text, ResponseWriteOutcome, reply_response, page_response, problem_response, form_response, fault_response, command_response, plan_response, plan_status, query_response, import_response, export_response};
 
 use crate::head_text::HeadText;
-use crate::service::{DisplayAnswer, ImportAnswer, Page};
 use arrayvec::ArrayVec;
 use http::StatusCode;
 use std::io::Write;
@@ -14,7 +13,8 @@ use thes_base::request::Answer;
 use thes_http_request::endpoint::Endpoint;
 use thes_http_request::problem::Problem;
 use thes_requests::answer::{Reply, reply_line};
-use thes_requests::handler::{QueryAnswer, ViewLine};
+use thes_requests::handler::QueryAnswer;
+use thes_requests::page::Page;
 use thes_requests::plan_reply::{PlanReply, plan_fault_line, plan_refusal_line};
 
 /// The status of a response: one of nine codes of HTTP.
@@ -143,13 +143,11 @@ fn plan_status(reply: &PlanReply) -> Status
     }
 }
 
-/// The content of a response: a problem, a reply, the line of a view, the reply to a plan, or a
-/// page.
+/// The content of a response: a problem, a reply, the reply to a plan, or a page.
 #[derive(Drop)]
 pub enum Body {
     Problem(Problem),
     Reply(Reply),
-    View(ViewLine),
     Plan(PlanReply),
     Page(Page),
 }
@@ -241,25 +239,6 @@ impl Response {
         }
     }
 
-    /// Returns the response to a query: 200 with the view, 404 with the refusal, or 503 for a
-    /// fault.
-    pub fn for_query(viewed: Result<QueryAnswer, Fault>) -> Response
-        ensures { result ≡ query_response viewed }
-    {
-        match viewed {
-            Ok(QueryAnswer::Line(line)) => Response {
-                status: Status::Fine,
-                media: MediaType::Json,
-                body: Body::View(line),
-            },
-            Ok(QueryAnswer::No(refusal)) => Response::reply_response(
-                Status::NotFound,
-                Reply::Answer(Answer::No(refusal)),
-            ),
-            Err(fault) => Response::fault(fault),
-        }
-    }
-
     // Returns a response with a page of this media type: 200.
     fn page(media: MediaType, page: Page) -> Response
         ensures { result ≡ page_response media page }
@@ -271,14 +250,29 @@ impl Response {
         }
     }
 
+    /// Returns the response to a query for a view or a display: 200 with a page of this media type,
+    /// 404 with the refusal, or 503 for a fault.
+    pub fn for_query(media: MediaType, answer: Result<QueryAnswer, Fault>) -> Response
+        ensures { result ≡ query_response media answer }
+    {
+        match answer {
+            Ok(QueryAnswer::Page(page)) => Response::page(media, page),
+            Ok(QueryAnswer::No(refusal)) => Response::reply_response(
+                Status::NotFound,
+                Reply::Answer(Answer::No(refusal)),
+            ),
+            Err(fault) => Response::fault(fault),
+        }
+    }
+
     /// Returns the response to an import: 200 with the outcomes as CSV, 400 for a malformed file,
     /// or 503 for a fault.
-    pub fn for_import(imported: Result<ImportAnswer, Fault>) -> Response
+    pub fn for_import(imported: Result<Option<Page>, Fault>) -> Response
         ensures { result ≡ import_response imported }
     {
         match imported {
-            Ok(ImportAnswer::Outcomes(page)) => Response::page(MediaType::Csv, page),
-            Ok(ImportAnswer::Malformed) => Response::form(FormFault::BadShape),
+            Ok(Some(page)) => Response::page(MediaType::Csv, page),
+            Ok(None) => Response::form(FormFault::BadShape),
             Err(fault) => Response::fault(fault),
         }
     }
@@ -289,21 +283,6 @@ impl Response {
     {
         match exported {
             Ok(page) => Response::page(MediaType::NTriples, page),
-            Err(fault) => Response::fault(fault),
-        }
-    }
-
-    /// Returns the response to a request for a display: 200 with plain text, 404 with the refusal,
-    /// or 503 for a fault.
-    pub fn for_display(displayed: Result<DisplayAnswer, Fault>) -> Response
-        ensures { result ≡ display_response displayed }
-    {
-        match displayed {
-            Ok(DisplayAnswer::Lines(page)) => Response::page(MediaType::Plain, page),
-            Ok(DisplayAnswer::No(refusal)) => Response::reply_response(
-                Status::NotFound,
-                Reply::Answer(Answer::No(refusal)),
-            ),
             Err(fault) => Response::fault(fault),
         }
     }
@@ -362,7 +341,6 @@ impl Response {
                 problem_line(*problem).as_bytes(),
             ),
             Body::Reply(reply) => self.write_with(writer, budget, reply_line(*reply).as_bytes()),
-            Body::View(line) => self.write_with(writer, budget, line.as_bytes()),
             Body::Plan(PlanReply::Done(line)) => self.write_with(writer, budget, line.as_bytes()),
             Body::Plan(PlanReply::Refused(place, refusal)) => self.write_with(
                 writer,

@@ -1,4 +1,5 @@
-//! Serves one connection.
+//! Serves one connection, over any reader and writer: reads its request, has it performed, and
+//! writes the response.
 ghost use Rattle.std.specs.Prelude.{◌≡◌, true};
 ghost use Rattle.thes_base.specs.Pipe.{IsFresh, KeepsSharedCallLimit};
 ghost use Rattle.thes_requests.specs.Script.{session, IsFreshSession};
@@ -31,7 +32,7 @@ pub enum ConnectionEnd {
     WriteFault,
 }
 
-// Returns the routes for the requests of a service, which may take plans.
+// Returns the routes, with whether the service takes plans.
 fn paths_of<'r, S: Service>(routes: &'r Routes, service: &S) -> Paths<'r>
     ensures { result.takes_plans ≡ S.behaviour.requests.takes_plans service.now }
 {

@@ -1,4 +1,4 @@
-//! Serves connections, one after another.
+//! The loop of the server: takes connections from a listener, and serves them one after another.
 ghost use Rattle.std.specs.Prelude.{◌≡◌, true, IfOk, OnOk};
 ghost use Rattle.thes_http.specs.Server.{LeadsBy};
 

@@ -1,4 +1,5 @@
-//! Serves one connection over the two ends of its stream.
+//! Serves one connection over the two ends of its stream, with limits of time, and discards what
+//! the client still sends after the response.
 ghost use Rattle.std.specs.Prelude.{◌≡◌, ◌↔◌, ◌≤◌, true, IsTrue};
 ghost use Rattle.std.specs.Duration.{as_nanos};
 ghost use Rattle.thes_http.specs.Server.{IsServedBy, LeadsBy, is_complete, is_wait};

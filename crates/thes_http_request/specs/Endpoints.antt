@@ -70,7 +70,7 @@ is_question_mark b = b == 63
 unfoldable pub endpoint_of_path : List ℕ → Option EndpointMatch
 endpoint_of_path path = endpoint_of_parts (slice_split is_slash path)
 
--- Whether the endpoint is that of plans.
+-- Whether the endpoint is that of plans, which a service need not take.
 abbrev pub is_plans : Endpoint → Bool
 is_plans Plans = true
 is_plans _ = false

@@ -21,7 +21,8 @@ use Rattle.thes_http_request.specs.Heads.{HasHead, IsBadHead, IsCutHead, fields_
 use Rattle.thes_http_request.specs.Fields.{is_named}
 use Rattle.thes_http_request.specs.HeadRequests.{HeadRequest, head_request_of}
 
--- The bytes begin with a head, whose parts are at these spans.
+-- The bytes begin with the head of a request: `spans` says where its method and its path are, and how long it is;
+-- `headers` says where the name and the value of each field are.
 pub record IsHeadAt (bytes : List ℕ) (headers : List HeaderSpan) (spans : RequestSpans) : Type 0 where
   pub head : RequestHead
   pub at : IsRequestAt bytes headers spans head

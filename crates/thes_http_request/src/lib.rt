@@ -1,4 +1,4 @@
-//! Requests of HTTP/1.0 or HTTP/1.1: their heads, the requests in them, and their bodies.
+//! HTTP requests as bytes: where their heads end, which endpoint they name, and their bodies.
 #![tactic(auto)]
 
 pub mod body;

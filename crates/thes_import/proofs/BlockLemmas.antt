@@ -15,8 +15,7 @@ use Rattle.thes_store.specs.Storage.{StorageView}
 use Rattle.thes_office.specs.Office.{ChangesNothing, CompleteRun, OfficeView, PartialRun, RunResult, TablesAfterRun}
 use Rattle.thes_office.specs.TablesOfState.{TablesOfState}
 use Rattle.thes_office.proofs.OfficeViewLemmas.{empty_run}
-use Rattle.thes_import.specs.Imports.{ImportsBlock, PerformsRows, PerformsSomeWith, PerformsWith, ReportsBlock}
-use Rattle.thes_import.specs.Imports.{ReportsRows, StopsInBlock}
+use Rattle.thes_import.specs.Imports.{ImportsBlock, PerformsRows, PerformsWith, ReportsBlock, StopsInBlock}
 use Rattle.thes_posting_files.specs.Outcomes.{AddsOutcomes, IsOutcome, answers_of, fault_of_row, outcomes_of}
 use Rattle.thes_posting_files.specs.Outcomes.{posts_of}
 use Rattle.thes_posting_files.specs.PostingFile.{IsPostingFile}
@@ -50,6 +49,24 @@ module _ {K : Type 0} (view : K → StorageView) where
     performs = λ up. let x = shows up in performs_none office.limits (view office.keeper).rows x.0 x.1 x.2 x.3;
   }
 
+  -- A proper prefix of the rows was performed, with these outcomes.
+  pub record PerformsSomeWith (old : OfficeView K) (rows : List CsvRow) (outcomes : List Outcome)
+      (new : OfficeView K) : Type 0 where
+    pub first_rows : List CsvRow
+    pub other_rows : List CsvRow
+    pub all : rows ≡ first_rows ++ other_rows
+    pub some : 0 < length other_rows
+    pub performs : PerformsWith view old first_rows outcomes new
+
+  -- All rows were performed and reported; or a fault ended the run before some row, and only the
+  -- rows before it were performed and reported.
+  abbrev pub ReportsRows : OfficeView K → List CsvRow → Report → Result (Unit {0}) Fault → Report → OfficeView K
+      → Type 0
+  ReportsRows old rows report (Ok done) report' new =
+      (outcomes : List Outcome) × PerformsWith view old rows outcomes new × AddsOutcomes outcomes report report'
+  ReportsRows old rows report (Err fault) report' new =
+      (outcomes : List Outcome) × PerformsSomeWith old rows outcomes new × AddsOutcomes outcomes report report'
+
   rows_performed : (old new : OfficeView K) (rows : List CsvRow) (before after : List Answer)
       (ran : CompleteRun view old (posts_of rows) before after new)
       → PerformsWith view old rows (outcomes_of (map fault_of_row rows) ran.answers) new
@@ -68,7 +85,7 @@ module _ {K : Type 0} (view : K → StorageView) where
 
   rows_stopped : (old new : OfficeView K) (rows : List CsvRow) (before after : List Answer)
       (ran : PartialRun view old (posts_of rows) before after new)
-      → PerformsSomeWith view old rows (outcomes_of (map fault_of_row rows) ran.answers) new
+      → PerformsSomeWith old rows (outcomes_of (map fault_of_row rows) ran.answers) new
   rows_stopped old new rows before after ran =
       let r = rows_answered rows ran.commands_done ran.commands_left ran.answers ran.all ran.each in
       record {
@@ -95,7 +112,7 @@ module _ {K : Type 0} (view : K → StorageView) where
       (report report' : Report) → posts ≡ posts_of rows → faults ≡ map fault_of_row rows
       → RunResult view old posts [] answers result new
       → AddsOutcomes (outcomes_of faults answers) report report'
-      → ReportsRows view old rows report result report' new
+      → ReportsRows old rows report result report' new
   rows_reported old new rows posts faults answers (Ok done) report report' p f ran adds =
       let run = subst (λ (l : List Command). CompleteRun view old l [] answers new) p ran in
       let same : outcomes_of faults answers ≡ outcomes_of (map fault_of_row rows) run.answers =
@@ -113,27 +130,11 @@ module _ {K : Type 0} (view : K → StorageView) where
         subst (λ (l : List Outcome). AddsOutcomes l report report') same adds,
       )
 
-  -- A fault before the first row of a block leaves no row performed or reported.
-  pub rows_unread : (office : OfficeView K) (rows : List CsvRow) (report report' : Report) (fault : Fault)
-      → ShowsState office → 0 < length rows → report'.text.items ≡ report.text.items → report'.counts ≡ report.counts
-      → ReportsRows view office rows report (Err fault) report' office
-  rows_unread office rows report report' fault shows some text counts = (
-    [],
-    record {
-      first_rows = [];
-      other_rows = rows;
-      all = refl;
-      some = some;
-      performs = performs_nothing office shows;
-    },
-    adds_none report report' text counts,
-  )
-
   -- If the rows of a block were read, performed and reported, so was the block.
   pub block_reported : (old new : OfficeView K) (reader reader' : RowReader) (report report' : Report)
       (rows : List CsvRow) → ((bytes : List ℕ) (all first : List CsvRow) → HasReadRows bytes all first reader
       → HasReadRows bytes all (first ++ rows) reader') → reader'.unread + length rows ≡ reader.unread → 0 < length rows
-      → length rows ≤ 1000 → ReportsRows view old rows report (let x : Result (Unit {0}) Fault = Ok tt in x)
+      → length rows ≤ 1000 → ReportsRows old rows report (let x : Result (Unit {0}) Fault = Ok tt in x)
       report' new → ReportsBlock view old reader report report' reader' new
   block_reported old new reader reader' report report' rows reads unread some few reports = record {
     rows = rows;
@@ -149,7 +150,7 @@ module _ {K : Type 0} (view : K → StorageView) where
   pub block_stopped : (old new : OfficeView K) (reader reader' : RowReader) (report report' : Report)
       (rows : List CsvRow) (fault : Fault) → ((bytes : List ℕ) (all first : List CsvRow)
       → HasReadRows bytes all first reader → HasReadRows bytes all (first ++ rows) reader') → length rows ≤ 1000
-      → ReportsRows view old rows report (Err fault) report' new
+      → ReportsRows old rows report (Err fault) report' new
       → StopsInBlock view old reader report report' new
   block_stopped old new reader reader' report report' rows fault reads few reports =
       let part = reports.1 in
@@ -173,29 +174,33 @@ module _ {K : Type 0} (view : K → StorageView) where
         reports = reports.2;
       }
 
-  -- If a block can't be read, the import ends before the first row of the block.
-  pub block_unread : (office : OfficeView K) (reader : RowReader) (report : Report) → ShowsState office
-      → 0 < reader.unread → StopsInBlock view office reader report report office
-  block_unread office reader report shows some = record {
-    rows = [];
-    outcomes = [];
-    leaves = λ bytes all first h.
-        let o = others_left bytes all first reader h in (
-          o.0,
-          subst (λ (l : List CsvRow). IsPostingFile bytes (l ++ o.0)) (sym (append-nil first)) o.1,
-          omega (arith, o.2, some),
-        );
-    few = omega arith;
-    performs = performs_nothing office shows;
-    reports = adds_none report report refl refl;
-  }
+  -- If memory for a block runs out, the import ends before the first row of the block.
+  pub block_unread : (office : OfficeView K) (reader reader' : RowReader) (report report' : Report)
+      (result : Result (Unit {0}) Fault) (fault : Fault) → result ≡ Err fault → ShowsState office → 0 < reader.unread
+      → report'.text.items ≡ report.text.items → report'.counts ≡ report.counts
+      → ImportsBlock view office reader report result report' reader' office
+  block_unread office reader reader' report report' result fault is shows some text counts = subst
+      (λ (r : Result (Unit {0}) Fault). ImportsBlock view office reader report r report' reader' office) (sym is)
+      record {
+        rows = [];
+        outcomes = [];
+        leaves = λ bytes all first h.
+            let o = others_left bytes all first reader h in (
+              o.0,
+              subst (λ (l : List CsvRow). IsPostingFile bytes (l ++ o.0)) (sym (append-nil first)) o.1,
+              omega (arith, o.2, some),
+            );
+        few = omega arith;
+        performs = performs_nothing office shows;
+        reports = adds_none report report' text counts;
+      }
 
   -- The result of the rows of a block determines the result of the block.
   pub block_result : (old new : OfficeView K) (reader reader' : RowReader) (report report' : Report)
       (rows : List CsvRow) (result : Result (Unit {0}) Fault) → ((bytes : List ℕ) (all first : List CsvRow)
       → HasReadRows bytes all first reader → HasReadRows bytes all (first ++ rows) reader')
       → reader'.unread + length rows ≡ reader.unread → 0 < length rows → length rows ≤ 1000
-      → ReportsRows view old rows report result report' new
+      → ReportsRows old rows report result report' new
       → ImportsBlock view old reader report result report' reader' new
   block_result old new reader reader' report report' rows (Ok done) reads unread some few reports =
       block_reported old new reader reader' report report' rows reads unread some few reports

@@ -1,5 +1,5 @@
 -- Proves that a file and the state before determine the report of an import, and the state after it.
-use Rattle.std.proofs.Common.{◌≡◌, ◌∙◌, ◌∷◌, [], ℕ, List, Ok, refl, sym, subst}
+use Rattle.std.proofs.Common.{◌≡◌, ◌∙◌, ◌∷◌, [], ℕ, List, Option, Some, None, Ok, refl, sym, subst}
 use Rattle.std.specs.List.{AllZip}
 use Rattle.thes_base.specs.declared.data.Limits.{Limits}
 use Rattle.thes_base.specs.declared.request.Answer.{Answer}
@@ -15,6 +15,7 @@ use Rattle.thes_posting_files.specs.declared.csv_row.CsvRow.{CsvRow}
 use Rattle.thes_posting_files.specs.declared.csv_row.CsvRow.TheVariants as row
 use Rattle.thes_posting_files.specs.declared.outcome.Outcome.{Outcome}
 use Rattle.thes_posting_files.specs.declared.outcome.Outcome.TheVariants as outcome
+use Rattle.thes_posting_files.specs.declared.report.Report.{Report}
 use Rattle.thes_posting_files.proofs.OneFileLemmas.{one_file}
 use Rattle.thes_tables.specs.Cells.{Raw}
 use Rattle.thes_store.specs.Storage.{StorageView}
@@ -24,8 +25,6 @@ use Rattle.thes_office.proofs.StateTableLemmas.{state_is_unique}
 use Rattle.thes_office.proofs.StepLemmas.{setting_fits}
 use Rattle.thes_import.specs.Imports.{Imports}
 use Rattle.thes_import.specs.OneImport.{HasOneImport, ReportSame}
-use Rattle.thes_import.specs.declared.postings.ReportEnd.{ReportEnd}
-use Rattle.thes_import.specs.declared.postings.ReportEnd.TheVariants.{Rows, Malformed}
 
 -- The rows and the answers of their postings determine the outcomes.
 one_list_of_outcomes : (rows : List CsvRow) (os qs : List Outcome) → AllZip IsOutcome rows os
@@ -59,17 +58,17 @@ run_from_state limits base s old new commands answers shows ran =
     × TablesOfState new p.0 t) (λ i. (one.0 i, one.1 i)) (ran.state_after, ran.run, ran.shows)
 
 -- The import of a file leads from the one state to the other: a run of the machine over the postings of its rows.
-abbrev pub IsImportOf : Setting → State → List ℕ → ReportEnd → State → Type 0
-IsImportOf setting s file (Rows report) t =
+abbrev pub IsImportOf : Setting → State → List ℕ → Option Report → State → Type 0
+IsImportOf setting s file (Some report) t =
     (rows : List CsvRow) × (outcomes : List Outcome) × IsPostingFile file rows × AllZip IsOutcome rows outcomes
     × ReportsOutcomes outcomes report × Run setting s (posts_of rows) (answers_of outcomes) t
-IsImportOf setting s file Malformed t = HasNoHeader file × (t ≡ s)
+IsImportOf setting s file None t = HasNoHeader file × (t ≡ s)
 
 -- A file has at most one import from a legal state.
 pub one_import_of : (setting : Setting) → IsSetting setting → (s t u : State) → IsLegalState setting.base s
-    → (file : List ℕ) (a b : ReportEnd) → IsImportOf setting s file a t → IsImportOf setting s file b u
+    → (file : List ℕ) (a b : Option Report) → IsImportOf setting s file a t → IsImportOf setting s file b u
     → ReportSame a b × (t ≡ u)
-one_import_of setting fit s t u legal file (Rows report) (Rows other) x y =
+one_import_of setting fit s t u legal file (Some report) (Some other) x y =
     let rows = one_file.rows file y.0 x.0 y.2 x.2 in
     let run = subst (λ (rs : List CsvRow). Run setting s (posts_of rs) (answers_of y.1) u) rows y.5 in
     let each = subst (λ (rs : List CsvRow). AllZip IsOutcome rs y.1) rows y.3 in
@@ -77,22 +76,22 @@ one_import_of setting fit s t u legal file (Rows report) (Rows other) x y =
     let same = one_list_of_outcomes x.0 x.1 y.1 x.3 each one.0 in
     let mine = x.4 in let others = subst (λ (os : List Outcome). ReportsOutcomes os other) (sym same) y.4 in
     ((mine.text ∙ sym others.text, mine.counts ∙ sym others.counts), one.1)
-one_import_of setting fit s t u legal file (Rows report) Malformed x y = absurd (one_file.header file x.0 x.2 y.0)
-one_import_of setting fit s t u legal file Malformed (Rows other) x y = absurd (one_file.header file y.0 y.2 x.0)
-one_import_of setting fit s t u legal file Malformed Malformed x y = (tt, x.1 ∙ sym y.1)
+one_import_of setting fit s t u legal file (Some report) None x y = absurd (one_file.header file x.0 x.2 y.0)
+one_import_of setting fit s t u legal file None (Some other) x y = absurd (one_file.header file y.0 y.2 x.0)
+one_import_of setting fit s t u legal file None None x y = (tt, x.1 ∙ sym y.1)
 
 module _ {K : Type 0} (view : K → StorageView) where
   -- The import by an office is one of the machine, between the states that its tables encode.
-  pub import_from_state : (base : List ℕ) (s : State) (file : List ℕ) (old new : OfficeView K) (done : ReportEnd)
+  pub import_from_state : (base : List ℕ) (s : State) (file : List ℕ) (old new : OfficeView K) (done : Option Report)
       → TablesOfState (view old.keeper).rows base s → (view new.keeper).is_up → Imports view old file (Ok done) new
       → (t : State) × IsImportOf (setting_of base old.limits) s file done t
       × TablesOfState (view new.keeper).rows base t
-  import_from_state base s file old new (Rows report) shows up (rows, is_file, all) =
+  import_from_state base s file old new (Some report) shows up (rows, is_file, all) =
       let performs = all.performs up in
       let ran = run_from_state old.limits base s (view old.keeper).rows (view new.keeper).rows (posts_of rows)
       (answers_of all.outcomes) shows performs.goes_on in
       (ran.0, (rows, all.outcomes, is_file, all.each, all.reports, ran.1), ran.2)
-  import_from_state base s file old new Malformed shows up (none, same) =
+  import_from_state base s file old new None shows up (none, same) =
       (s, (none, refl), subst (λ (o : OfficeView K). TablesOfState (view o.keeper).rows base s) (sym same) shows)
 
 pub one_import : {K L : Type 0} (view : K → StorageView) (other : L → StorageView) → HasOneImport view other

@@ -1,5 +1,5 @@
 -- The effect of an import on the tables, and its report.
-use Rattle.std.specs.Prelude.{◌≡◌, ◌⊎◌, ◌<◌, ◌≤◌, ◌++◌, ℕ, List, length, Result, Ok, Err}
+use Rattle.std.specs.Prelude.{◌≡◌, ◌⊎◌, ◌<◌, ◌≤◌, ◌++◌, ℕ, List, length, Option, Some, None, Result, Ok, Err}
 use Rattle.std.specs.List.{AllByRecursion, AllZip}
 use Rattle.thes_base.specs.declared.data.Limits.{Limits}
 use Rattle.thes_base.specs.declared.fault.Fault.{Fault}
@@ -11,17 +11,9 @@ use Rattle.thes_posting_files.specs.declared.csv_row.CsvRow.{CsvRow}
 use Rattle.thes_office.specs.Office.{ChangesNothing, TablesAfterRun, OfficeView}
 use Rattle.thes_posting_files.specs.Outcomes.{AddsOutcomes, IsBlankReport, IsOutcome, ReportsOutcomes, answers_of, posts_of}
 use Rattle.thes_posting_files.specs.declared.outcome.Outcome.{Outcome}
-use Rattle.thes_import.specs.declared.postings.ReportStop.{ReportStop}
-use Rattle.thes_import.specs.declared.postings.ReportEnd.{ReportEnd}
-use Rattle.thes_import.specs.declared.postings.ReportEnd.TheVariants.{Rows, Malformed}
 use Rattle.thes_posting_files.specs.RowReading.{HasReadRows}
 use Rattle.thes_posting_files.specs.declared.reading.RowReader.{RowReader}
 use Rattle.thes_posting_files.specs.declared.report.Report.{Report}
-
--- The rows of a block: from 1 to 1,000.
-pub record IsRowBlock (rows : List CsvRow) : Type 0 where
-  pub some : 0 < length rows
-  pub few : length rows ≤ 1000
 
 -- A run of the machine over the requests of the rows has the answers in these outcomes, and leads
 -- to the new tables. The tables are unchanged if no answer changes anything.
@@ -37,24 +29,6 @@ module _ {K : Type 0} (view : K → StorageView) where
     pub each : AllZip IsOutcome rows outcomes
     pub performs : (view new.keeper).is_up → PerformsRows old.limits (view old.keeper).rows rows outcomes
         (view new.keeper).rows
-
-  -- A proper prefix of the rows was performed, with these outcomes.
-  pub record PerformsSomeWith (old : OfficeView K) (rows : List CsvRow) (outcomes : List Outcome)
-      (new : OfficeView K) : Type 0 where
-    pub first_rows : List CsvRow
-    pub other_rows : List CsvRow
-    pub all : rows ≡ first_rows ++ other_rows
-    pub some : 0 < length other_rows
-    pub performs : PerformsWith old first_rows outcomes new
-
-  -- All rows were performed and reported; or a fault ended the run before some row, and only the
-  -- rows before it were performed and reported.
-  abbrev pub ReportsRows : OfficeView K → List CsvRow → Report → Result (Unit {0}) Fault → Report → OfficeView K
-      → Type 0
-  ReportsRows old rows report (Ok done) report' new =
-      (outcomes : List Outcome) × PerformsWith old rows outcomes new × AddsOutcomes outcomes report report'
-  ReportsRows old rows report (Err fault) report' new =
-      (outcomes : List Outcome) × PerformsSomeWith old rows outcomes new × AddsOutcomes outcomes report report'
 
   -- The next block of rows was read, performed and reported.
   pub record ReportsBlock (old : OfficeView K) (reader : RowReader) (report report' : Report) (reader' : RowReader)
@@ -104,15 +78,15 @@ module _ {K : Type 0} (view : K → StorageView) where
 
   -- All rows of the file were performed, or some of them before a fault, or none if the file has no
   -- header.
-  abbrev pub Imports : OfficeView K → List ℕ → Result ReportEnd ReportStop → OfficeView K → Type 0
-  Imports old file (Ok (Rows report)) new =
+  abbrev pub Imports : OfficeView K → List ℕ → Result (Option Report) (Fault × Report) → OfficeView K → Type 0
+  Imports old file (Ok (Some report)) new =
       (rows : List CsvRow) × IsPostingFile file rows × ImportsRows old rows report new
-  Imports old file (Ok Malformed) new = HasNoHeader file × (new ≡ old)
+  Imports old file (Ok None) new = HasNoHeader file × (new ≡ old)
   Imports old file (Err halted) new =
-      ((halted.fault ≡ faults.OutOfMemory) × IsBlankReport halted.report × (new ≡ old))
-      ⊎ ((rows : List CsvRow) × IsPostingFile file rows × ImportsSome old rows halted.report new)
+      ((halted.0 ≡ faults.OutOfMemory) × IsBlankReport halted.1 × (new ≡ old))
+      ⊎ ((rows : List CsvRow) × IsPostingFile file rows × ImportsSome old rows halted.1 new)
 
 -- The result of an import, with its fault but without reports.
-abbrev pub fault_in : {A : Type 0} → Result A ReportStop → Result (Unit {0}) Fault
+abbrev pub fault_in : {A B : Type 0} → Result A (Fault × B) → Result (Unit {0}) Fault
 fault_in (Ok x) = Ok tt
-fault_in (Err halted) = Err halted.fault
+fault_in (Err halted) = Err halted.0

@@ -1,5 +1,5 @@
 -- The law of imports: a file and the state before determine the report, and the state after it.
-use Rattle.std.specs.Prelude.{◌≡◌, ℕ, List, Ok}
+use Rattle.std.specs.Prelude.{◌≡◌, ℕ, List, Option, Some, None, Ok}
 use Rattle.thes_base.specs.Refusals.{AreLimits}
 use Rattle.thes_base.specs.State.{State}
 use Rattle.thes_tables.specs.Cells.{Raw}
@@ -7,8 +7,7 @@ use Rattle.thes_store.specs.Storage.{StorageView}
 use Rattle.thes_office.specs.Office.{OfficeView}
 use Rattle.thes_office.specs.TablesOfState.{TablesOfState}
 use Rattle.thes_import.specs.Imports.{Imports}
-use Rattle.thes_import.specs.declared.postings.ReportEnd.{ReportEnd}
-use Rattle.thes_import.specs.declared.postings.ReportEnd.TheVariants.{Rows, Malformed}
+use Rattle.thes_posting_files.specs.declared.report.Report.{Report}
 
 -- Both tables encode one state, with this base.
 pub record EncodeOneState (base : List ℕ) (first second : Raw) : Type 0 where
@@ -17,14 +16,14 @@ pub record EncodeOneState (base : List ℕ) (first second : Raw) : Type 0 where
   pub other : TablesOfState second base state
 
 -- Both reports have the same text and counts, or both imports found no header.
-abbrev pub ReportSame : ReportEnd → ReportEnd → Type 0
-ReportSame (Rows report) (Rows other) = (report.text.items ≡ other.text.items) × (report.counts ≡ other.counts)
-ReportSame Malformed Malformed = Unit {0}
+abbrev pub ReportSame : Option Report → Option Report → Type 0
+ReportSame (Some report) (Some other) = (report.text.items ≡ other.text.items) × (report.counts ≡ other.counts)
+ReportSame None None = Unit {0}
 ReportSame a b = ⊥
 
 module _ {K : Type 0} (view : K → StorageView) where
   -- The import of the file by an office whose tables encode the state, and whose storage is up at the end.
-  pub record ImportsInState (base : List ℕ) (s : State) (old : OfficeView K) (file : List ℕ) (done : ReportEnd)
+  pub record ImportsInState (base : List ℕ) (s : State) (old : OfficeView K) (file : List ℕ) (done : Option Report)
       (new : OfficeView K) : Type 0 where
     pub few : AreLimits old.limits
     pub shows : TablesOfState (view old.keeper).rows base s
@@ -35,7 +34,8 @@ module _ {K : Type 0} (view : K → StorageView) where
 -- then encode the same state, unless a fault halts an import.
 abbrev pub HasOneImport : {K L : Type 0} → (K → StorageView) → (L → StorageView) → Type 0
 HasOneImport {K} {L} view other =
-    (base : List ℕ) (s : State) (file : List ℕ) (old new : OfficeView K) (old' new' : OfficeView L) (a b : ReportEnd)
+    (base : List ℕ) (s : State) (file : List ℕ) (old new : OfficeView K) (old' new' : OfficeView L)
+    (a b : Option Report)
     → old'.limits ≡ old.limits → ImportsInState view base s old file a new
     → ImportsInState other base s old' file b new'
     → ReportSame a b × EncodeOneState base (view new.keeper).rows (other new'.keeper).rows

@@ -1,4 +1,4 @@
-//! Imports posting files into an office.
+//! Performs posting files over an office, and reports each row.
 #![tactic(auto)]
 
 pub mod import;

@@ -1,11 +1,15 @@
 -- Facts about the job that is opened.
-use Rattle.std.proofs.Common.{◌≡◌, Bool, Ok, Err, None, Some, refl}
+use Rattle.std.proofs.Common.{◌≡◌, Bool, true, false, IsTrue, Ok, Err, None, Some, refl}
 use Rattle.std.specs.Global.{Global}
 use Rattle.std.specs.declared.string.String.{String}
+use Rattle.thes_command_line.specs.Opening.{preparation_of}
 use Rattle.thes_command_line.specs.declared.arguments.Job.{Job}
 use Rattle.thes_command_line.specs.declared.arguments.StoreSetting.{StoreSetting}
 use Rattle.thes_command_line.specs.declared.arguments.Task.{Task}
 use Rattle.thes_command_line.specs.declared.arguments.Task.TheVariants as tasks
+use Rattle.thes_command_line.specs.declared.opening.Opening.{Opening}
+use Rattle.thes_command_line.specs.declared.opening.Opening.TheVariants.{New, Existing}
+use Rattle.thes_command_line.specs.declared.opening.Preparation.TheVariants.{MakeTables}
 use Rattle.thes_jobs.specs.PlannedWork.{OpensPlanned, planned_work}
 use Rattle.thes_jobs.specs.Starting.{job_in_file}
 
@@ -27,3 +31,12 @@ migrates F L tasks.Migrate prints_it h = refl
 pub same_job : (job : Job) (task : Task) (file : String Global) (setting : StoreSetting) → task ≡ job.task
     → Some file ≡ job.file → setting ≡ job.setting → job_in_file task file setting ≡ job
 same_job job task file setting a b c = rw (a, b, c) refl
+
+-- Tables are made only in a blank database.
+pub makes_in_blank : (opening : Opening) (is_blank reads_only : Bool)
+    → preparation_of opening is_blank reads_only ≡ MakeTables → IsTrue is_blank
+makes_in_blank New true reads_only is = refl
+makes_in_blank New false true is = absurd cc
+makes_in_blank New false false is = absurd cc
+makes_in_blank Existing is_blank true is = absurd cc
+makes_in_blank Existing is_blank false is = absurd cc

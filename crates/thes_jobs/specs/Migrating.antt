@@ -5,8 +5,10 @@ use Rattle.sqlite_trees.specs.declared.store.Store.{Ghosts}
 use Rattle.thes_base.specs.declared.fault.Fault.{Fault}
 use Rattle.thes_base.specs.declared.pipe.Pipe.{Pipe}
 use Rattle.thes_sqlite.specs.MigrationEffects.{Migrates}
+use Rattle.thes_sqlite.specs.declared.cause.Cause.{Cause}
 use Rattle.thes_command_line.specs.Printing.{Prints, PrintsText, file_fault_lines}
 use Rattle.thes_command_line.specs.declared.trouble.StoreTrouble.TheVariants.{Unwritable}
+use Rattle.thes_jobs.specs.Trouble.{trouble_of}
 
 -- The line of a store's version after a migration.
 abbrev pub version_line : List ℕ
@@ -14,10 +16,12 @@ version_line = codes "version 2\n"
 
 module _ {W E : Type 0} (out : W → Option (List ℕ)) (err : E → Option (List ℕ))
     (output output' : Pipe W) (errors errors' : Pipe E) where
-  -- The store couldn't be migrated: the fault is printed after the line of the store's file, and the status is 3.
+  -- The store couldn't be migrated: the fault is printed after the line of the store's file, which ends with the reason
+  -- that its cause gives, and the status is 3.
   pub record ReportsUnmigrated (file : List ℕ) (fault : Fault) (status : ℕ) : Type 0 where
+    pub cause : Cause
     pub silent : output' ≡ output
-    pub prints_it : Prints err errors errors' (file_fault_lines file Unwritable fault)
+    pub prints_it : Prints err errors errors' (file_fault_lines file (trouble_of cause Unwritable) fault)
     pub status_is : status ≡ 3
 
   -- The result of a migration is printed: the version, or the fault.

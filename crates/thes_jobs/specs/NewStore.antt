@@ -7,8 +7,8 @@ use Rattle.sqlite_trees.specs.declared.store.Store.{Ghosts}
 use Rattle.thes_base.specs.declared.fault.Fault.{Fault}
 use Rattle.thes_tables.specs.Tables.{empty_tables}
 use Rattle.thes_sql.specs.TransactionEffects.{IsEmpty}
-use Rattle.thes_sql.specs.Schema.{empty_schema}
-use Rattle.thes_sql.specs.StoredRows.{Keeps}
+use Rattle.thes_sql.specs.Schema.{empty_schema, store_schema}
+use Rattle.thes_sql.specs.StoredRows.{KeepsIn}
 use Rattle.thes_sqlite.specs.Causes.{error_cause}
 use Rattle.thes_sqlite.specs.Faults.{error_fault}
 use Rattle.thes_sqlite.specs.KeeperView.{IsUp}
@@ -33,7 +33,8 @@ module _ {S : Type 0} (store : Ghosts S) where
   abbrev pub MakesStore : List ℕ → Held S → Result (Unit {0}) (StoreTrouble × Fault) → Held S → Type 0
   MakesStore base old (Ok done) new =
       HasCleanDisk (state store new) → IsEmpty empty_schema (state store old).now
-      → Keeps (state store new).committed (empty_tables base) × Keeps (state store new).now (empty_tables base)
+      → KeepsIn store_schema (state store new).committed (empty_tables base)
+      × KeepsIn store_schema (state store new).now (empty_tables base)
   MakesStore base old (Err reported) new = IsUnmade old reported.0 reported.1 new
 
   -- The tables of a new store are made; every other preparation leaves the database as it is.

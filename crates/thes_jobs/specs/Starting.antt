@@ -5,6 +5,7 @@ use Rattle.std.specs.declared.fs.File.{File}
 use Rattle.std.specs.declared.net.tcp.TcpListener.{TcpListener}
 use Rattle.std.specs.declared.string.String.{String}
 use Rattle.sqlite.specs.Held.{Held}
+use Rattle.sqlite.specs.Schema.{Schema}
 use Rattle.sqlite_trees.specs.declared.store.Store.{Ghosts}
 use Rattle.thes_base.specs.declared.fault.Fault.{Fault}
 use Rattle.thes_tables.specs.Tables.{Tables}
@@ -30,7 +31,7 @@ use Rattle.thes_jobs.specs.declared.work.DatabaseWork.{DatabaseWork}
 use Rattle.thes_jobs.specs.declared.work.MemoryWork.{MemoryWork}
 
 -- The connection of work over a store in a file is ready for it, and that of a migration is in no transaction.
-abbrev pub IsReadyJob : {S O : Type 0} → Ghosts S → (Tables → Type 0) → OpenJob S O → Type 0
+abbrev pub IsReadyJob : {S O : Type 0} → Ghosts S → (Schema → Tables → Type 0) → OpenJob S O → Type 0
 IsReadyJob g held (InFile work) = IsReadyConnection g held work.conn
 IsReadyJob g held (InMemory work) = Unit {0}
 IsReadyJob g held (Migration file conn) = conn.in_transaction ≡ false

@@ -1,5 +1,6 @@
 //! How the databases of stores are opened and closed.
 ghost use Rattle.std.specs.Prelude.{IfOk};
+ghost use Rattle.sqlite.specs.Schema.{Schema};
 ghost use Rattle.thes_tables.specs.Tables.{Tables};
 
 use crate::store_files::{ReopenedImage, StoreFiles, close_database_files, open_database_files};
@@ -28,9 +29,9 @@ pub trait Databases<C, O, L> {
     // The files were closed, and the disk has returned what was written.
     ghost is_clean: { L → Type 0 };
 
-    // The files hold a store with these tables, as they read now and whatever a crash leaves of
-    // them.
-    ghost holds: { L → Tables → Type 0 };
+    // The files hold a store with this schema and these tables, as they read now and whatever a
+    // crash leaves of them.
+    ghost holds: { L → Schema → Tables → Type 0 };
 
     /// Opens the database in a file; if there is no such file, makes it. The image of what the files
     /// held is consumed, so that one opening alone is of them.

@@ -1,4 +1,5 @@
-//! Opens the job of a command line: its store, in a database or in memory, and its file or socket.
+//! Opens the job of a command line: its store, in a database or in memory, and its file or socket;
+//! reports a store that can't be opened.
 #![tactic(auto)]
 
 pub mod databases;

@@ -3,12 +3,14 @@ ghost use Rattle.std.specs.Prelude.{◌≡◌, false};
 ghost use Rattle.thes_jobs.specs.Migrating.{MigratesDatabase, version_line};
 ghost use Rattle.thes_command_line.specs.Printing.{AreFreshOutputs, PrintsText};
 
+use crate::trouble::trouble_of;
 use sqlite::{Alter, Connection};
 use std::alloc::Global;
 use std::io::Write;
 use thes_base::pipe::Pipe;
 use thes_command_line::printing::{print_out, report_in_file};
 use thes_command_line::trouble::StoreTrouble;
+use thes_sqlite::cause::FaultCause;
 use thes_sqlite::keeper::SqlKeeper;
 
 /// Prints the line of version 2, and returns the exit status: 0, or 3 if it can't be written.
@@ -36,12 +38,13 @@ pub fn migrate_in_database<S: Alter, W: Write, E: Write>(
 {
     let mut keeper = SqlKeeper::adopt(alloc, conn);
     let ended = keeper.migrate();
+    let cause = keeper.cause();
     let conn = keeper.into_connection();
     match ended {
         Ok(_) => (print_version(output, errors), conn),
-        Err(fault) => (
-            report_in_file(errors, file, StoreTrouble::Unwritable, fault),
-            conn,
-        ),
+        Err(fault) => {
+            let trouble = trouble_of(cause, StoreTrouble::Unwritable);
+            (report_in_file(errors, file, trouble, fault), conn)
+        }
     }
 }

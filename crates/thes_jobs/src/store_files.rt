@@ -128,7 +128,7 @@ impl<'r, S> StoreFiles<'r, S> {
 }
 
 impl<S: Start> HeldTables for StoreFiles<'_, S> {
-    ghost held = { λ t. HoldsStore (image_at S.Start) t };
+    ghost held = { HoldsStore (image_at S.Start) };
 }
 
 impl<S: Start + ReopenedImage> Reopen<Connection<FileStore<FileFrom<S>>>> for StoreFiles<'_, S> {

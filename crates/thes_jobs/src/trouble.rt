@@ -2,6 +2,7 @@
 ghost use Rattle.std.specs.Prelude.{◌≡◌, option_map, string_bytes};
 ghost use Rattle.thes_base.specs.Pipe.{IsFresh};
 ghost use Rattle.thes_command_line.specs.Printing.{Prints, fault_lines};
+ghost use Rattle.thes_command_line.specs.declared.trouble.StoreTrouble.TheVariants.{Unreadable};
 ghost use Rattle.thes_jobs.specs.Trouble as trouble;
 
 use std::io::Write;
@@ -31,19 +32,25 @@ pub fn trouble_of(cause: Cause, other: StoreTrouble) -> StoreTrouble
 }
 
 /// Prints the fault of a store that can't be opened, after the name of its file if it has one, and
-/// returns the exit status 3.
+/// returns the exit status 3. The reason for the fault `Store` is that of its cause.
 pub fn report_unopened_store<E: Write>(
     errors: &mut Pipe<E>,
     file: &Option<String>,
+    cause: Cause,
     fault: Fault,
 ) -> u8
     requires { IsFresh errors.old }
-    ensures line { Prints E.contents errors.old errors.new
-        (fault_lines (option_map string_bytes file.now) StoreTrouble.Unreadable fault) }
+    ensures line { Prints E.contents errors.old errors.new (fault_lines
+        (option_map string_bytes file.now) (trouble.trouble_of cause Unreadable) fault) }
     ensures status { result ≡ 3 }
 {
     match file {
-        Some(file) => report_in_file(errors, file.as_str(), StoreTrouble::Unreadable, fault),
+        Some(file) => report_in_file(
+            errors,
+            file.as_str(),
+            trouble_of(cause, StoreTrouble::Unreadable),
+            fault,
+        ),
         None => report_fault(errors, PipeFault::Fault(fault)),
     }
 }

@@ -41,7 +41,7 @@ module _ (is_outside : ℕ → Bool) (source target : ℕ) (held : Links) where
       target l ≡ Some (redirect_link source target l)
   becomes_of_two l two = ap (λ b. if b then None else Some (redirect_link source target l)) (ne_eqb _ _ two)
 
-  two_of_becomes : (l n : Link) → link_after_merge source target l ≡ Some n
+  pub two_of_becomes : (l n : Link) → link_after_merge source target l ≡ Some n
       → (redirect source target l.a ≢ redirect source target l.b) × (redirect_link source target l ≡ n)
   two_of_becomes l n e = grind (arith, common_steps, eqb-false, none-some, same_Some)
 

@@ -1,6 +1,9 @@
 -- A node is in a list of nodes exactly when the test for equality with it succeeds for some node of the list.
 use Rattle.std.proofs.lemmas.Grind.{common_steps}
-use Rattle.std.proofs.Common.{◌≡◌, ℕ, List, Bool, true, false, nat_eq, Contains, sym, ◌∙◌, arith}
+use Rattle.std.proofs.Common.{◌≡◌, ◌++◌, ◌∷◌, [], inl, inr, ℕ, List, Bool, true, false, nat_eq, Contains, sym, subst, ◌∙◌}
+use Rattle.std.proofs.Common.{arith}
+use Rattle.std.proofs.lemmas.List.Elements.{Contains-push_cases}
+use Rattle.thes_links.specs.NodeSet.{HasSharedBit, HasSharedBits}
 use Rattle.std.specs.Bool.{MatchBool}
 use Rattle.std.specs.List.{list_any}
 use Rattle.std.specs.Cmp.{nat_eq_equiv}
@@ -22,3 +25,12 @@ has_met nodes n false e = λ has. true≢false (sym (test_of_has nodes n has) �
 
 pub no_test_of_none : (nodes : List ℕ) (n : ℕ) → (Contains nodes n → ⊥) → list_any (nat_eq n) nodes ≡ false
 no_test_of_none nodes n none = grind (arith, common_steps, has_of_test)
+
+-- The bits of a list's nodes are set after that of one more node is.
+pub shared_bits_push : (nodes : List ℕ) (n old new : ℕ) → HasSharedBit new n
+    → ((m : ℕ) → HasSharedBit old m → HasSharedBit new m) → HasSharedBits nodes old
+    → HasSharedBits (nodes ++ n ∷ []) new
+shared_bits_push nodes n old new here kept are m has = elim (Contains-push_cases nodes n m has) [
+  | inl before ↦ kept m (are m before)
+  | inr same ↦ subst (HasSharedBit new) same here
+]

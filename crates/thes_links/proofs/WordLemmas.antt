@@ -9,7 +9,7 @@ use Rattle.std.proofs.lemmas.Bool.Decides.{Decides-eqb}
 use Rattle.std.proofs.lemmas.Nat.{div-add-mod'}
 use Rattle.std.proofs.lemmas.Nat.Bits.{bit_at_set_same, bit_at_set_other}
 use Rattle.thes_links.specs.Words.{word_at, HasBitsSet}
-use Rattle.thes_links.specs.NodeSet.{mark_at}
+use Rattle.thes_links.specs.NodeSet.{mark_at, HasSharedBit}
 
 pub tested_one : (b : Bool) (v : ℕ) → MatchBool b (v ≡ 1) (v ≡ 1 → ⊥) → b ≡ nat_eq v 1
 tested_one true v one = sym ((Decides-eqb v 1).1 one)
@@ -48,7 +48,8 @@ module _ (old new : List ℕ) (n : ℕ) (set : HasBitsSet old new (n / 64) (1 * 
           (word_same old new (n / 64) (1 * 2 ^ (n % 64) % 2 ^ 64) set (n / 64) refl)
           ∙ bit_at_set_same w64 (word_at old (n / 64)) (n % 64) within
 
-      elsewhere : (m : ℕ) → (m ≡ n → ⊥) → bit_at (word_at new (m / 64)) (m % 64) ≡ bit_at (word_at old (m / 64)) (m % 64)
+      elsewhere : (m : ℕ) → (m ≡ n → ⊥)
+          → bit_at (word_at new (m / 64)) (m % 64) ≡ bit_at (word_at old (m / 64)) (m % 64)
       elsewhere m other = elim (cases_eq (m / 64) (n / 64)) [
         | inl same ↦ ap (λ (w : ℕ). bit_at w (m % 64))
             (word_same old new (n / 64) (1 * 2 ^ (n % 64) % 2 ^ 64) set (m / 64) same
@@ -58,3 +59,21 @@ module _ (old new : List ℕ) (n : ℕ) (set : HasBitsSet old new (n / 64) (1 * 
         | inr apart ↦ ap (λ (w : ℕ). bit_at w (m % 64))
             (word_other old new (n / 64) (1 * 2 ^ (n % 64) % 2 ^ 64) set (m / 64) apart)
       ]
+
+-- After the bit of k is set in a word, it is set, and so are those that were.
+module _ (word k : ℕ) where
+  abbrev word_with_bit : ℕ
+  word_with_bit = bit_or word (1 * 2 ^ (k % 64) % 2 ^ 64)
+
+  bit_below : k % 64 < 64
+  bit_below = omega arith
+
+  pub shared_bit_new : (n : ℕ) → k ≡ n → HasSharedBit word_with_bit n
+  shared_bit_new n same = ap (λ (j : ℕ). bit_at word_with_bit (j % 64)) (sym same)
+      ∙ bit_at_set_same w64 word (k % 64) bit_below
+
+  pub shared_bit_old : (m : ℕ) → HasSharedBit word m → HasSharedBit word_with_bit m
+  shared_bit_old m has = elim (cases_eq (m % 64) (k % 64)) [
+    | inl same ↦ ap (bit_at word_with_bit) same ∙ bit_at_set_same w64 word (k % 64) bit_below
+    | inr other ↦ bit_at_set_other w64 word (k % 64) bit_below (m % 64) (λ e. other (omega (arith, e))) ∙ has
+  ]

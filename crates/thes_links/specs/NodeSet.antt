@@ -1,5 +1,5 @@
 -- The nodes that a search has met, as a list and, if they are many, also as marks by number.
-use Rattle.std.specs.Prelude.{◌≡◌, ◌<◌, ◌||◌, ◌/◌, ◌%◌, ℕ, Bool, List, length, nat_eq}
+use Rattle.std.specs.Prelude.{◌≡◌, ◌<◌, ◌||◌, ◌/◌, ◌%◌, ℕ, Bool, List, Contains, length, nat_eq}
 use Rattle.std.specs.Int.{bit_at}
 use Rattle.std.specs.List.{list_any}
 use Rattle.thes_links.specs.Words.{word_at}
@@ -19,3 +19,11 @@ IsOneMore old new n = (m : ℕ) → mark_at new m ≡ (nat_eq m n || mark_at old
 -- The marked numbers are exactly the nodes of the list, if it has more than 16. The marks of other lists are arbitrary.
 abbrev pub IsNodeSet : (nodes marks : List ℕ) → Type 0
 IsNodeSet nodes marks = 16 < length nodes → AreMarked nodes marks
+
+-- The bit of the number is set in the word; numbers that leave the same remainder by 64 share it.
+abbrev pub HasSharedBit : (word n : ℕ) → Type 0
+HasSharedBit word n = bit_at word (n % 64) ≡ 1
+
+-- The bits of all nodes of the list are set in the word.
+abbrev pub HasSharedBits : (nodes : List ℕ) (word : ℕ) → Type 0
+HasSharedBits nodes word = (n : ℕ) → Contains nodes n → HasSharedBit word n

@@ -21,6 +21,7 @@ pub enum LinkEdit {
 
 /// Returns the link with the target in place of the source, or None if both its ends are then the
 /// target.
+#[inline(always)]
 pub fn merge(link: &Link, source: ResNo, target: ResNo) -> Option<Link>
     ensures { result ≡ link_after_merge source target link.now }
 {
@@ -55,7 +56,8 @@ fn merge_all(
     Ok(merged)
 }
 
-/// Returns the links of the list as they are after the edit, with the new link appended if the edit has one.
+/// Returns the links of the list as they are after the edit, with the new link appended if the edit
+/// has one.
 pub fn links_after_edit(
     alloc: Global,
     edit: &LinkEdit,

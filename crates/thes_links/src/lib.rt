@@ -1,5 +1,5 @@
-//! Links as searches read them, one at a time with a count of the visits: the relations that they state, the links after
-//! an edit, and the nodes that a search has met.
+//! What checks of links share: the trait `Links`, which counts visits, the relations that links
+//! state, the links after an edit, and sets of nodes.
 #![tactic(auto)]
 
 pub mod edit;

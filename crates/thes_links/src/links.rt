@@ -12,8 +12,8 @@ use crate::side::{Part, Side};
 use thes_base::data::Link;
 use thes_base::number::ResNo;
 
-/// A reader of a set of links. Each visit, which is one link returned at one of its ends or one look-up of a given
-/// link, is counted. No method creates or copies a set, or resets the count.
+/// A reader of a set of links. Each visit, which is one link returned at one of its ends or one
+/// look-up of a given link, is counted. No method creates or copies a set, or resets the count.
 pub trait Links {
     /// The links held, and the outside concepts.
     ghost net: { Self → GraphView };

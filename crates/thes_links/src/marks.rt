@@ -1,6 +1,6 @@
 //! Marks by number, a bit for each, which replace a linear search in long lists of nodes.
-ghost use Rattle.std.specs.Prelude.{◌≡◌, ◌++◌, ◌∷◌, [], OnErr, OnOk};
-ghost use Rattle.thes_links.specs.NodeSet.{mark_at, AreMarked, IsNodeSet, IsOneMore};
+ghost use Rattle.std.specs.Prelude.{◌≡◌, ◌++◌, ◌∷◌, [], ℕ, MatchBool, OnErr, OnOk};
+ghost use Rattle.thes_links.specs.NodeSet.{mark_at, AreMarked, IsNodeSet, IsOneMore, HasSharedBit};
 
 use crate::words::{has_bit, set_bits};
 use std::alloc::AllocError;
@@ -10,11 +10,30 @@ use thes_base::number::ResNo;
 pub const FEW: usize = 16;
 
 /// Checks whether the number is marked; numbers past the end aren't.
+#[inline(always)]
 pub fn has_mark(marks: &[u64], n: ResNo) -> bool
     ensures { result ≡ mark_at marks.now n }
 {
     let number = n.get();
     has_bit(marks, number / 64, (number % 64) as usize)
+}
+
+/// Checks whether the number's bit is set in the word; numbers that leave the same remainder by 64
+/// share a bit.
+#[inline(always)]
+pub fn has_shared_bit(word: u64, n: ResNo) -> bool
+    ensures { MatchBool result (HasSharedBit word n) (HasSharedBit word n → ⊥) }
+{
+    (word >> (n.get() % 64)) & 1 == 1
+}
+
+/// Returns the word with the number's bit set, too.
+#[inline(always)]
+pub fn with_shared_bit(word: u64, n: ResNo) -> u64
+    ensures new { HasSharedBit result n }
+    ensures old { (m : ℕ) → HasSharedBit word m → HasSharedBit result m }
+{
+    word | 1 << (n.get() % 64)
 }
 
 // Marks the number, and extends the marks if they end before it.

@@ -2,7 +2,7 @@
 ghost use Rattle.std.specs.Prelude.{◌≡◌, ◌<◌, ◌^◌, ◌∷◌, [], Contains, IfOk, OnOk, MatchBool, length, slice_get};
 ghost use Rattle.thes_links.specs.Steps.{GrowsBy};
 
-use crate::marks::{FEW, has_mark, mark_more};
+use crate::marks::{FEW, has_mark, has_shared_bit, mark_more, with_shared_bit};
 use std::alloc::{AllocError, Global};
 use std::marker::Model;
 use thes_base::number::ResNo;
@@ -13,17 +13,20 @@ use thes_base::number::ResNo;
 pub struct Nodes {
     list: Vec<ResNo>,
     marks: Vec<u64>,
+    // The bits of all nodes: one whose bit isn't set wasn't met.
+    bits: u64,
 }
 
 impl Model for Nodes {
     ghost use Rattle.std.specs.Prelude.{List, ℕ};
-    ghost use Rattle.thes_links.specs.NodeSet.{IsNodeSet};
+    ghost use Rattle.thes_links.specs.NodeSet.{IsNodeSet, HasSharedBits};
 
     ghost Value = { List ℕ };
 
     ghost view = { λ a. a.list.items };
 
-    ghost invariant = { λ a. IsNodeSet a.list.items a.marks.items };
+    ghost invariant = { λ a. IsNodeSet a.list.items a.marks.items
+        × HasSharedBits a.list.items a.bits };
 }
 
 impl Nodes {
@@ -34,10 +37,12 @@ impl Nodes {
         Nodes {
             list: Vec::new(alloc),
             marks: Vec::new(alloc),
+            bits: 0,
         }
     }
 
     /// Creates a list of one node, from which a search starts.
+    #[tactic(auto, using(crate::proofs::NodeSetLemmas::shared_bits_push))]
     pub fn singleton(alloc: Global, start: ResNo) -> Result<Nodes, AllocError>
         ensures { IfOk result (λ nodes. nodes ≡ start ∷ []) }
     {
@@ -47,10 +52,12 @@ impl Nodes {
         Ok(Nodes {
             list,
             marks: Vec::new(alloc),
+            bits: with_shared_bit(0, start),
         })
     }
 
     /// Returns the nodes in the order in which they were met.
+    #[inline(always)]
     pub fn as_slice(&self) -> &[ResNo]
         ensures { result.now ≡ self.now }
     {
@@ -58,6 +65,7 @@ impl Nodes {
     }
 
     /// Returns the i-th node that was met, counted from 0.
+    #[inline(always)]
     pub fn get(&self, i: usize) -> Option<ResNo>
         ensures node { result ≡ slice_get self.now i }
         ensures small { length self.now < 2 ^ 63 }
@@ -66,9 +74,13 @@ impl Nodes {
     }
 
     /// Checks whether the node was met, in constant time.
+    #[inline(always)]
     pub fn has(&self, n: ResNo) -> bool
         ensures { MatchBool result (Contains self.now n) (Contains self.now n → ⊥) }
     {
+        if !has_shared_bit(self.bits, n) {
+            return false;
+        }
         if self.list.len() <= FEW {
             return self.list.contains(&n);
         }
@@ -76,6 +88,8 @@ impl Nodes {
     }
 
     /// Appends the node, unless it was met before.
+    #[inline(always)]
+    #[tactic(auto, using(crate::proofs::NodeSetLemmas::shared_bits_push))]
     pub fn meet(&mut self, n: ResNo) -> Result<(), AllocError>
         ensures grows { OnOk result (GrowsBy self.old self.new (λ m. n ≡ m)) }
         ensures small { length self.new < 2 ^ 63 }
@@ -86,6 +100,7 @@ impl Nodes {
         self.list.reserve(1)?;
         mark_more(&mut self.marks, self.list.as_slice(), n)?;
         self.list.push(n)?;
+        self.bits = with_shared_bit(self.bits, n);
         Ok(())
     }
 }

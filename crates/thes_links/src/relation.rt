@@ -1,4 +1,5 @@
-//! The relations between two nodes that links state, and the direction in which each kind of link states them.
+//! The relations between two nodes that links state, and the direction in which each kind of link
+//! states them.
 ghost use Rattle.std.specs.Prelude.{◌≡◌, MatchBool};
 ghost use Rattle.thes_base.specs.Links.{broader_direction};
 ghost use Rattle.thes_links.specs.Steps.{reverse_of, direction_of, step_in, step_along, HasDirection};
@@ -22,6 +23,7 @@ pub enum Relation {
 }
 
 // Returns the direction in which a link of this kind leads to the broader concept.
+#[inline(always)]
 fn direction_up(kind: LinkKind) -> Direction
     ensures { result ≡ broader_direction kind }
 {
@@ -36,6 +38,7 @@ fn direction_up(kind: LinkKind) -> Direction
 }
 
 // Returns the opposite direction; `Either` and `Never` are their own opposites.
+#[inline(always)]
 fn reverse_direction(direction: Direction) -> Direction
     ensures { result ≡ reverse_of direction }
 {
@@ -49,6 +52,7 @@ fn reverse_direction(direction: Direction) -> Direction
 
 /// Returns the direction in which links of this kind lead in the relation: in `Broader`, to a
 /// broader concept.
+#[inline(always)]
 pub fn direction(relation: Relation, kind: LinkKind) -> Direction
     ensures { result ≡ direction_of relation kind }
 {
@@ -65,6 +69,7 @@ pub fn direction(relation: Relation, kind: LinkKind) -> Direction
 }
 
 /// Returns the other end of the link if the direction leads there from `x`, or else None.
+#[inline(always)]
 pub fn lead(direction: Direction, link: &Link, x: ResNo) -> Option<ResNo>
     ensures { result ≡ step_in direction link.now.a link.now.b x }
 {
@@ -78,6 +83,7 @@ pub fn lead(direction: Direction, link: &Link, x: ResNo) -> Option<ResNo>
 }
 
 /// Returns the other end of the link if it is in the relation to `x`, or else None.
+#[inline(always)]
 pub fn step(relation: Relation, link: &Link, x: ResNo) -> Option<ResNo>
     ensures { result ≡ step_along relation link.now x }
 {

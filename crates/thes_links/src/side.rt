@@ -21,6 +21,7 @@ pub enum Side {
 
 impl Side {
     /// Returns the rank of the side in the order of a node's links, from 1 to 5.
+    #[inline(always)]
     pub fn number(self) -> u8
         ensures { result ≡ side_no self }
     {
@@ -34,8 +35,9 @@ impl Side {
     }
 }
 
-/// Returns the side of a node on which the links of the relation lie; the result is arbitrary for `Apart`, whose links
-/// lie on several sides.
+/// Returns the side of a node on which the links of the relation lie; the result is arbitrary for
+/// `Apart`, whose links lie on several sides.
+#[inline(always)]
 pub fn side_for(relation: Relation) -> Side
     ensures { result ≡ side_in relation }
 {
@@ -48,7 +50,8 @@ pub fn side_for(relation: Relation) -> Side
     }
 }
 
-/// The range of a node's links that lie on one side: the indexes at least `from` and less than `to`.
+/// The range of a node's links that lie on one side: the indexes at least `from` and less than
+/// `to`.
 #[derive(Clone, Copy)]
 pub struct Part {
     pub from: usize,
@@ -57,6 +60,7 @@ pub struct Part {
 
 impl Part {
     /// Returns the number of links in the range: 0 if `to` isn't greater than `from`.
+    #[inline(always)]
     pub fn size(self) -> usize
         ensures { result ≡ self.to - self.from }
     {

@@ -72,7 +72,8 @@ fn nodes_along(
     Ok(next)
 }
 
-/// Returns the nodes to which the held links lead from `n` in the relation, perhaps with duplicates.
+/// Returns the nodes to which the held links lead from `n` in the relation, perhaps with
+/// duplicates.
 pub fn next_nodes<L: Links>(
     alloc: Global,
     links: &mut L,
@@ -112,7 +113,7 @@ fn read<L: Links>(
             Ok(row)
         }
         LinkEdit::AfterMerge(source, target) => {
-            let row = read_merged(alloc, links, *source, *target, node)?;
+            let row = read_merged_links(alloc, links, *source, *target, node)?;
             Ok(row)
         }
     }
@@ -120,7 +121,7 @@ fn read<L: Links>(
 
 // Reads the held links that will have an end at the node after the merge: none for the source, and
 // for the target those at either of the two.
-fn read_merged<L: Links>(
+fn read_merged_links<L: Links>(
     alloc: Global,
     links: &mut L,
     source: ResNo,

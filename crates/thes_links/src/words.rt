@@ -5,6 +5,7 @@ ghost use Rattle.thes_links.specs.Words.{word_at, HasBit, HasBitsSet};
 use std::alloc::AllocError;
 
 /// Returns the word at this place; 0 past the end.
+#[inline(always)]
 pub fn word_of(words: &[u64], place: u32) -> u64
     ensures { result ≡ word_at words.now place }
 {
@@ -15,6 +16,7 @@ pub fn word_of(words: &[u64], place: u32) -> u64
 }
 
 /// Checks whether bit j is set in the word at this place.
+#[inline(always)]
 pub fn has_bit(words: &[u64], place: u32, j: usize) -> bool
     requires { j < 64 }
     ensures { MatchBool result (HasBit words.now place j) (HasBit words.now place j → ⊥) }

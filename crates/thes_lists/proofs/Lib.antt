@@ -1,3 +1,4 @@
+pub mod AllListedLemmas
 pub mod ChangeLemmas
 pub mod ListingLemmas
 pub mod MemberLemmas

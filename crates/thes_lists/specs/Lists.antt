@@ -1,5 +1,5 @@
 -- The values listed under each number, and the room in the lists.
-use Rattle.std.specs.Prelude.{◌≡◌, ◌≢◌, ◌<◌, List, [], IsSome, vec_len, slice_get}
+use Rattle.std.specs.Prelude.{◌≡◌, ◌≢◌, ◌<◌, List, [], IsSome, vec_len, slice_get, flat_map}
 use Rattle.thes_base.specs.Types.{Number}
 use Rattle.std.specs.Option.{IsSomeAnd, option_map_or}
 use Rattle.std.specs.Vec.{vec_capacity}
@@ -12,6 +12,10 @@ module _ {A : Type 0} where
   -- The values listed under the number; none if it has no list.
   abbrev pub listed_at : Lists A → Number → List A
   listed_at lists n = option_map_or (λ v. v.items) (slice_get lists.lists.items n) []
+
+  -- The values of all lists, those of the lesser numbers first.
+  abbrev pub all_listed : Lists A → List A
+  all_listed lists = flat_map (λ v. v.items) lists.lists.items
 
   -- The number has a list, perhaps an empty one.
   abbrev pub HasList : Lists A → Number → Type 0

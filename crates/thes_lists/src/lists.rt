@@ -1,5 +1,5 @@
 //! Sorted lists of values, one for each number of a resource.
-ghost use Rattle.std.specs.Prelude.{◌≡◌, ◌≢◌, ◌<◌, ℕ, [], true, IfOk, OnOk};
+ghost use Rattle.std.specs.Prelude.{◌≡◌, ◌≢◌, ◌<◌, ◌≤◌, ℕ, [], true, IfOk, OnOk};
 ghost use Rattle.std.specs.List.Sorted.{IsStrictlySortedBy};
 ghost use Rattle.std.specs.BTreeMap.{is_at};
 ghost use Rattle.std.specs.BTreeSet.{insert_key};
@@ -36,6 +36,25 @@ impl<T: Ord + Drop> Lists<T> {
         ensures { result.now ≡ listed_at self.now n }
     {
         match self.lists.get(n.get() as usize) {
+            Some(list) => list.as_slice(),
+            None => &[],
+        }
+    }
+
+    /// Returns the number of lists. Numbers from it on have none.
+    #[tactic(auto, using(std::proofs::lemmas::Option::slice_get_past))]
+    pub fn list_count(&self) -> usize
+        ensures { (n : ℕ) → result ≤ n → listed_at self.now n ≡ [] }
+    {
+        self.lists.len()
+    }
+
+    /// Returns the values of the list at an index below `list_count`, which are those listed under
+    /// that number; an empty slice from there on.
+    pub fn list(&self, index: usize) -> &[T]
+        ensures { result.now ≡ listed_at self.now index }
+    {
+        match self.lists.get(index) {
             Some(list) => list.as_slice(),
             None => &[],
         }

@@ -34,7 +34,7 @@ ReplacementFits resources n r None = Unit {0}
 ReplacementFits resources n r (Some m) = (r.live ≡ false) × (m ≢ n) × IsConcept resources m
     × (scheme_of resources m ≡ r.scheme)
 
--- The resource may have its scheme, its live flag and its replacement: only a concept may be dead.
+-- The resource may have its scheme, its live flag (only a concept may be dead) and its replacement.
 abbrev pub ResourceFits : List Resource → ℕ → Resource → Type 0
 ResourceFits resources n r = SchemeFits resources r.kind r.scheme
     × (r.live ≡ false → is_concept_kind r.kind ≡ true) × ReplacementFits resources n r r.replaced

@@ -1,4 +1,4 @@
-//! Parses rows of cells, table by table, and checks them against the rules of the tables.
+//! Loads a store row by row: parses cells, and checks each row against the rule of its table.
 #![tactic(auto)]
 
 mod cells;

@@ -1,4 +1,5 @@
-//! Rows and reports of any table: a load that is past the table stops.
+//! The turns of the tables: a row, or the report of a table that can't be queried, stops a load
+//! that is past its table.
 ghost use Rattle.std.specs.Prelude.{◌≡◌, IsTrue, false, None, Some, IfOk, OnOk, MatchOption};
 ghost use Rattle.thes_load_rows.specs.Progress.{is_stopped};
 ghost use Rattle.thes_load_rows.specs.Turns.{IsInTurn, IsOfRows, NextStage};

@@ -1,5 +1,5 @@
-//! The verdict on rows of cells: the tables of a legal state that they encode, or a fault, for
-//! another version or for the first table that breaks its rule.
+//! Definitions and laws, without code, of which rows of cells load: those of a legal state; others
+//! have a fault.
 #![tactic(auto)]
 
 pub mod laws;

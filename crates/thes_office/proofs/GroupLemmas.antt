@@ -2,10 +2,14 @@
 -- to those of the state after it, and that the facts about each of them are those of the tables.
 use Rattle.std.proofs.lemmas.Grind.{common_steps}
 use Rattle.std.proofs.Common.{◌≡◌, ◌++◌, ◌∷◌, [], ◌<◌, ◌+◌, ◌∙◌, ℕ, suc, List, refl, sym, ap, subst, take, length}
-use Rattle.std.proofs.Common.{arith, inl, inr, append-nil}
+use Rattle.std.proofs.Common.{arith, inl, inr, append-nil, Bool, true, false, slice_index_or}
+use Rattle.std.proofs.lemmas.List.{get_or-set_same, get_or-set_other}
+use Rattle.std.proofs.lemmas.Grind.{get_or-set_at}
+use Rattle.std.proofs.lemmas.Bool.{cases_eq}
+use Rattle.std.specs.Prelude.{slice_set}
 use Rattle.std.proofs.lemmas.List.{take-append-le, take_all}
 use Rattle.std.proofs.lemmas.Option.{slice_get_within}
-use Rattle.std.proofs.lemmas.List.Elements.{All-pop}
+use Rattle.std.proofs.lemmas.List.Elements.{All-pop, All-push}
 use Rattle.std.specs.Prelude.{Option, Result, Some, slice_get}
 use Rattle.thes_base.specs.declared.data.History.{History}
 use Rattle.thes_base.specs.declared.data.Limits.{Limits}
@@ -35,7 +39,8 @@ use Rattle.thes_core.specs.CoreView.{CoreView, IsViewOf}
 use Rattle.thes_core.specs.Facts.{AreFacts, IsRowOfKey}
 use Rattle.thes_core.proofs.DeltaLemmas.{take_got}
 use Rattle.thes_core.proofs.NextStateLemmas.{step_of_accepted}
-use Rattle.thes_office.specs.Groups.{GroupDecided, GroupResult, HasFactsOf, IsDecided, IsGroup, IsNewPost, IsPostOf}
+use Rattle.thes_office.specs.Groups.{AreKeysMarked, GroupDecided, GroupResult, HasFactsOf, IsDecided, IsGroup, IsMarked}
+use Rattle.thes_office.specs.Groups.{IsNewPost, IsPostOf}
 use Rattle.thes_office.specs.Groups.{TablesAfterGroup}
 use Rattle.thes_office.specs.Office.{ChangesNothing, IsCopy, OfficeView, SameTables}
 use Rattle.thes_office.specs.TablesOfState.{TablesOfState}
@@ -46,6 +51,41 @@ use Rattle.thes_office.proofs.StepLemmas.{accepted_changes}
 -- No requests are a group.
 pub group_empty : (commands : List Command) → IsGroup (take 0 commands)
 group_empty commands i command at = absurd (cc)
+
+-- A place is marked once it is set, and other places stay marked.
+pub marked_here : (marks : List Bool) (i : ℕ) → i < length marks → slice_index_or (slice_set marks i true) i false ≡ true
+marked_here marks i l = get_or-set_same marks i true false l
+
+pub still_marked : (marks : List Bool) (i j : ℕ) → i < length marks → slice_index_or marks j false ≡ true
+    → slice_index_or (slice_set marks i true) j false ≡ true
+still_marked marks i j l e = elim (cases_eq j i) [
+  | inl same ↦ get_or-set_at marks i j true false same l
+  | inr other ↦ get_or-set_other marks i j true false other ∙ e
+]
+
+-- No requests are marked.
+pub marked_none : (marks : List Bool) (commands : List Command) → AreKeysMarked marks (take 0 commands)
+marked_none marks commands = record { each = λ k d l. absurd (omega (arith, l)) }
+
+-- A post whose key has a place without a mark is new.
+pub unmarked_is_new : (marks : List Bool) (earlier : List Command) (key rec : List ℕ) (concept : ℕ)
+    → AreKeysMarked marks earlier → (IsMarked marks key → ⊥) → IsNewPost earlier (request.Post key rec concept)
+unmarked_is_new marks earlier key rec concept marked none = record {
+  key = key;
+  rec = rec;
+  concept = concept;
+  is = refl;
+  fresh = λ k d l p. none (marked.each k d l key p);
+}
+
+-- Requests stay marked when one more key is marked, and the next is marked, too.
+pub marked_more : (old new : List Bool) (earlier : List Command) (key rec : List ℕ) (concept : ℕ)
+    → AreKeysMarked old earlier → ((other : List ℕ) → IsMarked old other → IsMarked new other) → IsMarked new key
+    → AreKeysMarked new (earlier ++ request.Post key rec concept ∷ [])
+marked_more old new earlier key rec concept marked keeps here = record {
+  each = All-push (λ command. (k : List ℕ) → IsPostOf k command → IsMarked new k) earlier _
+      (λ k d l other p. keeps other (marked.each k d l other p)) (λ k p. subst (IsMarked new) p here);
+}
 
 -- A group and one more new post are a group.
 group_push : (xs : List Command) (c : Command) → IsGroup xs → IsNewPost xs c → IsGroup (xs ++ c ∷ [])
@@ -98,7 +138,7 @@ facts_stay setting s t k r c answer key rec concept facts (inr (new, inr accepte
     } in after)
 
 -- A settled request changes neither the state nor the rows.
-pub decided_settled : (setting : Setting) (s : State) (command : Command) (answer : Answer) (changes : List Change)
+abbrev pub decided_settled : (setting : Setting) (s : State) (command : Command) (answer : Answer) (changes : List Change)
     (copy : CoreView) → Step setting s command answer s → IsViewOf copy s
     → IsDecided setting s command answer changes changes copy
 decided_settled setting s command answer changes copy step holds = record {
@@ -112,7 +152,7 @@ decided_settled setting s command answer changes copy step holds = record {
 }
 
 -- An accepted request that is applied to the core leads to the next state.
-pub decided_accepted : (setting : Setting) (s : State) (command : Command) (answer : Answer)
+abbrev pub decided_accepted : (setting : Setting) (s : State) (command : Command) (answer : Answer)
     (before after changes : List Change) (copy : CoreView) → AcceptedVerdict setting s command answer changes
     → IsViewOf copy (next_state command s) → after ≡ before ++ changes
     → IsDecided setting s command answer before after copy

@@ -30,7 +30,9 @@ use Rattle.thes_tables.specs.Rows.{tables_after_delta}
 use Rattle.thes_tables.specs.Tables.{IsRowsOf, Tables}
 use Rattle.thes_tables.proofs.DeltaAppendLemmas.{all_append}
 use Rattle.thes_store.specs.Storage.{StorageView}
-use Rattle.thes_core.specs.CoreView.{CoreView}
+use Rattle.thes_core.specs.CoreView.{CoreView, with_histories}
+use Rattle.thes_core.specs.UndoLogs.{IsLogOf, IsTakenBack, IsUndoStep, StepsLead}
+use Rattle.thes_core.specs.declared.undo_log.UndoStep.{UndoStep}
 use Rattle.thes_plan_postings.specs.PlanPostings.{AreNumbered, ArePlanRows}
 use Rattle.thes_office.specs.declared.plan.PlanProgress.{PlanProgress}
 use Rattle.thes_office.specs.Office.{ChangesNothing, IsConsistent, IsCopy}
@@ -58,12 +60,17 @@ no_refusal answer e = grind (arith, common_steps)
 pub is_refusal : (answer : Answer) (r : Refusal) → refusal_in answer ≡ Some r → answer ≡ reply.No r
 is_refusal answer r e = grind (arith, common_steps)
 
+-- An empty log is one of any core.
+pub log_starts : (log : List UndoStep) (copy : CoreView) → log ≡ [] → IsLogOf log copy
+log_starts log copy none = subst (λ (l : List UndoStep). IsLogOf l copy) (sym none)
+    (with_histories [] copy, refl)
+
 -- Before its first request, a plan is decided on the state of the tables.
 pub plan_starts : (raw : Raw) (limits : Limits) (copy : CoreView) (done : List PlanRequest) (progress : PlanProgress)
     → IsCopy raw limits copy → done ≡ [] → progress.decided.answers.items ≡ [] → progress.decided.delta ≡ []
-    → ((rows : List PostingRow) → AreNumbered rows → ArePlanRows rows rows progress.postings)
+    → ((rows : List PostingRow) → AreNumbered rows → ArePlanRows rows rows progress.postings) → progress.log ≡ []
     → PlanDecidedSoFar raw copy.setting done progress copy
-plan_starts raw limits copy done progress is none unanswered unchanged unposted = record {
+plan_starts raw limits copy done progress is none unanswered unchanged unposted unlogged = record {
   decided = record {
     state_before = is.state;
     state_after = is.state;
@@ -79,6 +86,7 @@ plan_starts raw limits copy done progress is none unanswered unchanged unposted 
       (tables_after_delta l is.shows.tables).posting progress.postings) (sym unchanged)
       (unposted is.shows.tables.posting (subst AreNumbered (sym is.shows.holds.posting)
       (rows_numbered copy.setting.base is.state is.shows.legal)));
+  steps = subst (λ (l : List UndoStep). StepsLead (IsUndoStep copy.setting) is.state l is.state) (sym unlogged) refl;
 }
   where
     empty : PlanAccepted copy.setting is.state [] [] is.state
@@ -91,12 +99,11 @@ pub plan_decides : (raw mid : Raw) (setting : Setting) (done : List PlanRequest)
     → DecidesRequest mid progress next copy copy' command answer
     → IsDecidedInPlan setting g.decided.shows.tables
     (tables_after_delta progress.decided.delta g.decided.shows.tables) g.decided.state_after command answer
-    progress.decided.delta next.decided.delta next.postings copy'
+    progress next copy'
 plan_decides raw mid setting done progress next command answer copy copy' g set same decides =
     let t = g.decided.shows.tables in
     let now = tables_after_delta progress.decided.delta t in
-    subst (λ (q : Setting). IsDecidedInPlan q t now g.decided.state_after command answer progress.decided.delta
-    next.decided.delta next.postings copy') set
+    subst (λ (q : Setting). IsDecidedInPlan q t now g.decided.state_after command answer progress next copy') set
     (decides t now g.decided.state_after (same ∙ g.decided.shows.rows)
     (subst (λ (q : Setting). IsRowsOf q.base g.decided.state_after now) (sym set)
     (g.decided.leads.rows t g.decided.shows.holds)) g.decided.holds g.postings_are)
@@ -106,65 +113,65 @@ module _ (raw : Raw) (setting : Setting) (done : List PlanRequest) (asked : Plan
     (answer : Answer) (copy copy' : CoreView) (g : PlanDecidedSoFar raw setting done progress copy)
     (d : IsDecidedInPlan setting g.decided.shows.tables
     (tables_after_delta progress.decided.delta g.decided.shows.tables) g.decided.state_after
-    (resolved_command progress.decided.answers.items asked) answer progress.decided.delta next.decided.delta
-    next.postings copy')
+    (resolved_command progress.decided.answers.items asked) answer progress next copy')
     (pushed : next.decided.answers.items ≡ progress.decided.answers.items ++ answer ∷ []) where
   abbrev answers : List Answer
   answers = progress.decided.answers.items
 
   accepted_more : IsNoRefusal answer → PlanAccepted setting g.decided.state_before (done ++ asked ∷ [])
-      (answers ++ answer ∷ []) d.decided.state_after
+      (answers ++ answer ∷ []) d.decision.decided.state_after
   accepted_more fine = record {
     each = length-append answers (answer ∷ []) ∙ ap (λ n. n + 1) g.decided.accepted.each
         ∙ sym (length-append done (asked ∷ []));
     run = subst (λ (cs : List Command). Run setting g.decided.state_before cs (answers ++ answer ∷ [])
-        d.decided.state_after) (sym (resolved_push [] done answers asked answer g.decided.accepted.each))
+        d.decision.decided.state_after) (sym (resolved_push [] done answers asked answer g.decided.accepted.each))
         (run_push setting (resolved_commands [] done answers) answers g.decided.state_before g.decided.state_after
-        d.decided.state_after (resolved_command answers asked) answer g.decided.accepted.run d.decided.step);
+        d.decision.decided.state_after (resolved_command answers asked) answer g.decided.accepted.run d.decision.decided.step);
     accepted = all_push IsNoRefusal answers answer g.decided.accepted.accepted fine;
   }
 
-  leads_more : AreChangesBetween setting.base next.decided.delta g.decided.state_before d.decided.state_after
+  leads_more : AreChangesBetween setting.base next.decided.delta g.decided.state_before d.decision.decided.state_after
   leads_more = subst (λ (l : List Change). AreChangesBetween setting.base l g.decided.state_before
-      d.decided.state_after) (sym d.decided.more)
-      (changes_then setting.base g.decided.state_before g.decided.state_after d.decided.state_after
-      progress.decided.delta d.decided.changes g.decided.leads d.decided.leads)
+      d.decision.decided.state_after) (sym d.decision.decided.more)
+      (changes_then setting.base g.decided.state_before g.decided.state_after d.decision.decided.state_after
+      progress.decided.delta d.decision.decided.changes g.decided.leads d.decision.decided.leads)
 
   pub plan_continues : (more : List PlanRequest) → more ≡ done ++ asked ∷ [] → refusal_in answer ≡ None
       → PlanDecidedSoFar raw setting more next copy'
   plan_continues more grown fine = record {
     decided = record {
       state_before = g.decided.state_before;
-      state_after = d.decided.state_after;
+      state_after = d.decision.decided.state_after;
       shows = g.decided.shows;
-      holds = d.decided.holds;
+      holds = d.decision.decided.holds;
       accepted = subst (λ (p : List PlanRequest × List Answer). PlanAccepted setting g.decided.state_before p.0 p.1
-          d.decided.state_after) (λ i. (sym grown i, sym pushed i)) (accepted_more (no_refusal answer fine));
+          d.decision.decided.state_after) (λ i. (sym grown i, sym pushed i)) (accepted_more (no_refusal answer fine));
       leads = leads_more;
       same = λ all.
           let parts = all_parts ChangesNothing answers (answer ∷ []) (subst (AllByRecursion ChangesNothing) pushed
           all) in
-          d.decided.more ∙ (λ i. g.decided.same parts.0 i ++ d.decided.same parts.1.0 i);
+          d.decision.decided.more ∙ (λ i. g.decided.same parts.0 i ++ d.decision.decided.same parts.1.0 i);
     };
+    steps = d.decision.steps g.decided.state_before g.steps;
     postings_are = subst (λ (t : Tables). ArePlanRows g.decided.shows.tables.posting t.posting next.postings)
-        (sym (ap (λ (l : List Change). tables_after_delta l g.decided.shows.tables) d.decided.more
-        ∙ all_append progress.decided.delta d.decided.changes g.decided.shows.tables)) d.postings_are;
+        (sym (ap (λ (l : List Change). tables_after_delta l g.decided.shows.tables) d.decision.decided.more
+        ∙ all_append progress.decided.delta d.decision.decided.changes g.decided.shows.tables)) d.postings_are;
   }
 
-  -- A request of a plan is refused.
-  pub plan_refuses : (plan : List PlanRequest) (i place : ℕ) (refusal : Refusal) (changed : Bool)
+  -- A request of a plan is refused, and those before it are taken back.
+  pub plan_refuses : (plan : List PlanRequest) (i place : ℕ) (refusal : Refusal) (back : CoreView)
       → done ≡ take i plan → i ≡ length answers → slice_get plan i ≡ Some asked → place ≡ length next.decided.answers.items
-      → refusal_in answer ≡ Some refusal → (changed ≡ false → next.decided.delta ≡ []) → copy'.setting ≡ setting
-      → PlanIsRefused raw setting plan place refusal changed copy'
-  plan_refuses plan i place refusal changed is count at placed refuses unchanged set =
+      → refusal_in answer ≡ Some refusal → copy'.setting ≡ setting
+      → (back.spent ≡ false → IsTakenBack next.log copy' back) → PlanIsRefused raw setting plan place refusal back
+  plan_refuses plan i place refusal back is count at placed refuses set taken =
       let number : place ≡ length answers + 1 = placed ∙ ap (λ (l : List Answer). length l) pushed
       ∙ length-append answers (answer ∷ []) in
       let step : Step setting g.decided.state_after (resolved_command answers asked) (reply.No refusal)
-      d.decided.state_after = subst (λ (a : Answer). Step setting g.decided.state_after
-      (resolved_command answers asked) a d.decided.state_after) (is_refusal answer refusal refuses) d.decided.step in
+      d.decision.decided.state_after = subst (λ (a : Answer). Step setting g.decided.state_after
+      (resolved_command answers asked) a d.decision.decided.state_after) (is_refusal answer refusal refuses)
+      d.decision.decided.step in
       record {
         state_before = g.decided.state_before;
-        state_after = d.decided.state_after;
         shows = g.decided.shows;
         refused = record {
           asked = asked;
@@ -176,20 +183,13 @@ module _ (raw : Raw) (setting : Setting) (done : List PlanRequest) (asked : Plan
           before = subst (λ (l : List PlanRequest). PlanAccepted setting g.decided.state_before l answers
               g.decided.state_after) (is ∙ ap (λ k. take k plan) count) g.decided.accepted;
           refused = subst (λ (t : State). Step setting g.decided.state_after (resolved_command answers asked)
-              (reply.No refusal) t) (refused_stays setting g.decided.state_after d.decided.state_after
+              (reply.No refusal) t) (refused_stays setting g.decided.state_after d.decision.decided.state_after
               (resolved_command answers asked) refusal step) step;
         };
-        holds = d.decided.holds;
-        unchanged = λ same.
-            let none : AreChangesBetween setting.base [] g.decided.state_before d.decided.state_after =
-            subst (λ (l : List Change). AreChangesBetween setting.base l g.decided.state_before
-            d.decided.state_after) (unchanged same) leads_more in
-            record {
-              tables = g.decided.shows.tables;
-              rows = g.decided.shows.rows;
-              holds = none.rows g.decided.shows.tables g.decided.shows.holds;
-              legal = subst (λ (q : Setting). IsLegalState q.base d.decided.state_after) set d.decided.holds.legal;
-            };
+        holds = λ unspent. (taken unspent).1 g.decided.state_before d.decision.decided.state_after
+            (subst (λ (q : Setting). StepsLead (IsUndoStep q) g.decided.state_before next.log
+            d.decision.decided.state_after) (sym set) (d.decision.steps g.decided.state_before g.steps))
+            d.decision.decided.holds;
       }
 
 -- The outcome has these answers.
@@ -232,8 +232,8 @@ module _ (old new : Raw) (setting : Setting) (plan : List PlanRequest) (answers 
   }
 
 -- A plan that is refused.
-module _ (old new : Raw) (setting : Setting) (plan : List PlanRequest) (place : ℕ) (refusal : Refusal) (changed : Bool)
-    (copy : CoreView) (g : PlanIsRefused old setting plan place refusal changed copy) (same : new ≡ old) where
+module _ (old new : Raw) (setting : Setting) (plan : List PlanRequest) (place : ℕ) (refusal : Refusal)
+    (copy : CoreView) (g : PlanIsRefused old setting plan place refusal copy) (same : new ≡ old) where
   pub plan_is_refused : TablesAfterPlan setting.limits old plan (Refused place refusal) new
   plan_is_refused = record {
     base = setting.base;
@@ -246,13 +246,13 @@ module _ (old new : Raw) (setting : Setting) (plan : List PlanRequest) (place : 
     same = λ none. same;
   }
 
-  pub copy_after_refusal : copy.setting ≡ setting → changed ≡ false → IsCopy new setting.limits copy
-  copy_after_refusal is unchanged = record {
+  pub copy_after_refusal : copy.spent ≡ false → copy.setting ≡ setting → IsCopy new setting.limits copy
+  copy_after_refusal unspent is = record {
     limits_are = ap (λ (q : Setting). q.limits) is;
-    state = g.state_after;
-    holds = g.holds;
-    shows = subst (λ (q : Setting). TablesOfState new q.base g.state_after) (sym is)
-        (same_tables_same_state old new setting.base g.state_after same (g.unchanged unchanged));
+    state = g.state_before;
+    holds = g.holds unspent;
+    shows = subst (λ (q : Setting). TablesOfState new q.base g.state_before) (sym is)
+        (same_tables_same_state old new setting.base g.state_before same g.shows);
   }
 
 -- A plan's answers are counted.

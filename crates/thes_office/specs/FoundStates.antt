@@ -14,7 +14,7 @@ use Rattle.thes_office.specs.TablesOfState.{TablesOfState}
 abbrev pub IsCopyOfFound : (Raw → Type 0) → Limits → CoreView → Type 0
 IsCopyOfFound finds limits copy = (raw : Raw) × finds raw × IsCopy raw limits copy
 
--- Rows that a load finds encode a legal state.
+-- A load finds rows that encode a legal state.
 abbrev pub FindsLegalState : (Raw → Type 0) → Type 0
 FindsLegalState finds = (raw : Raw) × finds raw × ((base : List ℕ) × (s : State) × TablesOfState raw base s)
 

@@ -1,5 +1,7 @@
 -- Groups of posts with different keys, which are performed in one transaction.
-use Rattle.std.specs.Prelude.{◌≡◌, ◌++◌, ℕ, false, List, [], Result, Ok, Err, Some, All, length, take, slice_get}
+use Rattle.std.specs.Prelude.{◌≡◌, ◌++◌, ◌%◌, ℕ, Bool, false, true, List, [], Result, Ok, Err, Some, All, length, take}
+use Rattle.std.specs.Prelude.{slice_get, slice_index_or}
+use Rattle.std.specs.Hash.FoldHasher.{initial, write, finish}
 use Rattle.std.specs.List.{AllByRecursion}
 use Rattle.thes_base.specs.Types.{Key, Number, RecordName}
 use Rattle.thes_base.specs.declared.data.Limits.{Limits}
@@ -38,6 +40,18 @@ pub record IsNewPost (earlier : List Command) (command : Command) : Type 0 where
 abbrev pub IsGroup : List Command → Type 0
 IsGroup commands =
     (i : ℕ) (command : Command) → slice_get commands i ≡ Some command → IsNewPost (take i commands) command
+
+-- The place of a key among 1,024 marks. Different keys may have the same place.
+unfoldable pub place_of_key : List ℕ → ℕ
+place_of_key key = finish (write initial key) % 1024
+
+-- The place of the key is marked.
+abbrev pub IsMarked : List Bool → List ℕ → Type 0
+IsMarked marks key = slice_index_or marks (place_of_key key) false ≡ true
+
+-- The places of the keys of all these posts are marked.
+pub record AreKeysMarked (marks : List Bool) (commands : List Command) : Type 0 where
+  pub each : All (λ command. (key : Key) → IsPostOf key command → IsMarked marks key) commands
 
 -- The facts that the tables have about the request are also those of this state.
 abbrev pub HasFactsOf : Raw → Command → State → Type 0

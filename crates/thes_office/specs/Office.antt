@@ -38,8 +38,8 @@ pub record IsCopy (raw : Raw) (limits : Limits) (copy : core.CoreView) : Type 0 
   pub holds : IsViewOf copy state
   pub shows : TablesOfState raw copy.setting.base state
 
--- While the storage is up, its tables encode a state, which the copy holds unless it is stale. The
--- copy is stale only after running out of memory or a failure of the storage.
+-- No limit exceeds the greatest number. While the storage is up, its tables encode a state, which the copy holds unless
+-- it is stale. The copy is stale only after running out of memory or a failure of the storage.
 pub record IsConsistent {K : Type 0} (view : K → StorageView)
     (keeper : K) (copy : core.CoreView) (limits : Limits) (stale : Bool) : Type 0 where
   pub few : AreLimits limits

@@ -1,5 +1,5 @@
 -- Decisions on the requests of a plan, one after another, before anything is committed.
-use Rattle.std.specs.Prelude.{◌≡◌, ◌<◌, ◌≤◌, Bool, false, ℕ, List, [], Option, None, Some, length}
+use Rattle.std.specs.Prelude.{◌≡◌, ◌<◌, ◌≤◌, false, ℕ, List, [], Option, None, Some, length}
 use Rattle.std.specs.List.{AllByRecursion}
 use Rattle.thes_base.specs.declared.fault.Refusal.{Refusal}
 use Rattle.thes_base.specs.declared.request.Answer.{Answer}
@@ -16,6 +16,7 @@ use Rattle.thes_tables.specs.Rows.{tables_after_delta}
 use Rattle.thes_tables.specs.Tables.{IsRowsOf, Tables}
 use Rattle.thes_store.specs.Storage.{StorageView}
 use Rattle.thes_core.specs.CoreView.{CoreView, IsViewOf}
+use Rattle.thes_core.specs.UndoLogs.{IsUndoStep, StepsLead}
 use Rattle.thes_office.specs.declared.plan.PlanDecision.{PlanDecision}
 use Rattle.thes_office.specs.declared.plan.PlanDecision.TheVariants as plan
 use Rattle.thes_office.specs.declared.plan.PlanProgress.{PlanProgress}
@@ -30,24 +31,31 @@ abbrev pub refusal_in : Answer → Option Refusal
 refusal_in (reply.No refusal) = Some refusal
 refusal_in _ = None
 
+-- The request is decided in the state `s`, and the steps of the log lead on to the state after it.
+pub record IsDecidedAndLogged (setting : Setting) (s : State) (command : Command) (answer : Answer)
+    (old new : PlanProgress) (copy : CoreView) : Type 0 where
+  pub decided : IsDecided setting s command answer old.decided.delta new.decided.delta copy
+  pub steps : (first : State) → StepsLead (IsUndoStep setting) first old.log s
+      → StepsLead (IsUndoStep setting) first new.log decided.state_after
+
 -- The request is decided in the state `s`, which the tables `now` encode, and its changes of postings are recorded over
 -- the tables `t` of the storage.
 pub record IsDecidedInPlan (setting : Setting) (t now : Tables) (s : State) (command : Command) (answer : Answer)
-    (before after : List Change) (postings : PlanPostings) (copy : CoreView) : Type 0 where
-  pub decided : IsDecided setting s command answer before after copy
-  pub postings_are : ArePlanRows t.posting (tables_after_delta decided.changes now).posting postings
+    (old new : PlanProgress) (copy : CoreView) : Type 0 where
+  pub decision : IsDecidedAndLogged setting s command answer old new copy
+  pub postings_are : ArePlanRows t.posting (tables_after_delta decision.decided.changes now).posting new.postings
 
 -- One more command of a plan is decided in the state of the core.
 abbrev pub DecidesCommand : Raw → PlanProgress → PlanProgress → CoreView → CoreView → Command → Answer → Type 0
 DecidesCommand raw old new before after command answer = (t now : Tables) (s : State) → raw ≡ cells_of_tables t
     → IsRowsOf before.setting.base s now → IsViewOf before s → ArePlanRows t.posting now.posting old.postings
-    → IsDecided before.setting s command answer old.decided.delta new.decided.delta after
+    → IsDecidedAndLogged before.setting s command answer old new after
 
 -- One more request of a plan is decided in the state of the core, and the postings that it changes are recorded.
 abbrev pub DecidesRequest : Raw → PlanProgress → PlanProgress → CoreView → CoreView → Command → Answer → Type 0
 DecidesRequest raw old new before after command answer = (t now : Tables) (s : State) → raw ≡ cells_of_tables t
     → IsRowsOf before.setting.base s now → IsViewOf before s → ArePlanRows t.posting now.posting old.postings
-    → IsDecidedInPlan before.setting t now s command answer old.decided.delta new.decided.delta new.postings after
+    → IsDecidedInPlan before.setting t now s command answer old new after
 
 -- The requests of a plan are accepted from the state that the tables encode: their answers, their changes of rows, and
 -- the core, which holds the state after them.
@@ -68,29 +76,33 @@ pub record PlanDecidedSoFar (raw : Raw) (setting : Setting) (done : List PlanReq
   pub postings_are :
       ArePlanRows decided.shows.tables.posting
       (tables_after_delta progress.decided.delta decided.shows.tables).posting progress.postings
+  pub steps : StepsLead (IsUndoStep setting) decided.state_before progress.log decided.state_after
 
--- A request of the plan is refused in the state after those before it. If these have changed nothing, the core still
--- holds the state that the tables encode.
+-- A request of the plan is refused in the state after those before it. The core, unless it is unusable, holds the state
+-- that the tables encode.
 pub record PlanIsRefused (raw : Raw) (setting : Setting) (asked : List PlanRequest) (place : ℕ) (refusal : Refusal)
-    (changed : Bool) (copy : CoreView) : Type 0 where
+    (copy : CoreView) : Type 0 where
   pub state_before : State
-  pub state_after : State
   pub shows : TablesOfState raw setting.base state_before
   pub refused : PlanRefused setting state_before asked place refusal
-  pub holds : IsViewOf copy state_after
-  pub unchanged : changed ≡ false → TablesOfState raw setting.base state_after
+  pub holds : copy.spent ≡ false → IsViewOf copy state_before
 
 -- The decision on a plan is right.
 abbrev pub IsPlanDecision : Raw → Setting → List PlanRequest → PlanDecision → CoreView → Type 0
 IsPlanDecision raw setting asked (plan.Accepted answers changes) copy =
     PlanDecided raw setting asked answers.items changes copy
-IsPlanDecision raw setting asked (plan.Refused place refusal changed) copy =
-    PlanIsRefused raw setting asked place refusal changed copy
+IsPlanDecision raw setting asked (plan.Refused place refusal) copy = PlanIsRefused raw setting asked place refusal copy
+
+-- The core is usable after a decision on a plan, or may be unusable if the plan is refused; if it is usable, it has the
+-- same base and limits.
+abbrev pub IsUsableAfter : CoreView → CoreView → PlanDecision → Type 0
+IsUsableAfter old new (plan.Accepted answers changes) = (new.spent ≡ false) × (new.setting ≡ old.setting)
+IsUsableAfter old new (plan.Refused place refusal) = new.spent ≡ false → new.setting ≡ old.setting
 
 -- An accepted plan has one answer for each request; a refusal is that of a request of the plan.
 abbrev pub HasEachDecision : List PlanRequest → PlanDecision → Type 0
 HasEachDecision asked (plan.Accepted answers changes) = length answers.items ≡ length asked
-HasEachDecision asked (plan.Refused place refusal changed) = (0 < place) × (place ≤ length asked)
+HasEachDecision asked (plan.Refused place refusal) = (0 < place) × (place ≤ length asked)
 
 -- The core may decide a plan over the storage: it is usable, and holds the state that the tables encode.
 pub record MayDecidePlan (storage : StorageView) (copy : CoreView) : Type 0 where

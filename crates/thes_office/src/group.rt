@@ -1,17 +1,18 @@
 //! Groups of posts with different keys: each is decided on the state that those before it make, and
 //! the changes of all are committed in one transaction.
-ghost use Rattle.std.specs.Prelude.{◌≡◌, ◌⊎◌, ◌≤◌, ◌<◌, ◌↔◌, ◌++◌, ◌+◌, ◌∷◌, [], false, true};
+ghost use Rattle.std.specs.Prelude.{◌≡◌, ◌⊎◌, ◌≤◌, ◌<◌, ◌↔◌, ◌++◌, ◌+◌, ◌∷◌, [], ℕ, List, false, true};
 ghost use Rattle.std.specs.Prelude.{IsTrue, IfOk, IfErr, OnOk, OnErr, take, length};
 ghost use Rattle.thes_base.specs.declared.request.Answer.{Answer};
 ghost use Rattle.thes_base.specs.State.{State};
 ghost use Rattle.thes_core.specs.CoreView.{IsViewOf};
 ghost use Rattle.thes_core.specs.Facts.{AreFacts};
 ghost use Rattle.thes_store.specs.Storage.{CommitFrame, DeltaFitsStorage, QueryFrame, RawAfterChanges};
-ghost use Rattle.thes_office.specs.Groups.{GroupDecided, HasFactsOf, IsDecided, IsGroup, IsNewPost};
-ghost use Rattle.thes_office.specs.Groups.{IsPostOf, MayDecideGroup, PerformsGroup};
+ghost use Rattle.thes_office.specs.Groups.{AreKeysMarked, GroupDecided, HasFactsOf, IsDecided, IsGroup, IsMarked};
+ghost use Rattle.thes_office.specs.Groups.{IsNewPost, IsPostOf, MayDecideGroup, PerformsGroup, place_of_key};
 
 use crate::facts::facts_of;
 use std::alloc::{AllocError, Global};
+use std::hash::{FoldHasher, Hasher};
 use thes_base::fault::Fault;
 use thes_base::request::{Answer, Command};
 use thes_base::text::Key;
@@ -22,6 +23,9 @@ use thes_tables::delta::Delta;
 // The greatest number of posts in a group.
 const GROUP_LIMIT: usize = 128;
 
+// The number of places at which the keys of a group are marked.
+const PLACES: usize = 1_024;
+
 /// The answers to the requests of a group or a plan that are decided so far, and their changes of
 /// rows.
 #[derive(Drop)]
@@ -31,8 +35,8 @@ pub struct Decided {
 }
 
 impl Decided {
-    // Appends an answer and its changes.
-    fn append(&mut self, answer: Answer, delta: Delta) -> Result<(), AllocError>
+    /// Appends an answer and its changes.
+    pub fn append(&mut self, answer: Answer, delta: Delta) -> Result<(), AllocError>
         ensures answers { OnOk result
             (self.new.answers.items ≡ self.old.answers.items ++ answer ∷ []) }
         ensures changes { OnOk result (self.new.delta ≡ self.old.delta ++ delta) }
@@ -53,40 +57,80 @@ fn is_post_of(key: &Key, command: &Command) -> bool
     }
 }
 
-// Checks whether a request is a Post, and none of the earlier requests is a Post with its key.
-fn is_new_post(earlier: &[Command], command: &Command) -> bool
-    ensures { IsTrue result ↔ IsNewPost earlier.now command.now }
+// Returns the place of a key among the marks. Different keys may have the same place.
+#[tactic(auto, unfolding(crate::specs::Groups::place_of_key))]
+fn place_of_key(key: &Key) -> usize
+    ensures place { result ≡ place_of_key key.now }
+    ensures within { result < PLACES }
 {
-    match command {
-        Command::Post(key, _, _) => earlier.iter().all(|other| !is_post_of(key, other)),
-        _ => false,
+    let mut hasher = FoldHasher::default();
+    hasher.write(key.as_str().as_bytes());
+    (hasher.finish() % 1_024) as usize
+}
+
+// Marks the place of a key, and returns whether it was marked.
+#[tactic(auto, using(crate::proofs::GroupLemmas::still_marked, crate::proofs::GroupLemmas::marked_here))]
+fn mark(marks: &mut [bool], key: &Key) -> bool
+    requires size { length marks.old ≡ PLACES }
+    ensures size { length marks.new ≡ PLACES }
+    ensures keeps { (other : List ℕ) → IsMarked marks.old other → IsMarked marks.new other }
+    ensures marked { IsMarked marks.new key.now }
+    ensures was { IsMarked marks.old key.now → result ≡ true }
+{
+    let place = place_of_key(key);
+    let was = marks[place];
+    marks[place] = true;
+    was
+}
+
+// Checks whether a request is a Post, and none of the earlier requests is a Post with its key; marks its key. It is
+// compared with the others only if its place was marked.
+#[tactic(auto, using(crate::proofs::GroupLemmas::unmarked_is_new, crate::proofs::GroupLemmas::marked_more))]
+fn is_new_post(earlier: &[Command], marks: &mut [bool], command: &Command) -> bool
+    requires size { length marks.old ≡ PLACES }
+    requires marked { AreKeysMarked marks.old earlier.now }
+    ensures size { length marks.new ≡ PLACES }
+    ensures new { IsTrue result ↔ IsNewPost earlier.now command.now }
+    ensures marked { IsTrue result → AreKeysMarked marks.new (earlier.now ++ command.now ∷ []) }
+{
+    let Command::Post(key, _, _) = command else {
+        return false;
+    };
+    if !mark(marks, key) {
+        return true;
     }
+    earlier.iter().all(|other| !is_post_of(key, other))
 }
 
 // Checks whether the first `count` requests, which are a group, and the next one are a group.
 #[tactic(auto, using(crate::proofs::GroupLemmas::group_grows, std::proofs::lemmas::Option::slice_get_read))]
-fn may_grow(commands: &[Command], count: usize) -> bool
-    requires { count ≤ length commands.now }
-    ensures { IsTrue result → (count < length commands.now) × (IsGroup (take count commands.now)
+fn may_grow(commands: &[Command], marks: &mut [bool], count: usize) -> bool
+    requires within { count ≤ length commands.now }
+    requires size { length marks.old ≡ PLACES }
+    requires marked { AreKeysMarked marks.old (take count commands.now) }
+    ensures size { length marks.new ≡ PLACES }
+    ensures grows { IsTrue result → (count < length commands.now) × (IsGroup (take count commands.now)
         → IsGroup (take (count + 1) commands.now)) }
+    ensures marked { IsTrue result → AreKeysMarked marks.new (take (count + 1) commands.now) }
 {
     let Some(command) = commands.get(count) else {
         return false;
     };
-    is_new_post(&commands[..count], command)
+    is_new_post(&commands[..count], marks, command)
 }
 
 /// Returns the number of requests at the front of the list that make a group: at most 128 posts
 /// with different keys, or 1 if the first request isn't a Post.
-#[tactic(auto, using(crate::proofs::GroupLemmas::group_empty))]
+#[tactic(auto, using(crate::proofs::GroupLemmas::group_empty, crate::proofs::GroupLemmas::marked_none))]
 pub fn group_length(commands: &[Command]) -> usize
     requires { 0 < length commands.now }
     ensures some { 0 < result }
     ensures fits { result ≤ length commands.now }
     ensures group { IsGroup (take result commands.now) ⊎ (result ≡ 1) }
 {
+    let mut marks = [false; PLACES];
     let mut count = 0;
-    'growing: while count < GROUP_LIMIT && may_grow(commands, count) {
+    'growing: while count < GROUP_LIMIT && may_grow(commands, &mut marks, count) {
         count += 1;
     }
     if count == 0 {
@@ -106,9 +150,9 @@ fn append_changes(delta: &mut Delta, more: Delta) -> Result<(), AllocError>
     Ok(())
 }
 
-/// Decides one more request on the facts that it needs, and applies it to the core, which holds the
-/// state after the requests before it. If memory runs out, the core may be ahead of the tables.
-pub fn decide_with_facts(
+// Decides one more request on the facts that it needs, and applies it to the core, which holds the
+// state after the requests before it. If memory runs out, the core may be ahead of the tables.
+fn decide_with_facts(
     core: &mut Core,
     command: &Command,
     facts: &Facts,
@@ -120,7 +164,6 @@ pub fn decide_with_facts(
         × ((s : State) → IsViewOf core.old s → AreFacts command.now s.histories facts.now
         → IsDecided core.old.setting s command.now
         answer decided.old.delta decided.new.delta core.new)) }
-    ensures grows { OnOk result (length decided.old.delta ≤ length decided.new.delta) }
     ensures usable { OnOk result ((core.new.spent ≡ false)
         × (core.new.setting ≡ core.old.setting)) }
     ensures err { IfErr result (λ fault. fault ≡ Fault.OutOfMemory) }

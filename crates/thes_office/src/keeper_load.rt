@@ -1,4 +1,4 @@
-//! Builds a core from the tables of the storage.
+//! Has the storage yield the rows of its tables to a loader, and returns the core that it builds.
 ghost use Rattle.std.specs.Prelude.{◌≡◌, ◌≢◌, IfOk, IfErr};
 ghost use Rattle.thes_office.specs.Opening.{LoadsCore, LoadsNone};
 ghost use Rattle.thes_office.specs.QueryFrames.{LoadFrame};

@@ -1,4 +1,4 @@
-//! A loader, which builds a core from the rows of a store.
+//! `Loader`, a sink for the rows of a store, which builds a core from them.
 ghost use Rattle.std.specs.Prelude.{◌≡◌, ◌⊎◌, false, Err, IfOk, IfErr};
 ghost use Rattle.thes_base.specs.declared.fault.Fault.TheVariants as faults;
 ghost use Rattle.thes_tables.specs.Cells.{Raw};

@@ -1,4 +1,4 @@
-//! The office, which performs requests and answers queries.
+//! `Office`: opens over a storage, and performs requests, singly and as lists.
 ghost use Rattle.std.specs.Prelude.{⊤, ◌≡◌, ◌⊎◌, ◌∷◌, [], false, IfOk, List, length, ℕ, MatchResult};
 ghost use Rattle.thes_base.specs.Headline.{IsConsistentState};
 ghost use Rattle.thes_base.specs.State.{State};
@@ -51,8 +51,8 @@ impl<K: Keeper> Office<K> {
     ghost use Rattle.std.specs.Borrow.{sem};
     ghost use Rattle.thes_office.specs.Office.{ReadyResult};
 
-    /// Opens an office over a storage whose tables encode a state. Returns a fault with the
-    /// storage; any but OutOfMemory and Store is the verdict on the rows.
+    /// Loads the tables of a storage and opens an office over it. A fault comes with the storage:
+    /// OutOfMemory, Store, or what is wrong with the rows.
     pub fn start(alloc: Global, mut keeper: K, limits: Limits) -> Result<Office<K>, (Fault, K)>
         ensures opened { MatchResult result (IsOpened K.view limits keeper)
             (λ e. IsUnopened K.view keeper e.0 e.1) }
@@ -112,8 +112,8 @@ impl<K: Keeper> Office<K> {
         Ok(())
     }
 
-    // Reloads the copy if it is stale, and queries the storage for the facts about postings that the
-    // check of a request needs. A `Store` fault makes the copy stale.
+    // Reloads the copy if it is stale, and queries the storage for the facts about postings that
+    // the check of a request needs. A `Store` fault makes the copy stale.
     fn gather_facts(&mut self, command: &Command) -> Result<Facts, Fault>
         ensures frame { OfficeQueryFrame K.view self.old self.new result }
         ensures in_tables { IfOk result (λ facts. (K.view self.new.keeper).is_up
@@ -236,7 +236,8 @@ impl<K: Keeper> Office<K> {
         Ok(())
     }
 
-    /// Returns the copy of the tables, reloaded first if it was stale.
+    /// Returns the copy of the tables, reloaded first if it was stale. While the copy is in use,
+    /// the office can't be called; the clause says what the office is once it can.
     pub fn ready(&mut self) -> Result<&Core, Fault>
         ensures* after { sem 𝓛
             (follows_so (the_row K.row K.Keeper) (the_row K.row K.Keeper) self.entry.ghost_name none

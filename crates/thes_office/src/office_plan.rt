@@ -1,4 +1,4 @@
-//! The plans of an office.
+//! `Office::run_plan`, which performs a plan and answers it.
 ghost use Rattle.std.specs.Prelude.{IfOk};
 ghost use Rattle.thes_plans.specs.Plans.{HasEachAnswer};
 ghost use Rattle.thes_office.specs.Office.{FaultBehaviour};
@@ -13,9 +13,9 @@ use thes_store::keeper::Keeper;
 impl<K: Keeper> Office<K> {
     /// Performs the requests of a plan in order, with each reference replaced by the number that an
     /// earlier request made. If each is accepted or repeats a known key, all changes are committed
-    /// in one transaction; else the outcome is the first refusal, and nothing is changed. On a fault
-    /// the tables are unchanged. It may be called with any list; a reference to nothing leaves the
-    /// number for which it stands.
+    /// in one transaction; else the outcome is the first refusal, and nothing is changed. On a
+    /// fault the tables are unchanged. It may be called with any list; a reference to nothing
+    /// leaves the number for which it stands.
     pub fn run_plan(&mut self, plan: &[PlanRequest]) -> Result<PlanOutcome, Fault>
         ensures fault_behaviour { FaultBehaviour K.view self.old self.new result }
         ensures performed { RunPlanResult K.view self.old plan.now result self.new }

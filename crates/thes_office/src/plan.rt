@@ -1,21 +1,25 @@
 //! Plans: each request is decided on the state that those before it make, and the changes of all are
 //! committed in one transaction.
-ghost use Rattle.std.specs.Prelude.{◌≡◌, ◌≤◌, ◌++◌, ◌∷◌, [], List, drop, length, false, true, IfOk, OnOk, OnErr};
+ghost use Rattle.std.specs.Prelude.{◌≡◌, ◌≤◌, ◌++◌, ◌∷◌, [], List, drop, length, false, true, IfOk, IfErr, OnOk, OnErr};
 ghost use Rattle.thes_base.specs.declared.request.Answer.{Answer};
 ghost use Rattle.thes_plans.specs.Plans.{HasEachAnswer};
 ghost use Rattle.thes_plans.specs.Resolving.{resolved_command};
+ghost use Rattle.thes_base.specs.State.{State};
+ghost use Rattle.thes_core.specs.CoreView.{IsViewOf};
+ghost use Rattle.thes_core.specs.Facts.{AreFacts};
+ghost use Rattle.thes_core.specs.UndoLogs.{IsLogOf};
 ghost use Rattle.thes_store.specs.Storage.{CommitFrame, QueryFrame};
 ghost use Rattle.thes_office.specs.Office.{IsCopy};
-ghost use Rattle.thes_office.specs.PlanDecisions.{DecidesCommand, DecidesRequest, HasEachDecision, IsPlanDecision};
-ghost use Rattle.thes_office.specs.PlanDecisions.{MayDecidePlan, refusal_in};
+ghost use Rattle.thes_office.specs.PlanDecisions.{DecidesCommand, DecidesRequest, HasEachDecision, IsDecidedAndLogged};
+ghost use Rattle.thes_office.specs.PlanDecisions.{IsPlanDecision, IsUsableAfter, MayDecidePlan, refusal_in};
 ghost use Rattle.thes_office.specs.Plans.{TablesAfterPlan};
 
-use crate::group::{Decided, commit_changes, decide_with_facts};
+use crate::group::{Decided, commit_changes};
 use crate::plan_facts::facts_in_plan;
 use std::alloc::Global;
 use thes_base::fault::{Fault, Refusal};
 use thes_base::request::{Answer, Command};
-use thes_core::Core;
+use thes_core::{Core, Facts, UndoLog, Verdict};
 use thes_plan_postings::plan_postings::PlanPostings;
 use thes_plans::plan::{PlanOutcome, PlanRequest};
 use thes_plans::resolving::resolve;
@@ -30,6 +34,8 @@ pub struct PlanProgress {
     decided: Decided,
     // The postings that they have changed.
     postings: PlanPostings,
+    // Those that the core has applied.
+    log: UndoLog,
 }
 
 /// The decision on a plan, before anything is committed.
@@ -37,9 +43,8 @@ pub struct PlanProgress {
 pub enum PlanDecision {
     /// The answers to all requests, and their changes of rows.
     Accepted(Vec<Answer>, Delta),
-    /// The place of the first refused request, its refusal, and whether requests before it have
-    /// changed the core.
-    Refused(usize, Refusal, bool),
+    /// The place of the first refused request, and its refusal.
+    Refused(usize, Refusal),
 }
 
 // Returns the refusal that the last answer has, if it is one.
@@ -68,19 +73,38 @@ fn changes_from(delta: &Delta, index: usize) -> &[Change]
     &delta.as_slice()[index..]
 }
 
-// Checks whether there are changes.
-fn has_changes(delta: &Delta) -> bool
-    ensures { result ≡ false → delta.now ≡ [] }
+// Decides one more command of a plan on its facts. If it is accepted, applies it to the core and
+// appends it to the log. If memory runs out, the core may be ahead of the tables.
+fn decide_and_log(
+    core: &mut Core,
+    command: Command,
+    facts: &Facts,
+    progress: &mut PlanProgress,
+) -> Result<(), Fault>
+    requires { core.old.spent ≡ false }
+    ensures decides { OnOk result ((answer : Answer) × (progress.new.decided.answers.items
+        ≡ progress.old.decided.answers.items ++ answer ∷ [])
+        × ((s : State) → IsViewOf core.old s → AreFacts command s.histories facts.now
+        → IsDecidedAndLogged core.old.setting s command answer progress.old progress.new core.new)) }
+    ensures grows { OnOk result (length progress.old.decided.delta
+        ≤ length progress.new.decided.delta) }
+    ensures kept { OnOk result (progress.new.postings ≡ progress.old.postings) }
+    ensures usable { OnOk result ((core.new.spent ≡ false)
+        × (core.new.setting ≡ core.old.setting)) }
+    ensures logs { OnOk result (IsLogOf progress.old.log core.old
+        → IsLogOf progress.new.log core.new) }
+    ensures err { IfErr result (λ fault. fault ≡ Fault.OutOfMemory) }
 {
-    !delta.as_slice().is_empty()
-}
-
-// Marks the core as unusable if a refused plan has changed it.
-fn mark_if_changed(core: &mut Core, changed: bool)
-    ensures { core.new.spent ≡ false → (changed ≡ false) × (core.new ≡ core.old) }
-{
-    if changed {
-        core.mark_spent();
+    match core.decide(&command, facts)? {
+        Verdict::Settled(answer) => {
+            progress.decided.answers.push(answer)?;
+            Ok(())
+        }
+        Verdict::Accepted(answer, delta) => {
+            core.apply_logged(command, facts, &mut progress.log)?;
+            progress.decided.append(answer, delta)?;
+            Ok(())
+        }
     }
 }
 
@@ -90,26 +114,28 @@ fn decide_command<K: Keeper>(
     alloc: Global,
     keeper: &mut K,
     core: &mut Core,
-    command: &Command,
+    command: Command,
     progress: &mut PlanProgress,
 ) -> Result<(), Fault>
     requires { core.old.spent ≡ false }
     ensures decides { OnOk result ((answer : Answer) × (progress.new.decided.answers.items
         ≡ progress.old.decided.answers.items ++ answer ∷ []) × ((K.view keeper.new).is_up
         → DecidesCommand (K.view keeper.old).rows progress.old progress.new core.old core.new
-        command.now answer)) }
+        command answer)) }
     ensures grows { OnOk result (length progress.old.decided.delta
         ≤ length progress.new.decided.delta) }
     ensures kept { OnOk result (progress.new.postings ≡ progress.old.postings) }
     ensures usable { OnOk result ((core.new.spent ≡ false)
         × (core.new.setting ≡ core.old.setting)) }
+    ensures logs { OnOk result (IsLogOf progress.old.log core.old
+        → IsLogOf progress.new.log core.new) }
     ensures asks { QueryFrame (K.view keeper.old) (K.view keeper.new) result }
 {
-    let facts = match facts_in_plan(alloc, keeper, &progress.postings, command) {
+    let facts = match facts_in_plan(alloc, keeper, &progress.postings, &command) {
         Ok(facts) => facts,
         Err(fault) => return Err(fault),
     };
-    decide_with_facts(core, command, &facts, &mut progress.decided)?;
+    decide_and_log(core, command, &facts, progress)?;
     Ok(())
 }
 
@@ -118,16 +144,18 @@ fn decide_and_record<K: Keeper>(
     alloc: Global,
     keeper: &mut K,
     core: &mut Core,
-    command: &Command,
+    command: Command,
     progress: &mut PlanProgress,
 ) -> Result<(), Fault>
     requires { core.old.spent ≡ false }
     ensures decides { OnOk result ((answer : Answer) × (progress.new.decided.answers.items
         ≡ progress.old.decided.answers.items ++ answer ∷ []) × ((K.view keeper.new).is_up
         → DecidesRequest (K.view keeper.old).rows progress.old progress.new core.old core.new
-        command.now answer)) }
+        command answer)) }
     ensures usable { OnOk result ((core.new.spent ≡ false)
         × (core.new.setting ≡ core.old.setting)) }
+    ensures logs { OnOk result (IsLogOf progress.old.log core.old
+        → IsLogOf progress.new.log core.new) }
     ensures asks { QueryFrame (K.view keeper.old) (K.view keeper.new) result }
 {
     let before = change_count(&progress.decided.delta);
@@ -158,17 +186,19 @@ fn decide_request<K: Keeper>(
         (resolved_command progress.old.decided.answers.items asked.now) answer)) }
     ensures usable { OnOk result ((core.new.spent ≡ false)
         × (core.new.setting ≡ core.old.setting)) }
+    ensures logs { OnOk result (IsLogOf progress.old.log core.old
+        → IsLogOf progress.new.log core.new) }
     ensures asks { QueryFrame (K.view keeper.old) (K.view keeper.new) result }
 {
     let command = resolve(alloc, progress.decided.answers.as_slice(), asked)?;
-    match decide_and_record(alloc, keeper, core, &command, progress) {
+    match decide_and_record(alloc, keeper, core, command, progress) {
         Ok(()) => Ok(last_refusal(progress.decided.answers.as_slice())),
         Err(fault) => Err(fault),
     }
 }
 
-// Decides the requests of a plan in order, up to the first that is refused, and applies those before
-// it to the core.
+// Decides the requests of a plan in order, and applies them to the core. At the first that is refused
+// it takes those before it back; the core is unusable if that fails.
 fn decide_plan<K: Keeper>(
     alloc: Global,
     keeper: &mut K,
@@ -179,8 +209,7 @@ fn decide_plan<K: Keeper>(
     ensures decides { IfOk result (λ decision. (K.view keeper.new).is_up
         → IsPlanDecision (K.view keeper.old).rows core.old.setting plan.now decision core.new) }
     ensures each { IfOk result (HasEachDecision plan.now) }
-    ensures usable { OnOk result ((core.new.spent ≡ false)
-        × (core.new.setting ≡ core.old.setting)) }
+    ensures usable { IfOk result (IsUsableAfter core.old core.new) }
     ensures asks { QueryFrame (K.view keeper.old) (K.view keeper.new) result }
 {
     let mut progress = PlanProgress {
@@ -189,14 +218,15 @@ fn decide_plan<K: Keeper>(
             delta: Delta::new(alloc),
         },
         postings: PlanPostings::new(alloc),
+        log: UndoLog::new(alloc),
     };
     for asked in plan {
         match decide_request(alloc, keeper, core, asked, &mut progress) {
             Ok(None) => {}
             Ok(Some(refusal)) => {
                 let place = progress.decided.answers.len();
-                let changed = has_changes(&progress.decided.delta);
-                return Ok(PlanDecision::Refused(place, refusal, changed));
+                core.take_back(&progress.log);
+                return Ok(PlanDecision::Refused(place, refusal));
             }
             Err(fault) => return Err(fault),
         }
@@ -204,6 +234,7 @@ fn decide_plan<K: Keeper>(
     let PlanProgress {
         decided,
         postings: _,
+        log: _,
     } = progress;
     let Decided { answers, delta } = decided;
     Ok(PlanDecision::Accepted(answers, delta))
@@ -211,8 +242,8 @@ fn decide_plan<K: Keeper>(
 
 /// Performs the requests of a plan in order: each is decided in the state that the core holds after
 /// those before it. If all are accepted, their changes are committed in one transaction. If one is
-/// refused, or on a fault, the tables are unchanged, and the core is unusable until reloaded,
-/// unless a refused plan has changed nothing in it.
+/// refused, the tables are unchanged, and those before it are taken back in the core, or the core is
+/// unusable until reloaded. On a fault the tables are unchanged, and the core is unusable.
 pub fn perform_plan<K: Keeper>(
     alloc: Global,
     keeper: &mut K,
@@ -238,10 +269,7 @@ pub fn perform_plan<K: Keeper>(
             }
             Ok(PlanOutcome::Done(answers))
         }
-        Ok(PlanDecision::Refused(place, refusal, changed)) => {
-            mark_if_changed(core, changed);
-            Ok(PlanOutcome::Refused(place, refusal))
-        }
+        Ok(PlanDecision::Refused(place, refusal)) => Ok(PlanOutcome::Refused(place, refusal)),
         Err(fault) => {
             core.mark_spent();
             Err(fault)

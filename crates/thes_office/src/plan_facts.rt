@@ -57,8 +57,8 @@ pub fn facts_in_plan<K: Keeper>(
     }
 }
 
-// Looks up the rows of the postings with these numbers, in that order, as the plan has changed them;
-// None for a number without a posting.
+// Looks up the rows of the postings with these numbers, in that order, as the plan has changed
+// them; None for a number without a posting.
 fn rows_in_plan<K: Keeper>(
     alloc: Global,
     keeper: &mut K,

@@ -172,8 +172,8 @@ impl PlanPostings {
         Ok(numbers)
     }
 
-    // Returns the numbers of the postings assigned to the concept, in increasing order, if `standing`
-    // are those assigned to it in the tables.
+    // Returns the numbers of the postings assigned to the concept, in increasing order, if
+    // `standing` are those assigned to it in the tables.
     fn assigned_from(&self, concept: ResNo, standing: &[PostNo]) -> Result<Vec<PostNo>, AllocError>
         ensures { IfOk result (λ numbers.
             AreAssigned self.now concept standing.now numbers.items) }

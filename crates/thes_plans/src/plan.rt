@@ -5,16 +5,20 @@ use thes_base::request::{Answer, Command};
 /// The greatest number of requests in a plan.
 pub const REQUEST_LIMIT: usize = 128;
 
-/// A request of a plan: a command, some of whose numbers stand for what earlier requests of the plan make.
+/// A request of a plan: a command, some of whose numbers stand for what earlier requests of the
+/// plan make.
 #[derive(Debug, Drop)]
 pub struct PlanRequest {
     /// The command. A number for which a reference stands is replaced when the plan is performed.
     pub command: Command,
-    /// The place (from 1) of the request that makes the resource or posting for the command's first number.
+    /// The place (from 1) of the request that makes the resource or posting for the command's first
+    /// number.
     pub first: Option<u32>,
-    /// The place of the request that makes the resource for the command's second number (Link, Unlink, Merge).
+    /// The place of the request that makes the resource for the command's second number (Link,
+    /// Unlink, Merge).
     pub second: Option<u32>,
-    /// The place, for each posting that a Split lists, of the request that makes it; empty for any other command.
+    /// The place, for each posting that a Split lists, of the request that makes it; empty for any
+    /// other command.
     pub postings: Vec<Option<u32>>,
 }
 

@@ -49,7 +49,8 @@ fn refers_to_resource(earlier: &[PlanRequest], reference: Option<u32>) -> bool
     }
 }
 
-// Checks that there is no reference, or that it is to an earlier request that makes or finds a posting.
+// Checks that there is no reference, or that it is to an earlier request that makes or finds a
+// posting.
 fn refers_to_posting(earlier: &[PlanRequest], reference: Option<u32>) -> bool
     ensures { IsTrue result ↔ IsGoodReference MakesPosting earlier.now reference }
 {
@@ -84,8 +85,8 @@ fn has_good_references(earlier: &[PlanRequest], asked: &PlanRequest) -> bool
             .all(|reference| refers_to_posting(earlier, *reference))
 }
 
-/// Returns the place of the first request with a reference to no earlier request that makes what is asked for; `None`
-/// if all references are good. It looks at the requests alone.
+/// Returns the place of the first request with a reference to no earlier request that makes what is
+/// asked for; `None` if all references are good. It looks at the requests alone.
 #[tactic(auto, using(crate::proofs::ReferenceLemmas::good_empty))]
 pub fn first_bad_reference(plan: &[PlanRequest]) -> Option<usize>
     ensures { FirstBadReference plan.now result }

@@ -1,5 +1,5 @@
 -- After each change of the histories, the changed counts of postings are those of the new histories.
-use Rattle.std.proofs.Common.{◌≡◌, ◌≢◌, ◌<◌, ◌≤◌, ℕ, zero, suc, ◌+◌, ◌-◌, length, List, [], ◌∷◌, refl, sym, ap, ◌∙◌}
+use Rattle.std.proofs.Common.{◌≡◌, ◌≢◌, ◌<◌, ◌≤◌, ◌^◌, ℕ, zero, suc, ◌+◌, ◌-◌, length, List, [], ◌∷◌, refl, sym, ap, ◌∙◌}
 use Rattle.std.proofs.Common.{subst, arith, inl, inr, Bool, true, false, cond, not, ◌&&◌, eqb, eqb-true, ne_eqb}
 use Rattle.std.proofs.Common.{length-append}
 use borrow.Author.Tests.{eq-eqb}
@@ -17,7 +17,8 @@ use Rattle.thes_base.proofs.ForwardingLemmas.{along_led, count_posted}
 use Rattle.thes_base.proofs.MoveLemmas.{place_moved, length_moved, count_moved}
 use Rattle.thes_base.proofs.LegalPostingLemmas.{count_set_numbered}
 use Rattle.thes_post.specs.PostingCounts.{PostingCounts, count_of, ArePostingCounts, CountsAfterPost}
-use Rattle.thes_post.specs.PostingCounts.{CountsAfterWithdrawal, CountsAfterMoves}
+use Rattle.thes_post.specs.PostingCounts.{CountsAfterWithdrawal, CountsAfterMoves, HasPostToTakeBack}
+use Rattle.thes_post.specs.PostingCounts.{HasMovesToTakeBack, HasWithdrawalToTakeBack}
 
 stands_here : (c : ℕ) (h : History) → h.withdrawn ≡ false → place h ≡ c → is_assigned_to c h ≡ true
 stands_here c h stays at = λ i. not (stays i) && eq-eqb (place h) c at i
@@ -49,6 +50,31 @@ count_set test (x ∷ hs) (suc i) h new e =
     let ih = count_set test hs i h new e in
     omega (arith, a, b, ih)
 
+-- From some histories and counts to others, each count changes by as much as the histories do.
+record ChangeAlike (gs hs : List History) (x y : PostingCounts) : Type 0 where
+  standing : (c : ℕ) → count_of y c + assigned_count c gs ≡ count_of x c + assigned_count c hs
+  accepted : y.accepted + length gs ≡ x.accepted + length hs
+  withdrawn : y.withdrawn + withdrawn_count gs ≡ x.withdrawn + withdrawn_count hs
+  moves : y.moves + move_count gs ≡ x.moves + move_count hs
+
+-- If the counts before such a change are those of the histories before it, so are those after it.
+counts_alike : (gs hs : List History) (x y : PostingCounts) → ChangeAlike gs hs x y → ArePostingCounts gs x
+    → ArePostingCounts hs y
+counts_alike gs hs x y alike are = record {
+  standing = λ c. let a = alike.standing c in let s = are.standing c in omega (arith, a, s);
+  accepted = (let a = alike.accepted in let s = are.accepted in omega (arith, a, s));
+  withdrawn = (let a = alike.withdrawn in let s = are.withdrawn in omega (arith, a, s));
+  moves = (let a = alike.moves in let s = are.moves in omega (arith, a, s));
+}
+
+taken_back : (gs hs : List History) (x y : PostingCounts) → ChangeAlike gs hs x y → ChangeAlike hs gs y x
+taken_back gs hs x y alike = record {
+  standing = λ c. sym (alike.standing c);
+  accepted = sym alike.accepted;
+  withdrawn = sym alike.withdrawn;
+  moves = sym alike.moves;
+}
+
 -- Assumes that a posting is added with the moves along its path.
 module _ (hs : List History) (key rec : List ℕ) (first : ℕ) (way : List ℕ) where
   abbrev posted : List History
@@ -63,32 +89,50 @@ module _ (hs : List History) (key rec : List ℕ) (first : ℕ) (way : List ℕ)
   more : (c : ℕ) → assigned_count c posted ≡ assigned_count c hs + cond (is_assigned_to c last) 1 0
   more c = sum_by_push (λ (x : History). cond (is_assigned_to c x) 1 0) hs last
 
-  -- The counts after a new posting are those of the histories.
-  pub sums_posted : (old new : PostingCounts) → ArePostingCounts hs old → CountsAfterPost (path_end first way)
-      (length way) old new → ArePostingCounts posted new
-  sums_posted old new are one = record {
+  alike_posted : (old new : PostingCounts) → CountsAfterPost (path_end first way) (length way) old new
+      → ChangeAlike hs posted old new
+  alike_posted old new one = record {
     standing = λ c. elim (cases_eq c (path_end first way)) [
       | inl here ↦
           let a = ap (count_of new) here in
           let b = one.here in
           let d = ap (count_of old) here in
-          let s = are.standing c in
           let m = more c in
           let t = ap {B = ℕ} (λ b. cond b 1 0) (stands_here c last refl (ends ∙ sym here)) in
-          omega (arith, a, b, d, s, m, t)
+          omega (arith, a, b, d, m, t)
       | inr apart ↦
           let b = one.others c apart in
-          let s = are.standing c in
           let m = more c in
           let t = ap {B = ℕ} (λ b. cond b 1 0) (stands_not c last (λ e. apart (sym e ∙ ends))) in
-          omega (arith, b, s, m, t)
+          omega (arith, b, m, t)
     ];
-    accepted = (let a = one.accepted in let b = are.accepted in let l = length-append hs (last ∷ []) in
-        omega (arith, a, b, l));
-    withdrawn = (let a = one.withdrawn in let b = are.withdrawn in let w =
-        sum_by_push (λ (x : History). cond x.withdrawn 1 0) hs last in omega (arith, a, b, w));
-    moves = (let a = one.moves in let b = are.moves in let m = count_posted key rec first way hs in
-        omega (arith, a, b, m));
+    accepted = (let a = one.accepted in let l = length-append hs (last ∷ []) in omega (arith, a, l));
+    withdrawn = (let a = one.withdrawn in let w = sum_by_push (λ (x : History). cond x.withdrawn 1 0) hs last in
+        omega (arith, a, w));
+    moves = (let a = one.moves in let m = count_posted key rec first way hs in omega (arith, a, m));
+  }
+
+  -- The counts after a new posting are those of the histories.
+  pub sums_posted : (old new : PostingCounts) → ArePostingCounts hs old → CountsAfterPost (path_end first way)
+      (length way) old new → ArePostingCounts posted new
+  sums_posted old new are one = counts_alike hs posted old new (alike_posted old new one) are
+
+  -- The counts before a new posting, which is taken back, are those of the histories before it.
+  pub sums_before_post : (old new : PostingCounts) → ArePostingCounts posted old → CountsAfterPost (path_end first way)
+      (length way) new old → ArePostingCounts hs new
+  sums_before_post old new are one =
+      counts_alike posted hs old new (taken_back hs posted new old (alike_posted new old one)) are
+
+  -- The count of a posting that was added last can be taken back.
+  pub post_counted : (old : PostingCounts) → ArePostingCounts posted old
+      → HasPostToTakeBack (path_end first way) (length way) old
+  post_counted old are = record {
+    here = (let s = are.standing (path_end first way) in let m = more (path_end first way) in let t =
+        ap {B = ℕ} (λ b. cond b 1 0) (stands_here (path_end first way) last refl ends) in omega (arith, s, m, t));
+    accepted = (let a = are.accepted in let b = are.withdrawn in let l = length-append hs (last ∷ []) in let w =
+        sum_by_push (λ (x : History). cond x.withdrawn 1 0) hs last in let k =
+        count_by-le-length (λ (x : History). x.withdrawn) hs in omega (arith, a, b, l, w, k));
+    moves = (let a = are.moves in let m = count_posted key rec first way hs in omega (arith, a, m));
   }
 
 -- Assumes a withdrawal of posting n, whose history is h and which wasn't withdrawn before.
@@ -122,39 +166,61 @@ module _ (hs : List History) (n : ℕ) (h : History) (at : entry_at hs n ≡ Som
       let k = length-set hs (n - 1) (history_after_withdrawal h) in
       omega (arith, c, t, l, k)
 
+  alike_withdrawn : (old new : PostingCounts) → CountsAfterWithdrawal (place h) old new → ChangeAlike hs less old new
+  alike_withdrawn old new one = record {
+    standing = λ c. elim (cases_eq c (place h)) [
+      | inl here ↦
+          let a = ap (count_of new) here in
+          let b = one.here in
+          let d = ap (count_of old) here in
+          let m = set_count (is_assigned_to c) in
+          let t = ap {B = ℕ} (λ b. cond b 1 0) (stands_here c h stays (sym here)) in
+          omega (arith, a, b, d, m, t)
+      | inr apart ↦
+          let b = one.others c apart in
+          let m = set_count (is_assigned_to c) in
+          let t = ap {B = ℕ} (λ b. cond b 1 0) (stands_not c h (λ e. apart (sym e))) in
+          omega (arith, b, m, t)
+    ];
+    accepted = (let a = one.accepted in let l = length-set hs (n - 1) (history_after_withdrawal h) in
+        omega (arith, a, l));
+    withdrawn = (let a = one.withdrawn in let w = set_count (λ x. x.withdrawn) in
+        let t = ap {B = ℕ} (λ b. cond b 1 0) stays in omega (arith, a, w, t));
+    moves = (let a = one.moves in let m = count_set_numbered hs n h (history_after_withdrawal h) at refl in
+        omega (arith, a, m));
+  }
+
+  same_less : histories_after_withdrawal n hs ≡ less
+  same_less = ap (λ (o : Option History). elim o [
+    | None ↦ hs
+    | Some g ↦ set_entry_at hs n (history_after_withdrawal g)
+  ]) at
+
   -- The counts after a withdrawal are those of the histories.
   pub sums_withdrawn : (old new : PostingCounts) → ArePostingCounts hs old → CountsAfterWithdrawal (place h) old new
       → ArePostingCounts (histories_after_withdrawal n hs) new
-  sums_withdrawn old new are one =
-      subst (λ l. ArePostingCounts l new)
-      (sym (ap (λ (o : Option History). elim o [
-        | None ↦ hs
-        | Some g ↦ set_entry_at hs n (history_after_withdrawal g)
-      ]) at)) (record {
-        standing = λ c. elim (cases_eq c (place h)) [
-          | inl here ↦
-              let a = ap (count_of new) here in
-              let b = one.here in
-              let d = ap (count_of old) here in
-              let s = are.standing c in
-              let m = set_count (is_assigned_to c) in
-              let t = ap {B = ℕ} (λ b. cond b 1 0) (stands_here c h stays (sym here)) in
-              omega (arith, a, b, d, s, m, t)
-          | inr apart ↦
-              let b = one.others c apart in
-              let s = are.standing c in
-              let m = set_count (is_assigned_to c) in
-              let t = ap {B = ℕ} (λ b. cond b 1 0) (stands_not c h (λ e. apart (sym e))) in
-              omega (arith, b, s, m, t)
-        ];
-        accepted = (let a = one.accepted in let b = are.accepted in let l =
-            length-set hs (n - 1) (history_after_withdrawal h) in omega (arith, a, b, l));
-        withdrawn = (let a = one.withdrawn in let b = are.withdrawn in let w = set_count (λ x. x.withdrawn) in let t =
-            ap {B = ℕ} (λ b. cond b 1 0) stays in omega (arith, a, b, w, t));
-        moves = (let a = one.moves in let b = are.moves in let m =
-            count_set_numbered hs n h (history_after_withdrawal h)
-            at refl in omega (arith, a, b, m));
-      })
+  sums_withdrawn old new are one = subst (λ l. ArePostingCounts l new) (sym same_less)
+      (counts_alike hs less old new (alike_withdrawn old new one) are)
+
+  -- The counts before a withdrawal, which is taken back, are those of the histories before it.
+  pub sums_before_withdrawal : (old new : PostingCounts) → ArePostingCounts (histories_after_withdrawal n hs) old
+      → CountsAfterWithdrawal (place h) new old → ArePostingCounts hs new
+  sums_before_withdrawal old new counted one =
+      counts_alike less hs old new (taken_back hs less new old (alike_withdrawn new old one))
+      (subst (λ l. ArePostingCounts l old) same_less counted)
+
+  -- The count of a withdrawal can be taken back.
+  pub withdrawal_counted : (old : PostingCounts) → ArePostingCounts (histories_after_withdrawal n hs) old
+      → length hs < 2 ^ 32 → HasWithdrawalToTakeBack (place h) old
+  withdrawal_counted old counted few =
+      let are : ArePostingCounts less old = subst (λ l. ArePostingCounts l old) same_less counted in
+      record {
+        here = (let s = are.standing (place h) in let m = set_count (is_assigned_to (place h)) in let t =
+            ap {B = ℕ} (λ b. cond b 1 0) (stands_here (place h) h stays refl) in let k =
+            count_by-le-length (is_assigned_to (place h)) hs in omega (arith, s, m, t, k, few));
+        withdrawn = (let b = are.withdrawn in let w = set_count (λ x. x.withdrawn) in let t =
+            ap {B = ℕ} (λ b. cond b 1 0) stays in omega (arith, b, w, t));
+      }
 
 -- Assumes that the postings that pass a test move from the source to the target.
 module _ (passes : History → Bool) (source target : ℕ) (apart : source ≢ target) where
@@ -293,6 +359,45 @@ module _ (passes : History → Bool) (source target : ℕ) (apart : source ≢ t
       withdrawn = some.withdrawn ∙ are.withdrawn ∙ sym same_withdrawn;
       moves = (let a = some.moves in let b = are.moves in let m = count_moved passes target number hs in
           omega (arith, a, b, m, is));
+    }
+
+    -- The counts before the moves, which are taken back, are those of the histories before them.
+    pub sums_before_moves : (count : ℕ) → count ≡ count_by passes hs → (old new : PostingCounts)
+        → ArePostingCounts after_moves old → CountsAfterMoves source target count new old → ArePostingCounts hs new
+    sums_before_moves count is old new are some = record {
+      standing = λ c. elim (cases_eq c source) [
+        | inl here ↦
+            let a = ap (count_of new) here in
+            let s = are.standing source in
+            let m = some.at_source in
+            let f = fewer in
+            let t = ap (λ d. assigned_count d hs) here in
+            omega (arith, a, s, m, f, t, is)
+        | inr no_source ↦ elim (cases_eq c target) [
+          | inl there ↦
+              let a = ap (count_of new) there in
+              let s = are.standing target in
+              let m = some.at_target in
+              let f = more_there in
+              let t = ap (λ d. assigned_count d hs) there in
+              omega (arith, a, s, m, f, t, is)
+          | inr no_target ↦ sym (some.others c no_source no_target) ∙ are.standing c ∙ others c no_source no_target
+        ]
+      ];
+      accepted = sym some.accepted ∙ are.accepted ∙ length_moved passes target number hs;
+      withdrawn = sym some.withdrawn ∙ are.withdrawn ∙ same_withdrawn;
+      moves = (let a = some.moves in let b = are.moves in let m = count_moved passes target number hs in
+          omega (arith, a, b, m, is));
+    }
+
+    -- The counts of the moves can be taken back.
+    pub moves_counted : (count : ℕ) → count ≡ count_by passes hs → (old : PostingCounts)
+        → ArePostingCounts after_moves old → length hs < 2 ^ 32 → HasMovesToTakeBack source target count old
+    moves_counted count is old are few = record {
+      standing = (let s = are.standing target in let m = more_there in omega (arith, s, m, is));
+      there = (let s = are.standing source in let f = fewer in let k =
+          count_by-le-length (is_assigned_to source) hs in omega (arith, s, f, k, few, is));
+      moves = (let b = are.moves in let m = count_moved passes target number hs in omega (arith, b, m, is));
     }
 
 -- The test `is_assigned_to source` picks only postings that are assigned to the source.

@@ -33,6 +33,24 @@ pub record HasPostingToWithdraw (concept : Number) (posting_counts : PostingCoun
   pub here : 0 < count_of posting_counts concept
   pub accepted : posting_counts.withdrawn < posting_counts.accepted
 
+-- There is a posting to the concept, with `steps` moves, whose count can be taken back.
+pub record HasPostToTakeBack (concept : Number) (steps : ℕ) (posting_counts : PostingCounts) : Type 0 where
+  pub here : 0 < count_of posting_counts concept
+  pub accepted : posting_counts.withdrawn < posting_counts.accepted
+  pub moves : steps ≤ posting_counts.moves
+
+-- There is a withdrawal whose count can be taken back, with room for one more posting assigned to the concept.
+pub record HasWithdrawalToTakeBack (concept : Number) (posting_counts : PostingCounts) : Type 0 where
+  pub here : count_of posting_counts concept + 1 < 2 ^ 32
+  pub withdrawn : 0 < posting_counts.withdrawn
+
+-- There are `moved` postings whose move from the source to the target can be taken back: the target has that many, and
+-- there is room for them at the source.
+pub record HasMovesToTakeBack (source target : Number) (moved : ℕ) (posting_counts : PostingCounts) : Type 0 where
+  pub standing : moved ≤ count_of posting_counts target
+  pub there : count_of posting_counts source + moved < 2 ^ 32
+  pub moves : moved ≤ posting_counts.moves
+
 -- There is room to move `moved` postings from the source to the target, with one move each: the source has that many,
 -- and all counts stay below 2 ^ 32.
 pub record HasRoomForMoves (source target : Number) (moved : ℕ) (posting_counts : PostingCounts) : Type 0 where

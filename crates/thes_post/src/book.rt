@@ -1,6 +1,7 @@
 //! The counts of postings, kept in memory; the postings themselves are in the storage.
 ghost use Rattle.std.specs.Prelude.{◌≡◌, ◌≢◌, ◌<◌, ◌+◌, ◌-◌, ◌^◌, ℕ, [], length, slice_index, IfOk, OnOk, OnErr};
 ghost use Rattle.thes_post.specs.PostingCounts.{count_of, HasRoomForPost, HasPostingToWithdraw, HasRoomForMoves, CountsAfterPost, CountsAfterWithdrawal, CountsAfterMoves};
+ghost use Rattle.thes_post.specs.PostingCounts.{HasMovesToTakeBack, HasPostToTakeBack, HasWithdrawalToTakeBack};
 
 use std::alloc::{AllocError, Global};
 use std::marker::Model;
@@ -100,6 +101,35 @@ impl Book {
         }
     }
 
+    /// Takes back the count of a posting that is assigned to the concept after `moves` moves;
+    /// changes nothing if there can't be one.
+    pub fn take_back_post(&mut self, concept: ResNo, moves: u64)
+        ensures { HasPostToTakeBack concept moves self.old
+            → CountsAfterPost concept moves self.new self.old }
+    {
+        let place = concept.get() as usize;
+        let count = count_at(self.counts.as_slice(), place);
+        if count > 0 && self.withdrawn < self.accepted && moves <= u64::from(self.moves) {
+            self.counts[place] = count - 1;
+            self.accepted -= 1;
+            self.moves -= moves as u32;
+        }
+    }
+
+    /// Takes back the count of a withdrawal of a posting that was assigned to the concept.
+    pub fn take_back_withdrawal(&mut self, concept: ResNo) -> Result<(), AllocError>
+        ensures ok { OnOk result (HasWithdrawalToTakeBack concept self.old
+            → CountsAfterWithdrawal concept self.new self.old) }
+        ensures err { OnErr result (self.new ≡ self.old) }
+    {
+        let place = concept.get() as usize;
+        grow_counts(&mut self.counts, place)?;
+        let count = self.counts[place];
+        self.counts[place] = count.saturating_add(1);
+        self.withdrawn = self.withdrawn.saturating_sub(1);
+        Ok(())
+    }
+
     /// Counts all postings of the source as moved to the target, with one move each, and returns
     /// the number of postings moved. Counts saturate at 2³² - 1.
     pub fn move_all(&mut self, source: ResNo, target: ResNo) -> Result<u32, AllocError>
@@ -137,6 +167,31 @@ impl Book {
         self.counts[source.get() as usize] = standing - count;
         self.counts[place] = self.counts[place].saturating_add(count);
         self.moves = self.moves.saturating_add(count);
+        Ok(())
+    }
+
+    /// Takes back the count of `count` postings of the source that moved to the target, with one move
+    /// each; changes nothing if there can't be so many.
+    pub fn take_back_moves(
+        &mut self,
+        source: ResNo,
+        target: ResNo,
+        count: u32,
+    ) -> Result<(), AllocError>
+        requires apart { source ≢ target }
+        ensures ok { OnOk result (HasMovesToTakeBack source target count self.old
+            → CountsAfterMoves source target count self.new self.old) }
+        ensures err { OnErr result (self.new ≡ self.old) }
+    {
+        let there = count_at(self.counts.as_slice(), target.get() as usize);
+        if count == 0 || there < count || self.moves < count {
+            return Ok(());
+        }
+        let place = source.get() as usize;
+        grow_counts(&mut self.counts, place)?;
+        self.counts[target.get() as usize] = there - count;
+        self.counts[place] = self.counts[place].saturating_add(count);
+        self.moves -= count;
         Ok(())
     }
 

@@ -1,4 +1,4 @@
-//! Counts of postings, and lists of their numbers.
+//! The counts of postings that a core has, and lists of their numbers.
 #![tactic(auto)]
 
 pub mod book;

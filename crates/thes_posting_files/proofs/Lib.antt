@@ -1,5 +1,6 @@
 mod RecordLemmas
 mod RecordReadingLemmas
+mod RowLemmas
 pub mod RowReadingLemmas
 pub mod ReportLemmas
 mod WholeInputLemmas

@@ -1,4 +1,4 @@
-//! Reads the rows of posting files, and makes the reports of their outcomes.
+//! Reads the rows of posting files, which are CSV, and makes the lines of reports.
 #![tactic(auto)]
 
 pub mod block;

@@ -17,7 +17,8 @@ pub(crate) fn open_records(alloc: Global, bytes: &[u8]) -> Reader<&[u8]>
         .from_reader(alloc, bytes)
 }
 
-/// Reads the next record into `entry`; returns false at the end of the text. Fails only if memory runs out.
+/// Reads the next record into `entry`; returns false at the end of the text. Fails only if memory
+/// runs out.
 #[tactic(auto, using(crate::proofs::RecordReadingLemmas::takes_found))]
 pub(crate) fn next_record(
     records: &mut Reader<&[u8]>,

@@ -146,7 +146,8 @@ module _ {X A Y B C : Type 0} (makes : A → B → C) (m : Member X A) (n : Memb
   line2_is = same2 (counted_members 3 d) (m.found d) (n.found d)
 
   pub gives_line2 : (r : Result (A × B) ReadStop) (q : Result C ReadStop) → ReadsMember (pair_of m n) d r
-      → q ≡ request_result (λ p. makes p.0 p.1) (if_exact (has_count 3 (as_object d)) r) → Gives (members2 makes m n d) q
+      → q ≡ request_result (λ p. makes p.0 p.1) (if_exact (has_count 3 (as_object d)) r)
+      → Gives (members2 makes m n d) q
   gives_line2 r q h e = rw line2_is (gives_row 3 (λ p. makes p.0 p.1) (pair_of m n) d r h q e)
 
 -- A row with three members is read by reading two pairs.

@@ -64,7 +64,8 @@ same_plans (d ∷ ds) (a ∷ p) (b ∷ q) x y = (same_asked d a b x.0 y.0, same_
 same_head : (d e : Data) (ds es : List Data) → d ∷ ds ≡ e ∷ es → (d ≡ e) × (ds ≡ es)
 same_head d e ds es h = (let same : d ≡ e = cc in same, let same : ds ≡ es = cc in same)
 
-same_first : (b : List Data) (d : Data) (a : List Data) (p : List PlanRequest) (f : FormFault) (c : List Data) (e : Data)
+same_first : (b : List Data) (d : Data) (a : List Data) (p : List PlanRequest) (f : FormFault) (c : List Data)
+    (e : Data)
     (z : List Data) (q : List PlanRequest) (g : FormFault) → AreRequests b p → IsNoPlanRequest d f → AreRequests c q
     → IsNoPlanRequest e g → b ++ d ∷ a ≡ c ++ e ∷ z → (length b ≡ length c) × (f ≡ g)
 same_first [] d a p f [] e z q g h n k m same =

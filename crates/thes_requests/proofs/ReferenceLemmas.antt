@@ -41,9 +41,11 @@ without_put k d (member l e ms) = there (order k l) refl (without_put k d ms)
         → members_without_references
         (match_ordering o (member k d (member l e ms)) (member l d ms) (member l e (put k d ms)))
         ≡ match_ordering o
-        (member k (member_without_references k d) (member l (member_without_references l e) (members_without_references ms)))
+        (member k (member_without_references k d) (member l (member_without_references l e)
+        (members_without_references ms)))
         (member l (member_without_references k d) (members_without_references ms))
-        (member l (member_without_references l e) (put k (member_without_references k d) (members_without_references ms)))
+        (member l (member_without_references l e) (put k (member_without_references k d)
+        (members_without_references ms)))
     there Less h rest = refl
     there Equal h rest = ap (λ (n : List ℕ). member l (member_without_references n d) (members_without_references ms))
         (sym (same_name k l h))
@@ -76,7 +78,8 @@ references_next values i v h is =
     ∙ (references_of (map view (take i values ++ v ∷ []))
     ∙ (ap (map reference_in) (map-append view (take i values) (v ∷ []))
     ∙ (map-append reference_in (map view (take i values)) (view v ∷ [])
-    ∙ ap (λ (rs : List (Option ℕ)). rs ++ reference_in (view v) ∷ []) (sym (references_of (map view (take i values)))))))
+    ∙ ap (λ (rs : List (Option ℕ)). rs ++ reference_in (view v) ∷ [])
+    (sym (references_of (map view (take i values)))))))
 
 -- The requests of a plan, one by one.
 

@@ -115,8 +115,10 @@ module _ {R W S : Type 0} (remaining : R → Option (List ℕ)) (contents : W �
         → StepLine serves handler (line_content raw (ended_of reader')) line_outcome desk'
         → OutcomeWritten contents is_open desk' writer writer' line_outcome ended ended'
         → ScriptProgress remaining contents serves old (session reader' writer' desk') held' (count + 1) ended'
-    progress_line reader' writer' desk' held' ended' raw line_outcome goes few k step v = let whole = s.whole goes in let c =
-        s.line_count in let line = line_bytes raw (ended_of reader') in record {
+    progress_line reader' writer' desk' held' ended' raw line_outcome goes few k step v =
+        let whole = s.whole goes in
+        let c = s.line_count in
+        let line = line_bytes raw (ended_of reader') in record {
           bytes = s.bytes ++ line;
           taken = Consumes-trans (unread_bytes remaining old.reader) (bytes_left remaining held reader)
               (bytes_left remaining held' reader') s.bytes line s.taken k.bytes;

@@ -80,7 +80,7 @@ Serves d old line (Reply (reply.Fault f)) new =
 Serves d old line (Plan reply) new =
     (is_plan_line (d.takes_plans old) line ≡ true) × ServesPlan d old (json_in line) (Ok reply) new
 Serves d old line (View text) new =
-    (query : Query) × IsQueryLine line query × d.shows old query (Ok (view.Line text)) new
+    (query : Query) × IsQueryLine line query × d.shows old query (Ok (view.Page text)) new
 
 -- The answer to the line of a command with this result.
 abbrev pub command_answer : Result Answer Fault → LineAnswer
@@ -89,7 +89,7 @@ command_answer (Err f) = Reply (reply.Fault f)
 
 -- The answer to the line of a query with this result.
 abbrev pub query_answer : Result QueryAnswer Fault → LineAnswer
-query_answer (Ok (view.Line text)) = View text
+query_answer (Ok (view.Page text)) = View text
 query_answer (Ok (view.No r)) = Reply (reply.Answer (answer.No r))
 query_answer (Err f) = Reply (reply.Fault f)
 

@@ -3,53 +3,25 @@ ghost use Rattle.std.specs.Prelude.{◌≡◌, true, Bool, IfOk};
 ghost use Rattle.thes_plans.specs.Plans.{HasEachAnswer};
 ghost use Rattle.thes_requests.specs.RequestBehaviour.{RequestBehaviour};
 
+use crate::page::Page;
 use crate::request::Query;
 use std::alloc::Global;
-use std::marker::Model;
 use thes_base::fault::{Fault, Refusal};
 use thes_base::request::{Answer, Command};
 use thes_plans::plan::{PlanOutcome, PlanRequest};
 
-/// A view as one line of JSON, with its line feed.
-#[derive(Drop)]
-pub struct ViewLine {
-    bytes: Vec<u8>,
-}
-
-impl Model for ViewLine {
-    ghost use Rattle.std.specs.Prelude.{List, ℕ};
-
-    ghost Value = { List ℕ };
-
-    ghost view = { λ line. line.bytes.items };
-}
-
-impl ViewLine {
-    /// Wraps the bytes of a line, which end with a line feed.
-    pub fn new(bytes: Vec<u8>) -> ViewLine
-        ensures { result ≡ bytes.items }
-    {
-        ViewLine { bytes }
-    }
-
-    /// Returns the bytes of the line, with its line feed.
-    pub fn as_bytes(&self) -> &[u8]
-        ensures { result.now ≡ self.now }
-    {
-        &self.bytes
-    }
-}
-
-/// The answer to a query: the line of a view, or the refusal of a number.
+/// The answer to a query for a view or a display: its text, or the refusal of a number.
 #[derive(Drop)]
 pub enum QueryAnswer {
-    Line(ViewLine),
+    Page(Page),
     No(Refusal),
 }
 
-/// A handler of requests: it performs commands and plans, and answers queries, over a state in memory
-/// or over shared storage.
+/// A handler of requests: it performs commands and plans, and answers queries, over a state in
+/// memory or over shared storage.
 pub trait RequestHandler {
+    // A trait, so that the proofs of scripts and connections see no office (DECISIONS.md, The
+    // office).
     // What each call does.
     ghost requests: { RequestBehaviour Self };
 

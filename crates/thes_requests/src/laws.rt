@@ -13,8 +13,8 @@ pub fn some_reading()
     ensures { SomeReading }
 {}
 
-/// No effect; states for the proof that a text has at most one meaning as a plan: its requests, or one
-/// fault.
+/// No effect; states for the proof that a text has at most one meaning as a plan: its requests, or
+/// one fault.
 #[tactic(auto, using(crate::proofs::PlanReadingLemmas::one_plan))]
 pub fn one_plan_reading()
     ensures { OnePlanReading }

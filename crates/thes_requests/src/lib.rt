@@ -1,4 +1,4 @@
-//! Requests and plans in JSON, the lines of JSON that answer them, and scripts of requests over a
+//! Reads requests and plans from JSON, writes the lines that answer them, and runs scripts over any
 //! request handler.
 #![tactic(auto)]
 
@@ -11,6 +11,7 @@ mod line_buffer;
 mod lines;
 mod members;
 mod numeral;
+pub mod page;
 pub mod plan;
 pub mod plan_reply;
 pub mod plan_serving;

@@ -50,7 +50,8 @@ impl ShortLine {
         self.push(Buffer::new().format(number));
     }
 
-    /// Appends the place of a request in decimal, at most twenty digits, to a line of at most 52 bytes.
+    /// Appends the place of a request in decimal, at most twenty digits, to a line of at most 52
+    /// bytes.
     pub fn push_place(&mut self, place: usize)
         requires { length self.old ≤ 52 }
         ensures text { self.new ≡ self.old ++ decimal place }

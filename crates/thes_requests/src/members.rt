@@ -43,7 +43,7 @@ fn is_form_stop(stop: ReadStop) -> bool
 }
 
 /// Returns both values, or the first stop. If the second stop is `BadShape` or `OutOfMemory`,
-/// returns that one.
+/// returns that one: shape comes before form (DECISIONS.md, Requests in JSON).
 pub fn both<A: Drop, B: Drop>(
     first: Result<A, ReadStop>,
     second: Result<B, ReadStop>,
@@ -99,7 +99,11 @@ pub fn number_at<S>(name: &str, value: &Value<'_>) -> Result<Number<S>, ReadStop
 }
 
 /// Reads the member `name` as a text of the form `F`, such as a tag or an IRI.
-pub fn text_at<F: Form>(alloc: Global, name: &str, value: &Value<'_>) -> Result<Formed<F>, ReadStop>
+pub fn read_text_member<F: Form>(
+    alloc: Global,
+    name: &str,
+    value: &Value<'_>,
+) -> Result<Formed<F>, ReadStop>
     requires { is_form_stop (ReadStop.Form F.FAULT) ≡ true }
     ensures { ReadsMember (text_member F.is_form F.FAULT F.LOWERED name.now)
         (view value.now) result }

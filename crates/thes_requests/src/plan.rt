@@ -16,16 +16,16 @@ use thes_base::fault::{FormFault, ReadStop};
 use thes_plans::plan::{PlanRequest, REQUEST_LIMIT};
 use thes_plans::references::first_bad_reference;
 
-/// The reason why a text isn't a plan. The first fault of this order counts: that of the whole text, then those of the
-/// requests in their order, and then those of references.
+/// The reason why a text isn't a plan. The first fault of this order counts: that of the whole
+/// text, then those of the requests in their order, and then those of references.
 #[derive(Clone, Copy, Debug, PartialEq, Eq)]
 pub enum PlanFault {
     /// The text isn't JSON (`NotJson`), or not an array of 1 to 128 values (`BadShape`).
     Whole(FormFault),
     /// The request at this place, from 1, has this form fault; a query has `BadShape`.
     Request(usize, FormFault),
-    /// The request at this place, from 1, has a reference to no earlier request, or to one that doesn't make what is
-    /// referred to.
+    /// The request at this place, from 1, has a reference to no earlier request, or to one that
+    /// doesn't make what is referred to.
     Reference(usize),
 }
 
@@ -95,7 +95,8 @@ fn reference_at(name: Option<&str>, value: &Value<'_>) -> Option<u32>
     reference_in(value.get(name?)?)
 }
 
-// Returns the reference, if it is one, of each posting that a split lists; nothing for other commands.
+// Returns the reference, if it is one, of each posting that a split lists; nothing for other
+// commands.
 fn listed_references(
     alloc: Global,
     verb: CommandKeyword,
@@ -112,7 +113,8 @@ fn listed_references(
 // Returns the reference, if it is one, of each item of the member `postings`, if that is an array.
 fn posting_references(alloc: Global, value: &Value<'_>) -> Result<Vec<Option<u32>>, AllocError>
     ensures { IfOk result (λ v. v.items
-        ≡ plan.array_references (option_and_then as_array (get (codes "postings") (view value.now)))) }
+        ≡ plan.array_references
+        (option_and_then as_array (get (codes "postings") (view value.now)))) }
 {
     match value.get("postings").and_then(Value::as_array) {
         Some(items) => references_in(alloc, items),

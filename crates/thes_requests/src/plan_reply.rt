@@ -7,10 +7,10 @@ ghost use Rattle.thes_requests.specs.PlanTexts.{answers_text, item_text, items_t
 
 use crate::answer::{Reply, reply_line};
 use crate::line::ShortLine;
+use crate::page::Page;
 use crate::plan::PlanFault;
 use std::alloc::{AllocError, Global};
 use std::io::Write;
-use std::marker::Model;
 use thes_base::fault::Refusal;
 use thes_base::pipe::{Budget, Pipe, Stop};
 use thes_base::request::Answer;
@@ -19,34 +19,11 @@ use thes_plans::plan::PlanOutcome;
 // The greatest length of the line of an answer.
 const ANSWER_LIMIT: usize = 72;
 
-/// The answers to the requests of a plan as one line of JSON, with its line feed.
-#[derive(Drop)]
-pub struct AnswersLine {
-    bytes: Vec<u8>,
-}
-
-impl Model for AnswersLine {
-    ghost use Rattle.std.specs.Prelude.{List, ℕ};
-
-    ghost Value = { List ℕ };
-
-    ghost view = { λ line. line.bytes.items };
-}
-
-impl AnswersLine {
-    /// Returns the bytes of the line, with its line feed.
-    pub fn as_bytes(&self) -> &[u8]
-        ensures { result.now ≡ self.now }
-    {
-        &self.bytes
-    }
-}
-
-/// The reply to a plan: the answers to all its requests, the refusal of one of them, or the reason why the text isn't a
-/// plan.
+/// The reply to a plan: the line of the answers to all its requests, the refusal of one of them, or
+/// the reason why the text isn't a plan.
 #[derive(Drop)]
 pub enum PlanReply {
-    Done(AnswersLine),
+    Done(Page),
     /// The place of the first request that is refused, from 1, and its refusal.
     Refused(usize, Refusal),
     Bad(PlanFault),
@@ -83,8 +60,8 @@ fn place_line(place: usize) -> ShortLine
     line
 }
 
-// Returns the line for the request at a place, with `before`, a name, a closing quote and brace, and
-// a line feed.
+// Returns the line for the request at a place, with `before`, a name, a closing quote and brace,
+// and a line feed.
 fn place_name_line(place: usize, before: &str, name: &str) -> ShortLine
     requires { length before.now + length name.now ≤ 42 }
     ensures { result ≡ place_text place ++ before.now ++ name.now ++ codes "\"}\n" }
@@ -96,7 +73,8 @@ fn place_name_line(place: usize, before: &str, name: &str) -> ShortLine
     line
 }
 
-// Returns the line for the request at a place that is refused since the IRI is that of this outside concept.
+// Returns the line for the request at a place that is refused since the IRI is that of this outside
+// concept.
 fn outside_known_line(place: usize, number: u32) -> ShortLine
     ensures { result ≡ plan_refusal_text place (Refusal.OutsideKnown number) }
 {
@@ -178,7 +156,7 @@ fn append_answers(line: &mut Vec<u8>, answers: &[Answer])
 }
 
 // Returns the line of these answers, for which the capacity suffices.
-fn answers_line(room: Vec<u8>, answers: &[Answer]) -> AnswersLine
+fn answers_line(room: Vec<u8>, answers: &[Answer]) -> Page
     requires empty { room.items ≡ [] }
     requires room { 72 * length answers.now + 12 ≤ vec_capacity room }
     ensures { result ≡ answers_text answers.now }
@@ -187,7 +165,7 @@ fn answers_line(room: Vec<u8>, answers: &[Answer]) -> AnswersLine
     append(&mut bytes, b"{\"done\":[");
     append_answers(&mut bytes, answers);
     append(&mut bytes, b"]}\n");
-    AnswersLine { bytes }
+    Page::new(bytes)
 }
 
 /// Reserves memory for the line of the answers to `count` requests.

@@ -13,8 +13,8 @@ use std::alloc::Global;
 use thes_base::fault::Fault;
 use thes_plans::plan::PlanRequest;
 
-/// Performs a plan, and returns its reply. Memory for the line of the reply is reserved before, so that it can't run
-/// out after the plan is performed.
+/// Performs a plan, and returns its reply. Memory for the line of the reply is reserved before, so
+/// that it can't run out after the plan is performed.
 pub fn perform_plan<D: RequestHandler>(
     alloc: Global,
     handler: &mut D,
@@ -49,7 +49,8 @@ pub fn perform_read_plan<D: RequestHandler>(
     }
 }
 
-/// Reads a plan from the bytes of a text, performs it, and returns the reply. A text that isn't a plan has no effect.
+/// Reads a plan from the bytes of a text, performs it, and returns the reply. A text that isn't a
+/// plan has no effect.
 pub fn serve_plan<D: RequestHandler>(
     memory: &mut RequestScratch,
     handler: &mut D,

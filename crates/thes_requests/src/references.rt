@@ -101,7 +101,8 @@ fn items_without_references<'a>(
     Ok(found)
 }
 
-// Returns an array with 1 in place of each reference among its items, and any other value unchanged.
+// Returns an array with 1 in place of each reference among its items, and any other value
+// unchanged.
 fn list_without_references<'a>(alloc: Global, value: Value<'a>) -> Result<Value<'a>, AllocError>
     ensures { IfOk result (λ v. view v ≡ plan.list_without_references (view value.entry)) }
 {

@@ -9,7 +9,7 @@ ghost use Rattle.thes_requests.specs.Tree.{view};
 use crate::keywords::{CommandKeyword, QueryKeyword};
 use crate::members::{
     BAD_SHAPE, both, command_keyword_at, exactly, label_value_at, link_kind_at, number_at,
-    postings_at, query_keyword_at, text_at, truth_at,
+    postings_at, query_keyword_at, read_text_member, truth_at,
 };
 use crate::tree::{NOT_JSON, Value};
 use json::Scratch;
@@ -36,6 +36,14 @@ pub enum Display {
     Hierarchical,
 }
 
+/// A request for a display: its kind, the number of a scheme, and a language.
+#[derive(Clone, Copy)]
+pub struct DisplayRequest<'a> {
+    pub kind: Display,
+    pub scheme: ResNo,
+    pub tag: &'a Tag,
+}
+
 /// A request: a command (`do`) or a query (`get`).
 #[derive(Drop)]
 pub enum Request {
@@ -47,7 +55,10 @@ pub enum Request {
 fn tag_and_text(alloc: Global, value: &Value<'_>) -> Result<(Tag, Text), ReadStop>
     ensures { ReadsMember (pair_of a_tag a_text) (view value.now) result }
 {
-    both(text_at(alloc, "tag", value), text_at(alloc, "text", value))
+    both(
+        read_text_member(alloc, "tag", value),
+        read_text_member(alloc, "text", value),
+    )
 }
 
 // Reads the member `name` as a resource's number, and the members `tag` and `text`.
@@ -93,7 +104,7 @@ fn collection_in(alloc: Global, value: &Value<'_>) -> Result<Command, ReadStop>
 fn outside_in(alloc: Global, value: &Value<'_>) -> Result<Command, ReadStop>
     ensures { Gives (command_in CommandKeyword.Outside (view value.now)) result }
 {
-    let iri = exactly(2, value, text_at(alloc, "iri", value))?;
+    let iri = exactly(2, value, read_text_member(alloc, "iri", value))?;
     Ok(Command::Outside(iri))
 }
 
@@ -101,7 +112,10 @@ fn outside_in(alloc: Global, value: &Value<'_>) -> Result<Command, ReadStop>
 fn label_in(alloc: Global, value: &Value<'_>) -> Result<(ResNo, Label), ReadStop>
     ensures { Gives (label_line (view value.now)) result }
 {
-    let label = both(text_at(alloc, "tag", value), label_value_at(alloc, value));
+    let label = both(
+        read_text_member(alloc, "tag", value),
+        label_value_at(alloc, value),
+    );
     let (owner, (tag, value)) = exactly(5, value, both(number_at("owner", value), label))?;
     Ok((owner, Label { tag, value }))
 }
@@ -199,8 +213,15 @@ fn split_in(alloc: Global, value: &Value<'_>) -> Result<Command, ReadStop>
 fn post_in(alloc: Global, value: &Value<'_>) -> Result<Command, ReadStop>
     ensures { Gives (command_in CommandKeyword.Post (view value.now)) result }
 {
-    let place = both(text_at(alloc, "record", value), number_at("concept", value));
-    let (key, (rec, concept)) = exactly(4, value, both(text_at(alloc, "key", value), place))?;
+    let place = both(
+        read_text_member(alloc, "record", value),
+        number_at("concept", value),
+    );
+    let (key, (rec, concept)) = exactly(
+        4,
+        value,
+        both(read_text_member(alloc, "key", value), place),
+    )?;
     Ok(Command::Post(key, rec, concept))
 }
 
@@ -324,10 +345,12 @@ fn get_in(noun: Option<QueryKeyword>, value: &Value<'_>) -> Result<Request, Read
 pub fn request_in(alloc: Global, value: &Value<'_>) -> Result<Request, ReadStop>
     ensures { Gives (request_in (view value.now)) result }
 {
-    match (value.get("do"), value.get("get")) {
-        (Some(word), _) => do_in(alloc, command_keyword_at(word), value),
-        (None, Some(word)) => get_in(query_keyword_at(word), value),
-        (None, None) => Err(BAD_SHAPE),
+    if let Some(word) = value.get("do") {
+        return do_in(alloc, command_keyword_at(word), value);
+    }
+    match value.get("get") {
+        Some(word) => get_in(query_keyword_at(word), value),
+        None => Err(BAD_SHAPE),
     }
 }
 

@@ -120,8 +120,10 @@ pub fn script<R: Read, W: Write, D: RequestHandler>(
         if found == LineSearch::End {
             return Ok(ended);
         }
-        // The former answer is freed once this one is made: at the end of the heap it would cost more.
+        // The former answer is freed once this one is made: at the end of the heap it would cost
+        // more.
         outcome = serve_line(&mut memory, handler, &lines.line, found);
+        // Before the next line is served, whose client may wait for it (DECISIONS.md, Scripts).
         write_outcome(writer, &mut budget, handler, &outcome, &mut ended)?;
     }
     Ok(ended)

@@ -9,8 +9,9 @@ ghost use Rattle.thes_requests.specs.Requests.{json_in};
 ghost use Rattle.thes_requests.specs.Tree.{view};
 
 use crate::answer::{Reply, reply_line};
-use crate::handler::{QueryAnswer, RequestHandler, ViewLine};
+use crate::handler::{QueryAnswer, RequestHandler};
 use crate::line_buffer::LineSearch;
+use crate::page::Page;
 use crate::plan::plan_in;
 use crate::plan_reply::PlanReply;
 use crate::plan_serving::perform_read_plan;
@@ -26,7 +27,7 @@ use thes_base::request::Answer;
 #[derive(Drop)]
 pub enum LineAnswer {
     Reply(Reply),
-    View(ViewLine),
+    View(Page),
     Plan(PlanReply),
 }
 
@@ -46,7 +47,7 @@ impl LineAnswer {
         ensures { result ≡ query_answer given }
     {
         match given {
-            Ok(QueryAnswer::Line(line)) => LineAnswer::View(line),
+            Ok(QueryAnswer::Page(page)) => LineAnswer::View(page),
             Ok(QueryAnswer::No(refusal)) => LineAnswer::Reply(Reply::Answer(Answer::No(refusal))),
             Err(fault) => LineAnswer::Reply(Reply::Fault(fault)),
         }
@@ -82,8 +83,8 @@ pub enum LineOutcome {
 }
 
 impl LineOutcome {
-    /// Writes the answer, if there is one, with one call to the pipe; allocates nothing. A line that
-    /// isn't held is answered with `OutOfMemory`.
+    /// Writes the answer, if there is one, with one call to the pipe; allocates nothing. A line
+    /// that isn't held is answered with `OutOfMemory`.
     pub fn write<W: Write>(&self, writer: &mut Pipe<W>, budget: &mut Budget) -> Result<(), Stop>
         requires { failed_of writer.old ≡ false }
         ensures ok { OnOk result (Appends (written_bytes W.contents writer.old)
@@ -118,7 +119,8 @@ fn is_blank(line: &[u8]) -> bool
     line.iter().all(|byte| *byte == b' ' || *byte == b'\t')
 }
 
-// Reads the request in a JSON value, and performs its command or answers its query. A form fault has no effect.
+// Reads the request in a JSON value, and performs its command or answers its query. A form fault
+// has no effect.
 fn serve_request<D: RequestHandler>(alloc: Global, handler: &mut D, value: Value<'_>) -> LineAnswer
     requires { D.is_open handler.old ≡ true }
     ensures { (line : List ℕ) → json_in line ≡ Some (view value.entry)
@@ -149,7 +151,8 @@ fn serve_plan_line<D: RequestHandler>(
     LineAnswer::for_plan(perform_read_plan(alloc, handler, plan))
 }
 
-// Answers a line that isn't blank: a plan if it is an array and the handler takes plans, else a request.
+// Answers a line that isn't blank: a plan if it is an array and the handler takes plans, else a
+// request.
 fn answer_line<D: RequestHandler>(
     memory: &mut RequestScratch,
     handler: &mut D,

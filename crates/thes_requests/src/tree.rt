@@ -1,5 +1,5 @@
 //! The JSON of a line as a tree, which borrows each text from the line or, if the text has escapes,
-//! from the scratch memory.
+//! from the scratch memory; `serde_json`'s would allocate each (DECISIONS.md, Requests in JSON).
 ghost use Rattle.std.specs.Prelude.{◌≡◌, ◌<◌, ◌⊎◌, length, option_map, Some, None, IfOk, IfErr, OnOk};
 ghost use Rattle.json.specs.Json.{items, members, read_key, value};
 ghost use Rattle.serde_json.specs.Data.{no_members, put};

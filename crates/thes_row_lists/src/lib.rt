@@ -1,4 +1,4 @@
-//! Builds a core from lists of rows, in any order within each table.
+//! For the library: builds a core from lists of rows, in any order.
 #![tactic(auto)]
 
 pub mod laws;

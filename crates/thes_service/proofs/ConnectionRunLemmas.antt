@@ -11,9 +11,7 @@ use Rattle.thes_office.specs.TablesOfState.{TablesOfState}
 use Rattle.thes_requests.specs.declared.request.Query.{Query}
 use Rattle.thes_requests.specs.Requests.{json_in}
 use Rattle.thes_import.specs.Imports as importer
-use Rattle.thes_import.specs.declared.postings.ReportStop.{ReportStop}
-use Rattle.thes_import.specs.declared.postings.ReportEnd as performed
-use Rattle.thes_import.specs.declared.postings.ReportEnd.TheVariants as done
+use Rattle.thes_posting_files.specs.declared.report.Report.{Report}
 use Rattle.thes_http_request.specs.declared.endpoint.Endpoint.{Endpoint}
 use Rattle.thes_http_request.specs.declared.endpoint.Endpoint.TheVariants as endpoint
 use Rattle.thes_http_request.specs.declared.problem.Problem.{Problem}
@@ -40,11 +38,11 @@ module _ {K : Type 0} (view : K → StorageView) (takes : Bool) where
   Office = office_behaviour view takes
 
   import_reached : {T : Type 0} (old mid new : OfficeView K) (result : Result T Fault) (file : List ℕ)
-      (is : Result performed.ReportEnd ReportStop) → FaultBehaviour view mid new result
+      (is : Result (Option Report) (Fault × Report)) → FaultBehaviour view mid new result
       → importer.Imports view mid file is new → IsReached old mid → IsReached old new
-  import_reached old mid new result file (Ok (done.Rows report)) fault_behaviour x reached = let all = x.2 in
+  import_reached old mid new result file (Ok (Some report)) fault_behaviour x reached = let all = x.2 in
       led_run view old mid new result _ _ reached fault_behaviour (λ up. let ran = all.performs up in ran.goes_on)
-  import_reached old mid new result file (Ok done.Malformed) fault_behaviour x reached = led_kept view old
+  import_reached old mid new result file (Ok None) fault_behaviour x reached = led_kept view old
       mid new
       reached x.1
   import_reached old mid new result file (Err halted) fault_behaviour (inl x) reached = led_kept view old

@@ -1,5 +1,6 @@
 -- The machine as a service: each call has one answer and one state after it, unless memory or the storage fails.
-use Rattle.std.proofs.Common.{◌≡◌, ◌∙◌, ◌⊎◌, ◌++◌, ◌∷◌, [], ℕ, Bool, List, Option, Result, Ok, Err, inl, inr, refl, sym, ap}
+use Rattle.std.proofs.Common.{◌≡◌, ◌∙◌, ◌⊎◌, ◌++◌, ◌∷◌, [], ℕ, Bool, List, Option, Some, None, Result, Ok, Err, inl, inr}
+use Rattle.std.proofs.Common.{refl, sym, ap}
 use Rattle.thes_base.specs.declared.data.Resource.{Resource}
 use Rattle.thes_base.specs.declared.fault.Fault.{Fault}
 use Rattle.thes_base.specs.declared.fault.Fault.TheVariants.{OutOfMemory, Store}
@@ -26,20 +27,18 @@ use Rattle.thes_display.proofs.OneTextLemmas.{one_alphabetical, one_hierarchical
 use Rattle.thes_export.specs.Export.{IsExport}
 use Rattle.thes_export.proofs.ExportLemmas.{one_text}
 use Rattle.thes_import.specs.OneImport.{ReportSame}
-use Rattle.thes_import.specs.declared.postings.ReportEnd as performed
-use Rattle.thes_import.specs.declared.postings.ReportEnd.TheVariants as ends
+use Rattle.thes_posting_files.specs.declared.report.Report.{Report}
 use Rattle.thes_import.proofs.OneImportLemmas.{IsImportOf, one_import_of}
+use Rattle.thes_http.specs.declared.response.MediaType.TheVariants.{Json, Plain}
 use Rattle.thes_http.specs.declared.response.Response.{Response}
 use Rattle.thes_requests.specs.declared.request.Display.{Display}
 use Rattle.thes_requests.specs.declared.request.Display.TheVariants as which
-use Rattle.thes_http.specs.declared.service.DisplayAnswer.{DisplayAnswer}
-use Rattle.thes_http.specs.declared.service.DisplayAnswer.TheVariants as displayed
-use Rattle.thes_http.specs.declared.service.ImportAnswer.{ImportAnswer}
-use Rattle.thes_http.specs.declared.service.ImportAnswer.TheVariants as imported
+use Rattle.thes_requests.specs.declared.handler.QueryAnswer.{QueryAnswer}
+use Rattle.thes_requests.specs.declared.handler.QueryAnswer.TheVariants as answered
 use Rattle.thes_http.specs.Laws.{AnswerOneCall, command_answers, plan_answers, query_answers, import_answers, export_answers}
 use Rattle.thes_http.specs.Laws.{display_answers, no_call, HasOneAnswerToACall}
 use Rattle.thes_http.specs.Responses.{fault_response, command_response, plan_response, query_response, import_response}
-use Rattle.thes_http.specs.Responses.{export_response, display_response}
+use Rattle.thes_http.specs.Responses.{export_response}
 use Rattle.thes_http.specs.ServiceBehaviour.{ServiceBehaviour}
 use Rattle.thes_http.specs.Serving.{Answers}
 use Rattle.thes_http.proofs.AnswerLemmas.{one_call}
@@ -57,9 +56,9 @@ HoldsUnlessFailure P (Err fault) = IsFailure fault
 
 module _ (setting : Setting) where
   -- The answer reports an import of the file from the one state to the other.
-  abbrev pub ImportAnswers : State → List ℕ → ImportAnswer → State → Type 0
+  abbrev pub ImportAnswers : State → List ℕ → Option (List ℕ) → State → Type 0
   ImportAnswers s file answer t =
-      (done : performed.ReportEnd) × IsImportOf setting s file done t × (Ok answer ≡ import_answer (Ok done))
+      (done : Option Report) × IsImportOf setting s file done t × (Ok answer ≡ import_answer (Ok done))
 
   -- The machine as a service, which takes plans or doesn't; where it fails, nothing is said of the state after.
   abbrev pub machine_service : Bool → ServiceBehaviour State
@@ -97,22 +96,22 @@ one_scheme_refusal resources n no.WrongKind no.WrongKind a b = refl
 one_scheme_refusal resources n no.WrongKind _ a b = absurd b
 one_scheme_refusal resources n _ q a b = absurd a
 
-one_display_answer : (display : Display) (scheme : ℕ) (tag : List ℕ) (s : State) (a b : DisplayAnswer)
+one_display_answer : (display : Display) (scheme : ℕ) (tag : List ℕ) (s : State) (a b : QueryAnswer)
     → IsDisplayed display scheme tag s a → IsDisplayed display scheme tag s b → a ≡ b
-one_display_answer display scheme tag s (displayed.Lines x) (displayed.Lines y) a b =
-    ap displayed.Lines (one_display display scheme tag s x y a.1 b.1)
-one_display_answer display scheme tag s (displayed.Lines x) (displayed.No r) a b =
+one_display_answer display scheme tag s (answered.Page x) (answered.Page y) a b =
+    ap answered.Page (one_display display scheme tag s x y a.1 b.1)
+one_display_answer display scheme tag s (answered.Page x) (answered.No r) a b =
     absurd (scheme_is_not_refused s.resources scheme r a.0 b)
-one_display_answer display scheme tag s (displayed.No r) (displayed.Lines y) a b =
+one_display_answer display scheme tag s (answered.No r) (answered.Page y) a b =
     absurd (scheme_is_not_refused s.resources scheme r b.0 a)
-one_display_answer display scheme tag s (displayed.No r) (displayed.No q) a b =
-    ap displayed.No (one_scheme_refusal s.resources scheme r q a b)
+one_display_answer display scheme tag s (answered.No r) (answered.No q) a b =
+    ap answered.No (one_scheme_refusal s.resources scheme r q a b)
 
-same_import_answer : (a b : performed.ReportEnd) → ReportSame a b → import_answer (Ok a) ≡ import_answer (Ok b)
-same_import_answer (ends.Rows report) (ends.Rows other) same = ap (λ text. Ok (imported.Outcomes text)) same.0
-same_import_answer (ends.Rows report) ends.Malformed same = absurd same
-same_import_answer ends.Malformed (ends.Rows other) same = absurd same
-same_import_answer ends.Malformed ends.Malformed same = refl
+same_import_answer : (a b : Option Report) → ReportSame a b → import_answer (Ok a) ≡ import_answer (Ok b)
+same_import_answer (Some report) (Some other) same = ap (λ text. Ok (Some text)) same.0
+same_import_answer (Some report) None same = absurd same
+same_import_answer None (Some other) same = absurd same
+same_import_answer None None same = refl
 
 module _ (setting : Setting) (fit : IsSetting setting) (s : State) (legal : IsLegalState setting.base s) where
   pub one_step : (command : Command) (a b : Answer) (t u : State) → Step setting s command a t
@@ -124,7 +123,7 @@ module _ (setting : Setting) (fit : IsSetting setting) (s : State) (legal : IsLe
       let same : a ≡ b = cc in
       (same, one.1)
 
-  one_import : (file : List ℕ) (a b : ImportAnswer) (t u : State) → ImportAnswers setting s file a t
+  one_import : (file : List ℕ) (a b : Option (List ℕ)) (t u : State) → ImportAnswers setting s file a t
       → ImportAnswers setting s file b u → (a ≡ b) × (t ≡ u)
   one_import file a b t u x y =
       let one = one_import_of setting fit s t u legal file x.0 y.0 x.1 y.1 in
@@ -183,7 +182,7 @@ module _ (setting : Setting) (takes : Bool) (fit : IsSetting setting) (s : State
   same_call t u r q (plan_answers body a b x y e f) = same_results plan_response
       (λ c v. ServesPlan Machine.requests s (json_in body) c v) t u r q (λ g. refl) (plan_fails (json_in body))
       (λ c d. machine_has_one_answer.plans body c d t u) a b x y e f
-  same_call t u r q (query_answers query a b x y e f) = same_results query_response
+  same_call t u r q (query_answers query a b x y e f) = same_results (query_response Json)
       (λ c v. Machine.requests.shows s query c v) t u r q (λ g. refl) (λ g v z. z)
       (λ c d. machine_has_one_answer.shows query c d t u) a b x y e f
   same_call t u r q (import_answers file a b x y e f) = same_results import_response
@@ -192,7 +191,7 @@ module _ (setting : Setting) (takes : Bool) (fit : IsSetting setting) (s : State
   same_call t u r q (export_answers a b x y e f) = same_results export_response
       (λ c v. Machine.exports s c v) t u r q (λ g. refl) (λ g v z. z)
       (λ c d. machine_has_one_answer.exports c d t u) a b x y e f
-  same_call t u r q (display_answers display scheme tag a b x y e f) = same_results display_response
+  same_call t u r q (display_answers display scheme tag a b x y e f) = same_results (query_response Plain)
       (λ c v. Machine.displays s display scheme tag c v) t u r q (λ g. refl) (λ g v z. z)
       (λ c d. machine_has_one_answer.displays display scheme tag c d t u) a b x y e f
   same_call t u r q (no_call e x y) = inl (e, x ∙ sym y)

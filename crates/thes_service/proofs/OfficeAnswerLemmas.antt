@@ -1,6 +1,6 @@
 -- Proves that an office answers as the machine does in the state that its tables encode, so it has one answer.
 use Rattle.std.proofs.Common.{◌≡◌, ◌++◌, ◌∷◌, [], ℕ, Bool, List, Result, Ok, Err, inl, inr, refl, sym, ap, subst}
-use Rattle.std.proofs.Common.{arith}
+use Rattle.std.proofs.Common.{Option, arith}
 use Rattle.thes_base.specs.declared.data.Limits.{Limits}
 use Rattle.thes_base.specs.declared.fault.Fault.{Fault}
 use Rattle.thes_base.specs.declared.request.Answer.{Answer}
@@ -22,13 +22,10 @@ use Rattle.thes_office.proofs.StepLemmas.{setting_fits}
 use Rattle.thes_requests.specs.declared.handler.QueryAnswer.{QueryAnswer}
 use Rattle.thes_requests.specs.declared.request.Query.{Query}
 use Rattle.thes_import.specs.Imports as importer
-use Rattle.thes_import.specs.declared.postings.ReportStop.{ReportStop}
-use Rattle.thes_import.specs.declared.postings.ReportEnd as performed
+use Rattle.thes_posting_files.specs.declared.report.Report.{Report}
 use Rattle.thes_import.proofs.OneImportLemmas.{IsImportOf, import_from_state, run_from_state}
 use Rattle.thes_http.specs.declared.response.Response.{Response}
 use Rattle.thes_requests.specs.declared.request.Display.{Display}
-use Rattle.thes_http.specs.declared.service.DisplayAnswer.{DisplayAnswer}
-use Rattle.thes_http.specs.declared.service.ImportAnswer.{ImportAnswer}
 use Rattle.thes_http.specs.ServiceBehaviour.{ServiceBehaviour}
 use Rattle.thes_http.specs.Serving.{Answers}
 use Rattle.thes_http.specs.Server.{LeadsBy}
@@ -90,7 +87,7 @@ module _ {K : Type 0} (view : K → StorageView) (takes : Bool) where
         (view new.keeper).rows plan outcome x y (does.performed up)
     performs_plan plan (Err fault) does = let behaviour = does.fault_behaviour in behaviour.fault up
 
-    import_answers : (file : List ℕ) (answer : ImportAnswer) (done : Result performed.ReportEnd ReportStop)
+    import_answers : (file : List ℕ) (answer : Option (List ℕ)) (done : Result (Option Report) (Fault × Report))
         → importer.Imports view old file done new → Ok answer ≡ import_answer done
         → ImportAnswers (setting_of base old.limits) s file answer t
     import_answers file answer (Ok done) imports reports =
@@ -98,9 +95,9 @@ module _ {K : Type 0} (view : K → StorageView) (takes : Bool) where
         let one = state_is_unique (view new.keeper).rows base base from.0 t from.2 y in
         (done, subst (IsImportOf (setting_of base old.limits) s file done) one.1 from.1, reports)
     import_answers file answer (Err halted) imports reports =
-        absurd (let bad : Ok answer ≡ Err halted.fault = reports in cc)
+        absurd (let bad : Ok answer ≡ Err halted.0 = reports in cc)
 
-    imports : (file : List ℕ) (result : Result ImportAnswer Fault) → OfficeImports view old file result new
+    imports : (file : List ℕ) (result : Result (Option (List ℕ)) Fault) → OfficeImports view old file result new
         → Machine.imports s file result t
     imports file (Ok answer) does = import_answers file answer does.done does.imports does.reports
     imports file (Err fault) does = let behaviour = does.fault_behaviour in behaviour.fault up
@@ -110,7 +107,7 @@ module _ {K : Type 0} (view : K → StorageView) (takes : Bool) where
         let read = does.holds up base s (shows_same does.same) in (read.0, same_state does.same)
     exports (Err fault) does = let behaviour = does.fault_behaviour in behaviour.fault up
 
-    displays : (display : Display) (scheme : ℕ) (tag : List ℕ) (result : Result DisplayAnswer Fault)
+    displays : (display : Display) (scheme : ℕ) (tag : List ℕ) (result : Result QueryAnswer Fault)
         → OfficeDisplays view old display scheme tag result new → Machine.displays s display scheme tag result t
     displays display scheme tag (Ok answer) does =
         (does.holds up base s (shows_same does.same), same_state does.same)

@@ -182,8 +182,8 @@ module _ {K : Type 0} (view : K → StorageView) (takes : Bool) where
     line_effect (Reply (reply.Fault f)) p fine = absurd (fine tt)
     line_effect (View text) p fine =
         let does = does_as_machine view takes base s t old new up x y in
-        let shown = does.shows p.0 (Ok (viewed.Line text)) p.2 in
-        request_effect (Get p.0) (View text) p.1 (viewed.Line text, shown.0, shown.1, refl)
+        let shown = does.shows p.0 (Ok (viewed.Page text)) p.2 in
+        request_effect (Get p.0) (View text) p.1 (viewed.Page text, shown.0, shown.1, refl)
     line_effect (Plan own) p fine =
         let does = does_as_machine view takes base s t old new up x y in
         effect_of_kind true p.0 (Plan own) (

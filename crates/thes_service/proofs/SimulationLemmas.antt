@@ -22,8 +22,6 @@ use Rattle.thes_http_request.specs.Queries.{DisplayQuery, display_query_of}
 use Rattle.thes_http.specs.declared.response.Response.{Response}
 use Rattle.thes_requests.specs.declared.request.Display.{Display}
 use Rattle.thes_requests.specs.declared.request.Display.TheVariants as display
-use Rattle.thes_http.specs.declared.service.DisplayAnswer.{DisplayAnswer}
-use Rattle.thes_http.specs.declared.service.ImportAnswer.{ImportAnswer}
 use Rattle.thes_http.specs.ServiceBehaviour.{ServiceBehaviour}
 use Rattle.thes_http.specs.Serving.{Answers, AnswersHead, CommandEffect, DisplayEffect, DisplayQueryEffect, EndpointEffect}
 use Rattle.thes_http.specs.Serving.{NumberQueryEffect, QueryEffect, RespondsUnchanged, WithNumber}
@@ -38,10 +36,10 @@ pub record DoesAsMuch {S T : Type 0} (d : ServiceBehaviour S) (e : ServiceBehavi
   pub performs_plan : (plan : List PlanRequest) (result : Result PlanOutcome Fault)
       → d.requests.performs_plan old plan result new → e.requests.performs_plan s plan result t
   pub takes_plans : d.requests.takes_plans old ≡ e.requests.takes_plans s
-  pub imports : (file : List ℕ) (result : Result ImportAnswer Fault) → d.imports old file result new
+  pub imports : (file : List ℕ) (result : Result (Option (List ℕ)) Fault) → d.imports old file result new
       → e.imports s file result t
   pub exports : (result : Result (List ℕ) Fault) → d.exports old result new → e.exports s result t
-  pub displays : (which : Display) (scheme : ℕ) (tag : List ℕ) (result : Result DisplayAnswer Fault)
+  pub displays : (which : Display) (scheme : ℕ) (tag : List ℕ) (result : Result QueryAnswer Fault)
       → d.displays old which scheme tag result new → e.displays s which scheme tag result t
   pub keeps : new ≡ old → t ≡ s
 

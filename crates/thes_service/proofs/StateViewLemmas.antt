@@ -77,7 +77,7 @@ listed_at s concept old new none took =
 pub listing_viewed : (raw : Raw) (concept : ℕ) (old new : PostingLister) (answer : Option Refusal) (text : List ℕ)
     → answer ≡ None → AssignedPostingsResult ListsRow raw concept old (Ok answer) new → entries old.listing ≡ [] → text
     ≡ line_text (listing_data (entries new.listing))
-    → InStateOfTables raw (λ s. IsQueryAnswer s (asked.Postings concept) (Ok (viewed.Line text)))
+    → InStateOfTables raw (λ s. IsQueryAnswer s (asked.Postings concept) (Ok (viewed.Page text)))
 listing_viewed raw concept old new answer text none lists empty is base s x =
     let so = subst (λ (o : Option Refusal). AssignedPostingsResult ListsRow raw concept old (Ok o) new) none lists base
     s x in (

@@ -1,5 +1,5 @@
 -- The effect of posting files on an office, and the exports and displays of the state that its tables encode.
-use Rattle.std.specs.Prelude.{◌≡◌, ℕ, Bool, List, Result, Ok, Err, IfOk}
+use Rattle.std.specs.Prelude.{◌≡◌, ℕ, Bool, List, Option, Some, None, Result, Ok, Err, IfOk}
 use Rattle.thes_base.specs.declared.fault.Fault.{Fault}
 use Rattle.thes_base.specs.Resources.{IsScheme}
 use Rattle.thes_base.specs.State.{State}
@@ -9,32 +9,28 @@ use Rattle.thes_export.specs.Export.{IsExport, IsReadAs}
 use Rattle.thes_office.specs.Office.{FaultBehaviour, OfficeView, SameTables}
 use Rattle.thes_office.specs.TablesOfState.{TablesOfState}
 use Rattle.thes_import.specs.Imports as importer
-use Rattle.thes_import.specs.declared.postings.ReportStop.{ReportStop}
-use Rattle.thes_import.specs.declared.postings.ReportEnd as performed
-use Rattle.thes_import.specs.declared.postings.ReportEnd.TheVariants as ends
+use Rattle.thes_posting_files.specs.declared.report.Report.{Report}
 use Rattle.thes_service.specs.OfficeRequests.{office_requests}
 use Rattle.thes_http.specs.ServiceBehaviour.{ServiceBehaviour}
 use Rattle.thes_requests.specs.declared.request.Display.{Display}
-use Rattle.thes_http.specs.declared.service.DisplayAnswer.{DisplayAnswer}
-use Rattle.thes_http.specs.declared.service.DisplayAnswer.TheVariants as displayed
-use Rattle.thes_http.specs.declared.service.ImportAnswer.{ImportAnswer}
-use Rattle.thes_http.specs.declared.service.ImportAnswer.TheVariants as imported
+use Rattle.thes_requests.specs.declared.handler.QueryAnswer.{QueryAnswer}
+use Rattle.thes_requests.specs.declared.handler.QueryAnswer.TheVariants as answered
 
 -- The export of a state: an N-Triples document whose only reading is the state's triples.
 abbrev pub IsExportRead : List ℕ → State → List ℕ → Type 0
 IsExportRead base s text = IsExport base s text × IsReadAs base s text
 
 -- The answer to a request for a display: its text, or the refusal of a number that isn't a scheme's.
-abbrev pub IsDisplayed : Display → ℕ → List ℕ → State → DisplayAnswer → Type 0
-IsDisplayed display scheme tag s (displayed.Lines page) =
+abbrev pub IsDisplayed : Display → ℕ → List ℕ → State → QueryAnswer → Type 0
+IsDisplayed display scheme tag s (answered.Page page) =
     IsScheme s.resources scheme × IsDisplay display scheme tag s page
-IsDisplayed display scheme tag s (displayed.No refusal) = IsSchemeRefusal s.resources scheme refusal
+IsDisplayed display scheme tag s (answered.No refusal) = IsSchemeRefusal s.resources scheme refusal
 
--- The answer to an import: the lines of all outcomes, the form fault of a malformed file, or the fault that halted it.
-abbrev pub import_answer : Result performed.ReportEnd ReportStop → Result ImportAnswer Fault
-import_answer (Ok (ends.Rows report)) = Ok (imported.Outcomes report.text.items)
-import_answer (Ok ends.Malformed) = Ok imported.Malformed
-import_answer (Err halted) = Err halted.fault
+-- The answer to an import: the lines of all outcomes, None for a malformed file, or the fault that halted it.
+abbrev pub import_answer : Result (Option Report) (Fault × Report) → Result (Option (List ℕ)) Fault
+import_answer (Ok (Some report)) = Ok (Some report.text.items)
+import_answer (Ok None) = Ok None
+import_answer (Err halted) = Err halted.0
 
 module _ {K : Type 0} (view : K → StorageView) where
   -- The result has the property `IsSo` for the base and the state that the tables encode, and the tables are unchanged.
@@ -50,16 +46,16 @@ module _ {K : Type 0} (view : K → StorageView) where
   OfficeExports old result new = HoldsOfState IsExportRead old result new
 
   -- A display of the state that the tables encode, or the refusal of the scheme's number.
-  abbrev pub OfficeDisplays : OfficeView K → Display → ℕ → List ℕ → Result DisplayAnswer Fault → OfficeView K → Type 0
+  abbrev pub OfficeDisplays : OfficeView K → Display → ℕ → List ℕ → Result QueryAnswer Fault → OfficeView K → Type 0
   OfficeDisplays old display scheme tag result new =
       HoldsOfState (λ base. IsDisplayed display scheme tag) old result new
 
   -- The postings of the file were performed in order, by a run of the machine, and the answer has
   -- their outcomes. If a fault halted the run, the answer is that fault alone.
-  pub record OfficeImports (old : OfficeView K) (file : List ℕ) (result : Result ImportAnswer Fault)
+  pub record OfficeImports (old : OfficeView K) (file : List ℕ) (result : Result (Option (List ℕ)) Fault)
       (new : OfficeView K) : Type 0 where
     pub fault_behaviour : FaultBehaviour view old new result
-    pub done : Result performed.ReportEnd ReportStop
+    pub done : Result (Option Report) (Fault × Report)
     pub imports : importer.Imports view old file done new
     pub reports : result ≡ import_answer done
 

@@ -17,21 +17,19 @@ use std::marker::Model;
 use std::net::Net;
 use std::rt::Clock;
 use thes_base::fault::{Fault, PipeFault};
-use thes_base::number::ResNo;
 use thes_base::pipe::Pipe;
 use thes_base::request::{Answer, Command};
-use thes_base::text::Tag;
 use thes_export::gather::export_text;
 use thes_http::connection_count::ConnectionCount;
 use thes_http::server::serve;
-use thes_http::service::{DisplayAnswer, ImportAnswer, Page, Service};
-use thes_import::postings;
-use thes_import::postings::{ReportStop, import_postings};
+use thes_http::service::Service;
+use thes_import::postings::import_postings;
 use thes_import::report::Report;
 use thes_office::Office;
 use thes_plans::plan::{PlanOutcome, PlanRequest};
 use thes_requests::handler::{QueryAnswer, RequestHandler};
-use thes_requests::request::{Display, Query};
+use thes_requests::page::Page;
+use thes_requests::request::{DisplayRequest, Query};
 use thes_requests::script::{ScriptEnd, script};
 use thes_store::keeper::Keeper;
 
@@ -132,12 +130,12 @@ impl<K: Keeper, M: PlanMode> Service for OfficeHandler<K, M> {
       performs_plan = λ old plan result new does. does;
     } };
 
-    fn import(&mut self, alloc: Global, file: &[u8]) -> Result<ImportAnswer, Fault> {
+    fn import(&mut self, alloc: Global, file: &[u8]) -> Result<Option<Page>, Fault> {
         match import_postings(alloc, file, &mut self.office) {
-            Ok(postings::ReportEnd::Rows(report)) => Ok(ImportAnswer::Outcomes(page_of(report))),
-            Ok(postings::ReportEnd::Malformed) => Ok(ImportAnswer::Malformed),
+            Ok(Some(report)) => Ok(Some(page_of(report))),
+            Ok(None) => Ok(None),
             // An answer has one status (DECISIONS.md, HTTP).
-            Err(ReportStop { fault, report: _ }) => Err(fault),
+            Err((fault, _)) => Err(fault),
         }
     }
 
@@ -150,12 +148,10 @@ impl<K: Keeper, M: PlanMode> Service for OfficeHandler<K, M> {
     fn display(
         &mut self,
         alloc: Global,
-        display: Display,
-        scheme: ResNo,
-        tag: &Tag,
-    ) -> Result<DisplayAnswer, Fault> {
+        wanted: &DisplayRequest<'_>,
+    ) -> Result<QueryAnswer, Fault> {
         let core = self.office.ready()?;
-        Ok(display_of_core(core, alloc, display, scheme, tag)?)
+        Ok(display_of_core(core, alloc, wanted)?)
     }
 }
 

@@ -1,4 +1,4 @@
-//! Runs scripts and serves HTTP connections over an office.
+//! Joins an office to scripts and HTTP: its answers, imports, displays and exports.
 #![tactic(auto)]
 
 mod displaying;

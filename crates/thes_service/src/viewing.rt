@@ -1,4 +1,4 @@
-//! Views of the state that an office's tables encode.
+//! Answers queries over an office: asks its core or its storage, and writes the view.
 ghost use Rattle.std.specs.Prelude.{◌≡◌, false, Ok, IfOk};
 ghost use Rattle.thes_base.specs.State.{State};
 ghost use Rattle.thes_core.specs.CoreView.{IsViewOf};
@@ -14,7 +14,8 @@ use thes_exchange::concept::concept_view;
 use thes_exchange::query_answers::query_answer;
 use thes_exchange::view::View;
 use thes_office::Office;
-use thes_requests::handler::{QueryAnswer, ViewLine};
+use thes_requests::handler::QueryAnswer;
+use thes_requests::page::Page;
 use thes_requests::request::Query;
 use thes_store::keeper::Keeper;
 
@@ -65,7 +66,7 @@ pub(crate) fn view_postings<K: Keeper>(
 {
     let mut rows = PostingLister::new(alloc);
     match office.postings(concept, &mut rows) {
-        Ok(None) => Ok(QueryAnswer::Line(ViewLine::new(rows.into_line()?))),
+        Ok(None) => Ok(QueryAnswer::Page(Page::new(rows.into_line()?))),
         Ok(Some(refusal)) => Ok(QueryAnswer::No(refusal)),
         Err(fault) => Err(fault),
     }

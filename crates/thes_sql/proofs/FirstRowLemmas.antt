@@ -11,7 +11,7 @@ use Rattle.sqlite.specs.State.{State, Begins, Shown, IsUnchanged, IsStatement}
 use Rattle.sqlite.proofs.Callers.{EndsIn, begins_shown, command_of}
 use Rattle.thes_base.specs.declared.fault.Table.{Table}
 use Rattle.thes_tables.specs.Tables.{Tables}
-use Rattle.thes_sql.specs.Schema.{store_schema}
+use Rattle.thes_sql.specs.Additions.{IsStoreSchema}
 use Rattle.thes_sql.specs.StoredRows.{Keeps, values}
 use Rattle.thes_sql.specs.Reads.{read_text, assigned_text, assigned_numbers_text, cells_at_concept}
 use Rattle.thes_sql.specs.Reads.{number_cells_at_concept, rows_in_trees, IsReadable}
@@ -20,14 +20,14 @@ use Rattle.thes_sql.proofs.SelectLemmas.{numbers_at_concept, standing_numbers_is
 
 -- A query without recursion has an answer that begins with these rows.
 begun_shown : (text : List ℕ) (params : Row) (q : Query) → IsQueryText text q → (s : State) (rows : List Row)
-    → s.now.schema ≡ store_schema → IsUnchanged s s → Begins text params s rows
+    → IsStoreSchema s.now.schema → IsUnchanged s s → Begins text params s rows
     → (tail : List Row) × Shown text params s s (rows ++ tail)
 begun_shown text params q is s rows has same h = begins_shown text params s s rows h same (λ c db it from. ends c db it)
   where
     ends : (c : Compiled) (db : Database) (it : IsStatement s text params c)
         → EndsIn c.command db (timed params c.formats it.now)
     ends c db it = subst (λ k. EndsIn k db (timed params c.formats it.now))
-        (sym (ap command_of (sym it.is ∙ ap (λ schema. understood schema text) has) ∙ is.1)) tt
+        (sym (ap command_of (sym it.is ∙ ap (λ schema. understood schema text) has.is) ∙ (is has.added).1)) tt
 
 pub rows_begin_table : (p : Table) (s : State) (rows : List Row) → IsReadable s.now → IsUnchanged s s
     → Begins (read_text p) [] s rows → (tail : List Row) × (rows ++ tail ≡ rows_in_trees p s.now.trees)

@@ -14,13 +14,15 @@ use Rattle.thes_tables.specs.declared.rows.HierRow.{HierRow}
 use Rattle.thes_tables.specs.declared.rows.PostingRow.{PostingRow}
 use Rattle.thes_tables.specs.declared.rows.MoveRow.{MoveRow}
 use Rattle.thes_tables.specs.Tables.{Tables}
-use Rattle.thes_sql.specs.StoredRows.{Keeps, AreHidden, ArePostingsNumbered, HoldResources, HoldOutside, HoldPostings}
+use Rattle.thes_sql.specs.StoredRows.{Keeps, KeepsIn, AreHidden, ArePostingsNumbered, HoldResources, HoldOutside}
+use Rattle.thes_sql.specs.StoredRows.{HoldPostings}
 use Rattle.thes_sql.specs.StoredRows.{HoldMoves, label_values, link_values, hier_values, AreSpelled, IsSpelledOutside}
 use Rattle.thes_sql.specs.StoredRows.{IsSpelledLabel, IsSpelledPosting}
 use Rattle.thes_sql.specs.OldStore.{KeepsAs, stored_version}
 use Rattle.thes_sql.specs.Reads.{tree_of}
-use Rattle.thes_sql.specs.Schema.{store_schema}
-use Rattle.thes_sql.proofs.StatementLemmas.{Rewrites, LeavesOtherTables}
+use Rattle.thes_sql.specs.Additions.{IsStoreSchema}
+use Rattle.thes_sql.proofs.ForeignKeyLemmas.{LeavesOtherTables}
+use Rattle.thes_sql.proofs.StatementLemmas.{Rewrites}
 
 -- The tree has the rows of this table; the row of table meta has this version.
 abbrev pub HoldsAs : ℕ → Table → Tables → List Row → Type 0
@@ -33,24 +35,33 @@ HoldsAs version table.Hier t tree = AreHidden hier_values t.hier tree
 HoldsAs version table.Posting t tree = HoldPostings t.posting tree
 HoldsAs version table.Move t tree = HoldMoves t.move tree
 
--- A database in which each tree has its table's rows is a store with the tables.
-pub keeps_all : (version : ℕ) (db : Database) (t : Tables) → db.schema ≡ store_schema
-    → ((p : Table) → HoldsAs version p t (db.trees (tree_of p))) → ArePostingsNumbered 1 t.posting → AreSpelled t
-    → KeepsAs version db t
-keeps_all version db t has each numbered spelled = record {
-  schema = has;
-  hold = record {
-    meta = each table.Meta;
-    resource = each table.Resource;
-    outside = each table.Outside;
-    label = each table.Label;
-    link = each table.Link;
-    posting = each table.Posting;
-    numbered = numbered;
-    move = each table.Move;
-    spelled = spelled;
+-- A database has become a store with these tables, whose table meta has this version, and has the schema that it had
+-- before.
+pub record BecomesAs (version : ℕ) (old new : Database) (t : Tables) : Type 0 where
+  pub schema : new.schema ≡ old.schema
+  pub keeps : KeepsAs version new t
+
+-- A database in which each tree has its table's rows, and whose schema was that of a store, is a store with the tables.
+pub becomes_all : (version : ℕ) (old new : Database) (t : Tables) → new.schema ≡ old.schema → IsStoreSchema old.schema
+    → ((p : Table) → HoldsAs version p t (new.trees (tree_of p))) → ArePostingsNumbered 1 t.posting → AreSpelled t
+    → BecomesAs version old new t
+becomes_all version old new t same has each numbered spelled = record {
+  schema = same;
+  keeps = record {
+    schema = subst IsStoreSchema (sym same) has;
+    hold = record {
+      meta = each table.Meta;
+      resource = each table.Resource;
+      outside = each table.Outside;
+      label = each table.Label;
+      link = each table.Link;
+      posting = each table.Posting;
+      numbered = numbered;
+      move = each table.Move;
+      spelled = spelled;
+    };
+    hier = each table.Hier;
   };
-  hier = each table.Hier;
 }
 
 -- A store of version 2 is one with version 2 in table meta.
@@ -59,6 +70,9 @@ keeps_current db t k = search rules
 
 pub keeps_as_current : (db : Database) (t : Tables) → Keeps db t → KeepsAs 2 db t
 keeps_as_current db t k = search rules
+
+pub becomes_current : (old new : Database) (t : Tables) → BecomesAs 2 old new t → KeepsIn old.schema new t
+becomes_current old new t b = record { schema_is = b.schema; keeps = keeps_current new t b.keeps }
 
 pub untouched_tree : (tree : ℕ) (old new : Trees) → LeavesOtherTables tree old new → (p : Table) → tree_of p ≢ tree
     → new (tree_of p) ≡ old (tree_of p)
@@ -90,44 +104,44 @@ module _ (version : ℕ) (old new : State) (t : Tables) (kept : KeepsAs version 
       subst (HoldsAs version p t) (sym (untouched_tree tree old.now.trees new.now.trees w.others p apart))
       (holds_tree p)
 
-  pub keeps_resource : (rows : List Resource) → Rewrites 1 (HoldResources rows) old new
-      → KeepsAs version new.now (record t { resource = rows })
-  keeps_resource rows w = keeps_all version new.now (record t { resource = rows }) w.schema
+  pub becomes_resource : (rows : List Resource) → Rewrites 1 (HoldResources rows) old new
+      → BecomesAs version old.now new.now (record t { resource = rows })
+  becomes_resource rows w = becomes_all version old.now new.now (record t { resource = rows }) w.schema kept.schema
       (elim [ table.Resource ↦ w.rows | p ↦ other_table_held w p (λ e. omega (arith, e)) ]) kept.hold.numbered
       kept.hold.spelled
 
-  pub keeps_outside : (rows : List (ℕ × List ℕ)) → Rewrites 2 (HoldOutside rows) old new
-      → AllByRecursion IsSpelledOutside rows → KeepsAs version new.now (record t { outside = rows })
-  keeps_outside rows w told = keeps_all version new.now (record t { outside = rows }) w.schema
+  pub becomes_outside : (rows : List (ℕ × List ℕ)) → Rewrites 2 (HoldOutside rows) old new
+      → AllByRecursion IsSpelledOutside rows → BecomesAs version old.now new.now (record t { outside = rows })
+  becomes_outside rows w told = becomes_all version old.now new.now (record t { outside = rows }) w.schema kept.schema
       (elim [ table.Outside ↦ w.rows | p ↦ other_table_held w p (λ e. omega (arith, e)) ]) kept.hold.numbered
       (kept.hold.spelled.0, (told, kept.hold.spelled.1.1))
 
-  pub keeps_label : (rows : List Label) → Rewrites 4 (AreHidden label_values rows) old new
-      → AllByRecursion IsSpelledLabel rows → KeepsAs version new.now (record t { label = rows })
-  keeps_label rows w told = keeps_all version new.now (record t { label = rows }) w.schema
+  pub becomes_label : (rows : List Label) → Rewrites 4 (AreHidden label_values rows) old new
+      → AllByRecursion IsSpelledLabel rows → BecomesAs version old.now new.now (record t { label = rows })
+  becomes_label rows w told = becomes_all version old.now new.now (record t { label = rows }) w.schema kept.schema
       (elim [ table.Label ↦ w.rows | p ↦ other_table_held w p (λ e. omega (arith, e)) ]) kept.hold.numbered
       (kept.hold.spelled.0, (kept.hold.spelled.1.0, (told, kept.hold.spelled.1.1.1)))
 
-  pub keeps_link : (rows : List Link) → Rewrites 6 (AreHidden link_values rows) old new
-      → KeepsAs version new.now (record t { link = rows })
-  keeps_link rows w = keeps_all version new.now (record t { link = rows }) w.schema
+  pub becomes_link : (rows : List Link) → Rewrites 6 (AreHidden link_values rows) old new
+      → BecomesAs version old.now new.now (record t { link = rows })
+  becomes_link rows w = becomes_all version old.now new.now (record t { link = rows }) w.schema kept.schema
       (elim [ table.Link ↦ w.rows | p ↦ other_table_held w p (λ e. omega (arith, e)) ]) kept.hold.numbered
       kept.hold.spelled
 
-  pub keeps_hier : (rows : List HierRow) → Rewrites 11 (AreHidden hier_values rows) old new
-      → KeepsAs version new.now (record t { hier = rows })
-  keeps_hier rows w = keeps_all version new.now (record t { hier = rows }) w.schema
+  pub becomes_hier : (rows : List HierRow) → Rewrites 11 (AreHidden hier_values rows) old new
+      → BecomesAs version old.now new.now (record t { hier = rows })
+  becomes_hier rows w = becomes_all version old.now new.now (record t { hier = rows }) w.schema kept.schema
       (elim [ table.Hier ↦ w.rows | p ↦ other_table_held w p (λ e. omega (arith, e)) ]) kept.hold.numbered
       kept.hold.spelled
 
-  pub keeps_posting : (rows : List PostingRow) → Rewrites 8 (HoldPostings rows) old new → ArePostingsNumbered 1 rows
-      → AllByRecursion IsSpelledPosting rows → KeepsAs version new.now (record t { posting = rows })
-  keeps_posting rows w num told = keeps_all version new.now (record t { posting = rows }) w.schema
+  pub becomes_posting : (rows : List PostingRow) → Rewrites 8 (HoldPostings rows) old new → ArePostingsNumbered 1 rows
+      → AllByRecursion IsSpelledPosting rows → BecomesAs version old.now new.now (record t { posting = rows })
+  becomes_posting rows w num told = becomes_all version old.now new.now (record t { posting = rows }) w.schema kept.schema
       (elim [ table.Posting ↦ w.rows | p ↦ other_table_held w p (λ e. omega (arith, e)) ]) num
       (kept.hold.spelled.0, (kept.hold.spelled.1.0, (kept.hold.spelled.1.1.0, told)))
 
-  pub keeps_move : (rows : List MoveRow) → Rewrites 10 (HoldMoves rows) old new
-      → KeepsAs version new.now (record t { move = rows })
-  keeps_move rows w = keeps_all version new.now (record t { move = rows }) w.schema
+  pub becomes_move : (rows : List MoveRow) → Rewrites 10 (HoldMoves rows) old new
+      → BecomesAs version old.now new.now (record t { move = rows })
+  becomes_move rows w = becomes_all version old.now new.now (record t { move = rows }) w.schema kept.schema
       (elim [ table.Move ↦ w.rows | p ↦ other_table_held w p (λ e. omega (arith, e)) ]) kept.hold.numbered
       kept.hold.spelled

@@ -43,19 +43,21 @@ use Rattle.thes_sql.specs.TransactionEffects.{AppliesChange}
 use Rattle.thes_tables.specs.Cells.{optional_cell, hier_type_no, resource_cells, outside_cells, posting_cells}
 use Rattle.thes_tables.specs.Cells.{move_cells}
 use Rattle.thes_sql.specs.Schema.{resource_table, outside_table, label_table, link_table, hier_table, posting_table}
-use Rattle.thes_sql.specs.Schema.{move_table, store_schema}
+use Rattle.thes_sql.specs.Schema.{move_table}
+use Rattle.thes_sql.specs.Additions.{IsStoreSchema, schema_with, store_tables}
 use Rattle.thes_sql.specs.OldStore.{KeepsAs}
 use Rattle.thes_sql.specs.StoredRows.{AreIncreasingAbove, AreKeyed, AreHidden, ArePostingsNumbered, hidden_row, values}
 use Rattle.thes_sql.specs.StoredRows.{numbered_from, stored_resource, stored_outside, stored_posting, stored_move}
 use Rattle.thes_sql.specs.StoredRows.{label_values, link_values, hier_values, value_of, IsSpelledOutside}
 use Rattle.thes_sql.specs.StoredRows.{IsSpelledLabel, IsSpelledPosting}
 use Rattle.thes_sql.proofs.StatementTextLemmas.{IsCommandText, statement_text, statement_is}
-use Rattle.thes_sql.proofs.WriteEffectLemmas.{IsQuietTable, insert_effect, cast_int, cast_null}
+use Rattle.thes_sql.proofs.WriteEffectLemmas.{insert_effect, cast_int, cast_null}
 use Rattle.thes_sql.proofs.KeyedRowLemmas.{keyed_push}
 use Rattle.sqlite_trees.proofs.ListLemmas.{all-append}
 use Rattle.thes_sql.proofs.StatementLemmas.{Rewrites, rewrites_as}
-use Rattle.thes_sql.proofs.HeldTableLemmas.{keeps_resource, keeps_outside, keeps_label, keeps_link, keeps_hier}
-use Rattle.thes_sql.proofs.HeldTableLemmas.{keeps_posting, keeps_move, keeps_current, keeps_as_current}
+use Rattle.thes_sql.proofs.ForeignKeyLemmas.{get_first, writes_alone}
+use Rattle.thes_sql.proofs.HeldTableLemmas.{BecomesAs, becomes_resource, becomes_outside, becomes_label, becomes_link}
+use Rattle.thes_sql.proofs.HeldTableLemmas.{becomes_hier, becomes_posting, becomes_move, becomes_current, keeps_as_current}
 
 -- The statement makes the change, inside a transaction.
 abbrev pub Makes : Row → Change → Type 1
@@ -65,11 +67,11 @@ Makes params c = (old new : State) (r : Result ℕ Error) → ExecutesInside 0 (
 -- A statement makes the change if it does so in each store with tables that the change fits.
 pub makes_change : (params : Row) (c : Change) → ((old new : State) (t : Tables) (count : ℕ) → KeepsAs 2 old.now t
     → ChangeFits c t → Executes (statement_text c) params old new (Ok count)
-    → KeepsAs 2 new.now (tables_after_change c t)) → Makes params c
+    → BecomesAs 2 old.now new.now (tables_after_change c t)) → Makes params c
 makes_change params c makes old new (Err e) h = tt
 makes_change params c makes old new (Ok count) h = record {
   rows = λ t kept fits.
-      keeps_current new.now _ (makes old new t count (keeps_as_current old.now t kept) fits h.0);
+      becomes_current old.now new.now _ (makes old new t count (keeps_as_current old.now t kept) fits h.0);
   inside = h.1.mode;
   is_open = h.1.is_open;
 }
@@ -77,40 +79,42 @@ makes_change params c makes old new (Ok count) h = record {
 -- An INSERT of one row puts the row into the tree, under a new rowid if it has none.
 pub inserts_row : (at : ℕ) (table : Table) (sql : List ℕ) (terms : List Term) (width : ℕ) (params source : Row)
     (new : List Row → Row)
-    → slice_get store_schema.tables at ≡ Some table → table.is_counted ≡ false → IsQuietTable store_schema table
+    → slice_get store_tables at ≡ Some table → table.is_counted ≡ false
     → IsCommandText sql (Insert at (Values terms width))
     → value_rows (stamped table params) width (length terms / width) terms ≡ source ∷ []
     → ((rows : List Row) → with_rowid Chosen rows (cast_row table source) ≡ new rows)
-    → (old next : State) (count : ℕ) → old.now.schema ≡ store_schema → Executes sql params old next (Ok count)
+    → (old next : State) (count : ℕ) → IsStoreSchema old.now.schema → Executes sql params old next (Ok count)
     → Rewrites table.tree (λ tree. tree ≡ put_row (new (old.now.trees table.tree)) (old.now.trees table.tree)) old next
-inserts_row at table sql terms width params source new is_at uncounted quiet is given numbers old next count has h =
+inserts_row at table sql terms width params source new is_at uncounted is given numbers old next count has h =
     let db = old.now.trees in
-    let w = runs_as sql params old next store_schema has (Insert at (Values terms width)) is.0 is.1 count h in
-    let it = insert_effect store_schema at table params (statement_of sql (understood store_schema sql)) old next
-    count has
-    is_at quiet (Values terms width) uncounted w in
+    let schema = schema_with has.added in
+    let means = is has.added in
+    let w = runs_as sql params old next schema has.is (Insert at (Values terms width)) means.0 means.1 count h in
+    let it = insert_effect schema at table params (statement_of sql (understood schema sql)) old next count has.is
+    (get_first store_tables has.added.tables at table is_at) (writes_alone has.added has.apart at table is_at)
+    (Values terms width) uncounted w in
     record {
-      schema = it.2;
+      schema = it.2 ∙ sym has.is;
       rows = it.3.rows ∙ ap (λ all. edited db (edit_of db table [] Chosen 0 all)) (it.1.1 ∙ given)
           ∙ ap (λ row. put_row row (db table.tree)) (numbers (db table.tree));
-      others = it.3.tables;
+      others = it.3.others;
     }
 
 -- An INSERT of a row with a greater number than all others appends the row.
 pub adds_keyed : {X : Type 0} (num : X → ℕ) (stored : X → Row) → ((x : X) → rowid (stored x) ≡ Int (pos (num x)))
     → (at : ℕ) (table : Table) (sql : List ℕ) (terms : List Term) (width : ℕ) (params : Row) (x : X)
-    → slice_get store_schema.tables at ≡ Some table → table.is_counted ≡ false → IsQuietTable store_schema table
+    → slice_get store_tables at ≡ Some table → table.is_counted ≡ false
     → IsCommandText sql (Insert at (Values terms width))
     → value_rows (stamped table params) width (length terms / width) terms ≡ stored x ∷ []
     → ((rows : List Row) → with_rowid Chosen rows (cast_row table (stored x)) ≡ stored x)
-    → (old new : State) (xs : List X) (count : ℕ) → old.now.schema ≡ store_schema
+    → (old new : State) (xs : List X) (count : ℕ) → IsStoreSchema old.now.schema
     → AreKeyed stored num xs (old.now.trees table.tree) → 0 < num x → ((y : X) → Has xs y → num y < num x)
     → Executes sql params old new (Ok count) → Rewrites table.tree (AreKeyed stored num (xs ++ x ∷ [])) old new
-adds_keyed num stored is_num at table sql terms width params x is_at uncounted quiet is given casts old new xs count
+adds_keyed num stored is_num at table sql terms width params x is_at uncounted is given casts old new xs count
     has held least below h =
     rewrites_as table.tree old new (λ e. subst (AreKeyed stored num (xs ++ x ∷ [])) (sym e)
     (keyed_push num stored is_num x xs (old.now.trees table.tree) held least below))
-    (inserts_row at table sql terms width params (stored x) (λ rows. stored x) is_at uncounted quiet is given casts
+    (inserts_row at table sql terms width params (stored x) (λ rows. stored x) is_at uncounted is given casts
     old new
     count has h)
 
@@ -160,19 +164,18 @@ module _ {A : Type 0} (of : A → List Value) where
 
   -- An INSERT of a row without a number appends the row under the next rowid.
   pub adds_hidden : (at : ℕ) (table : Table) (sql : List ℕ) (terms : List Term) (width : ℕ) (x : A)
-      → slice_get store_schema.tables at ≡ Some table → table.is_counted ≡ false → IsQuietTable store_schema table
+      → slice_get store_tables at ≡ Some table → table.is_counted ≡ false
       → IsCommandText sql (Insert at (Values terms width))
       → value_rows (stamped table (of x)) width (length terms / width) terms ≡ (Null ∷ of x) ∷ []
       → ((rows : List Row) → with_rowid Chosen rows (cast_row table (Null ∷ of x)) ≡ Int (next_rowid rows) ∷ of x)
-      → (old new : State) (xs : List A) (count : ℕ) → old.now.schema ≡ store_schema
+      → (old new : State) (xs : List A) (count : ℕ) → IsStoreSchema old.now.schema
       → AreHidden of xs (old.now.trees table.tree) → Executes sql (of x) old new (Ok count)
       → Rewrites table.tree (AreHidden of (xs ++ x ∷ [])) old new
-  adds_hidden at table sql terms width x is_at uncounted quiet is given casts old new xs count has held h =
+  adds_hidden at table sql terms width x is_at uncounted is given casts old new xs count has held h =
       rewrites_as table.tree old new (λ e. subst (AreHidden of (xs ++ x ∷ [])) (sym e)
       (hidden_push x xs (old.now.trees table.tree) held))
       (inserts_row at table sql terms width (of x) (Null ∷ of x) (λ rows. Int (next_rowid rows) ∷ of x) is_at
-      uncounted quiet
-      is given casts old new count has h)
+      uncounted is given casts old new count has h)
 
   -- The rows that pass a test keep their rowids when the others are deleted.
   pub hidden_drop : (q : A → Bool) (xs : List A) (old tree : List Row) (h : AreHidden of xs old)
@@ -224,10 +227,10 @@ makes_resource n r = makes_change _ (change.AddResource n r) (λ old new t count
     let is : numbered_from 1 t.resource ++ (n, r) ∷ [] ≡ numbered_from 1 (t.resource ++ r ∷ []) =
     ap (λ m. numbered_from 1 t.resource ++ (m, r) ∷ []) (let e : n ≡ 1 + length t.resource = omega (arith, next) in e)
     ∙ sym (numbered_push 1 t.resource r) in
-    keeps_resource 2 old new t kept (t.resource ++ r ∷ []) (rewrites_as 1 old new
+    becomes_resource 2 old new t kept (t.resource ++ r ∷ []) (rewrites_as 1 old new
     (subst (λ l. AreKeyed stored_resource (λ (row : ℕ × Resource). row.0) l (new.now.trees 1)) is)
     (adds_keyed (λ (row : ℕ × Resource). row.0) stored_resource (λ row. refl) 1 (record resource_table { tree = 1 })
-    _ _ _ (values (resource_cells n r)) (n, r) refl refl (λ olds news. refl) (statement_is (change.AddResource n r))
+    _ _ _ (values (resource_cells n r)) (n, r) refl refl (statement_is (change.AddResource n r))
     refl (λ rows. ap (with_rowid Chosen rows) (cast_resource (n, r))) old new (numbered_from 1 t.resource) count
     kept.schema kept.hold.resource (omega (arith, next))
     (λ y k. let b = numbered_below 1 t.resource y k in omega (arith, b, next)) h)))
@@ -240,9 +243,9 @@ cast_outside row = rw (cast_null, cast_int (pos row.0)) refl
 pub makes_outside : (n : ℕ) (iri : List ℕ) → 0 < n → IsUtf8 iri → Makes (values (outside_cells (n, iri)))
     (change.AddOutside n iri)
 makes_outside n iri least spelled = makes_change _ (change.AddOutside n iri) (λ old new t count kept below h.
-    keeps_outside 2 old new t kept (t.outside ++ (n, iri) ∷ [])
+    becomes_outside 2 old new t kept (t.outside ++ (n, iri) ∷ [])
     (adds_keyed (λ (row : ℕ × List ℕ). row.0) stored_outside (λ row. refl) 2 (record outside_table { tree = 2 })
-    _ _ _ (values (outside_cells (n, iri))) (n, iri) refl refl (λ olds news. refl)
+    _ _ _ (values (outside_cells (n, iri))) (n, iri) refl refl
     (statement_is (change.AddOutside n iri)) refl (λ rows. ap (with_rowid Chosen rows) (cast_outside (n, iri))) old new
     t.outside count kept.schema kept.hold.outside least (λ y k. below y (in_has t.outside y k)) h)
     (all-append IsSpelledOutside t.outside ((n, iri) ∷ []) kept.hold.spelled.1.0 (spelled, tt)))
@@ -254,9 +257,9 @@ cast_posting p = simp (cast_null, cast_int)
 pub makes_posting : (p : PostingRow) → IsSpelledPosting p → Makes (values (posting_cells p)) (change.AddPosting p)
 makes_posting p spelled = makes_change _ (change.AddPosting p) (λ old new t count kept fits h.
     let next = fits.0 in
-    keeps_posting 2 old new t kept (t.posting ++ p ∷ [])
+    becomes_posting 2 old new t kept (t.posting ++ p ∷ [])
     (adds_keyed (λ (row : PostingRow). row.number) stored_posting (λ row. refl) 5 (record posting_table { tree = 8 })
-    _ _ _ (values (posting_cells p)) p refl refl (λ olds news. refl) (statement_is (change.AddPosting p)) refl
+    _ _ _ (values (posting_cells p)) p refl refl (statement_is (change.AddPosting p)) refl
     (λ rows. ap (with_rowid Chosen rows) (cast_posting p)) old new t.posting count kept.schema kept.hold.posting
     (omega (arith, next))
     (λ y k. let b = postings_below 1 t.posting y kept.hold.numbered k in omega (arith, b, next)) h)
@@ -269,17 +272,17 @@ cast_move m = simp (cast_null, cast_int)
 -- The INSERT of a move makes the change AddMove.
 pub makes_move : (m : MoveRow) → 0 < m.number → Makes (values (move_cells m)) (change.AddMove m)
 makes_move m least = makes_change _ (change.AddMove m) (λ old new t count kept below h.
-    keeps_move 2 old new t kept (t.move ++ m ∷ [])
+    becomes_move 2 old new t kept (t.move ++ m ∷ [])
     (adds_keyed (λ (row : MoveRow). row.number) stored_move (λ row. refl) 6 (record move_table { tree = 10 })
-    _ _ _ (values (move_cells m)) m refl refl (λ olds news. refl) (statement_is (change.AddMove m)) refl
+    _ _ _ (values (move_cells m)) m refl refl (statement_is (change.AddMove m)) refl
     (λ rows. ap (with_rowid Chosen rows) (cast_move m)) old new t.move count kept.schema kept.hold.move least
     (λ y k. below y (in_has t.move y k)) h))
 
 -- The INSERT of a label makes the change AddLabel.
 pub makes_label : (l : Label) → IsSpelledLabel l → Makes (label_values l) (change.AddLabel l)
 makes_label l spelled = makes_change _ (change.AddLabel l) (λ old new t count kept fits h.
-    keeps_label 2 old new t kept (t.label ++ l ∷ [])
-    (adds_hidden label_values 3 (record label_table { tree = 4 }) _ _ _ l refl refl (λ olds news. refl)
+    becomes_label 2 old new t kept (t.label ++ l ∷ [])
+    (adds_hidden label_values 3 (record label_table { tree = 4 }) _ _ _ l refl refl
     (statement_is (change.AddLabel l)) refl
     (λ rows. rw (cast_null, cast_int (pos l.owner), cast_int (pos (label_kind_no l.kind))) refl) old new t.label
     count kept.schema kept.hold.label h)
@@ -288,17 +291,17 @@ makes_label l spelled = makes_change _ (change.AddLabel l) (λ old new t count k
 -- The INSERT of a link makes the change AddLink.
 pub makes_link : (l : Link) → Makes (link_values l) (change.AddLink l)
 makes_link l = makes_change _ (change.AddLink l) (λ old new t count kept fits h.
-    keeps_link 2 old new t kept (t.link ++ l ∷ [])
+    becomes_link 2 old new t kept (t.link ++ l ∷ [])
     (adds_hidden link_values 4 (record link_table { tree = 6 }) _ _ _ l refl refl
-    (λ olds news. refl) (statement_is (change.AddLink l)) refl
+    (statement_is (change.AddLink l)) refl
     (λ rows. rw (cast_null, cast_int (pos (link_kind_no l.kind)), cast_int (pos l.a), cast_int (pos l.b)) refl) old
     new t.link count kept.schema kept.hold.link h))
 
 -- The INSERT of a hierarchical link makes the change AddHier.
 pub makes_hier : (row : HierRow) → Makes (hier_values row) (change.AddHier row)
 makes_hier row = makes_change _ (change.AddHier row) (λ old new t count kept fits h.
-    keeps_hier 2 old new t kept (t.hier ++ row ∷ [])
+    becomes_hier 2 old new t kept (t.hier ++ row ∷ [])
     (adds_hidden hier_values 7 (record hier_table { tree = 11 }) _ _ _ row refl refl
-    (λ olds news. refl) (statement_is (change.AddHier row)) refl
+    (statement_is (change.AddHier row)) refl
     (λ rows. rw (cast_null, cast_int (pos row.a), cast_int (pos row.b), cast_int (pos (hier_type_no row.typ))) refl)
     old new t.hier count kept.schema kept.hier h))

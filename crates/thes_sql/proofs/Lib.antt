@@ -1,3 +1,5 @@
+pub mod DeclarationLemmas
+pub mod ForeignKeyLemmas
 pub mod StatementTextLemmas
 pub mod WriteEffectLemmas
 pub mod TableRowLemmas
@@ -15,6 +17,6 @@ pub mod SelectLemmas
 pub mod FirstRowLemmas
 pub mod QueryTextLemmas
 pub mod ReadFrameLemmas
+pub mod OutcomeTextLemmas
 pub mod MigrationStepLemmas
 pub mod KnownSchemaLemmas
-pub mod DeclarationLemmas

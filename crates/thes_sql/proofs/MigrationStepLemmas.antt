@@ -33,16 +33,19 @@ use Rattle.thes_tables.specs.declared.cells.Cell.TheVariants as cells
 use Rattle.thes_tables.specs.declared.rows.HierRow.{HierRow}
 use Rattle.thes_tables.specs.Tables.{Tables}
 use Rattle.thes_tables.specs.Cells.{number_cell, hier_type_no}
+use Rattle.thes_sql.specs.Additions.{schema_with}
 use Rattle.thes_sql.specs.Schema.{meta_table, link_table, hier_table, store_schema}
-use Rattle.thes_sql.specs.StoredRows.{Keeps, AreHidden, hidden_row, values, link_values, hier_values}
+use Rattle.thes_sql.specs.StoredRows.{KeepsIn, AreHidden, hidden_row, values, link_values, hier_values}
 use Rattle.thes_tables.specs.OldRows.{is_broader, untyped_row, tables_after_migration}
-use Rattle.thes_sql.specs.OldStore.{KeepsAs, stored_version, tables_with_copied_links, HasEmptyHier, HasCopiedLinks}
+use Rattle.thes_sql.specs.OldStore.{KeepsAs, IsMigrating, stored_version, tables_with_copied_links, HasEmptyHier, HasCopiedLinks}
 use Rattle.thes_sql.specs.OldStore.{HasMovedLinks, IsMigratedStore}
 use Rattle.thes_sql.specs.TransactionEffects.{TransformsTables}
 use Rattle.thes_sql.proofs.StatementTextLemmas.{plain_query, whole_program, equal_terms, IsCommandText}
 use Rattle.thes_sql.proofs.WriteEffectLemmas.{insert_effect, cast_int, cast_null}
 use Rattle.thes_sql.proofs.StatementLemmas.{Rewrites, rewrites_as, updates, deletes}
-use Rattle.thes_sql.proofs.HeldTableLemmas.{other_table_held, keeps_all, keeps_current, keeps_hier, keeps_link}
+use Rattle.thes_sql.proofs.ForeignKeyLemmas.{writes_alone}
+use Rattle.thes_sql.proofs.HeldTableLemmas.{BecomesAs, other_table_held, becomes_all, becomes_current, becomes_hier}
+use Rattle.thes_sql.proofs.HeldTableLemmas.{becomes_link}
 use Rattle.thes_sql.proofs.InsertLemmas.{hidden_push, hidden_drop}
 use Rattle.thes_sql.proofs.CreateStoreLemmas.{cast_meta}
 use Rattle.thes_sql.proofs.SelectLemmas.{ordered_query, answer_rows}
@@ -70,14 +73,14 @@ in_order_too db params out a = search rules
 
 copy_is : IsCommandText copy_text (Insert 7 (Asked (whole_program copy_query)))
 unfolding understood everything
-copy_is = (refl, (refl, refl))
+copy_is added = (refl, (refl, refl))
 
 abbrev pub drop_text : List ℕ
 drop_text = codes "DELETE FROM link WHERE kind = 1"
 
 drop_is : IsCommandText drop_text (Delete 4 (whole_program (plain_query 6 broader_filters (col 1 0 ∷ []) [])))
 unfolding understood everything
-drop_is = (refl, (refl, refl))
+drop_is added = (refl, (refl, refl))
 
 abbrev pub version_text : List ℕ
 version_text = codes "UPDATE meta SET version = 2"
@@ -87,7 +90,7 @@ version_project = col 1 0 ∷ col 1 0 ∷ lit Null ∷ lit (Int (pos 2)) ∷ col
 
 version_is : IsCommandText version_text (Update 0 (whole_program (plain_query 0 [] version_project [])))
 unfolding understood everything
-version_is = (refl, (refl, refl))
+version_is added = (refl, (refl, refl))
 
 -- Rows without numbers are inserted in order, each under the next rowid.
 module _ {A : Type 0} (of : A → List Value) (table : Table)
@@ -130,18 +133,19 @@ picked_links given links is = grind (arith, common_steps, map-map, filter-map)
 -- The INSERT .. SELECT puts the links of kind broader into the empty table hier.
 copies_links : (t : Tables) (old new : State) (count : ℕ) → KeepsAs 1 old.now (record t { hier = [] })
     → Executes copy_text [] old new (Ok count)
-    → KeepsAs 1 new.now (record t { hier = map untyped_row (filter is_broader t.link) })
+    → BecomesAs 1 old.now new.now (record t { hier = map untyped_row (filter is_broader t.link) })
 copies_links t old new count kept h =
     let trees = old.now.trees in
     let held = kept.hold.link in
     let there = record hier_table { tree = 11 } in
     let rows = map untyped_row (filter is_broader t.link) in
-    let w = runs_as copy_text [] old new store_schema kept.schema (Insert 7 (Asked (whole_program copy_query)))
-    copy_is.0 copy_is.1
-    count h in
-    let it = insert_effect store_schema 7 there [] (statement_of copy_text (understood store_schema copy_text)) old
-    new count
-    kept.schema refl (λ olds news. refl) (Asked (whole_program copy_query)) refl w in
+    let added = kept.schema.added in
+    let schema = schema_with added in
+    let means = copy_is added in
+    let w = runs_as copy_text [] old new schema kept.schema.is (Insert 7 (Asked (whole_program copy_query))) means.0
+    means.1 count h in
+    let it = insert_effect schema 7 there [] (statement_of copy_text (understood schema copy_text)) old new count
+    kept.schema.is refl (writes_alone added kept.schema.apart 7 there refl) (Asked (whole_program copy_query)) refl w in
     let given : it.0 ≡ map (λ (y : HierRow). Null ∷ hier_values y) rows =
     answer_rows (λ (row : ℕ × Link). row.0) (hidden_row link_values) copied_cells 6 copy_project [] broader_filters
     (λ row. is_broader row.1) is_kind (λ row. refl) trees held.given it.0 held.held
@@ -149,35 +153,35 @@ copies_links t old new count kept h =
     ∙ copied_rows (filter (λ (row : ℕ × Link). is_broader row.1) held.given)
     ∙ ap (map (λ (y : HierRow). Null ∷ hier_values y)) (picked_links held.given t.link held.same) in
     let all = hidden_push_all hier_values there cast_hier rows [] (trees 11) kept.hier in
-    keeps_hier 1 old new (record t { hier = [] }) kept rows (record {
-      schema = it.2;
+    becomes_hier 1 old new (record t { hier = [] }) kept rows (record {
+      schema = it.2 ∙ sym kept.schema.is;
       rows = subst (AreHidden hier_values rows)
           (sym (it.3.rows ∙ ap (λ l. edited trees (edit_of trees there [] Chosen 0 l)) given)) all;
-      others = it.3.tables;
+      others = it.3.others;
     })
 
 drops_copied : (t : Tables) (old new : State) (count : ℕ) → KeepsAs 1 old.now t
     → Executes drop_text [] old new (Ok count)
-    → KeepsAs 1 new.now (record t { link = filter (λ l. not (is_broader l)) t.link })
+    → BecomesAs 1 old.now new.now (record t { link = filter (λ l. not (is_broader l)) t.link })
 drops_copied t old new count kept h =
     let held = kept.hold.link in
-    keeps_link 1 old new t kept (filter (λ l. not (is_broader l)) t.link)
+    becomes_link 1 old new t kept (filter (λ l. not (is_broader l)) t.link)
     (rewrites_as 6 old new (hidden_drop link_values (λ l. not (is_broader l)) t.link (old.now.trees 6)
     (new.now.trees 6) held)
     (deletes (λ (row : ℕ × Link). row.0) (hidden_row link_values) (λ row. refl) 4 (record link_table { tree = 6 }) refl
-    (λ olds news. refl) drop_text [] broader_filters (λ row. is_broader row.1) is_kind drop_is (λ row. refl) old new
+    drop_text [] broader_filters (λ row. is_broader row.1) is_kind drop_is (λ row. refl) old new
     held.given count kept.schema held.held h))
 
 sets_version : (t : Tables) (old new : State) (count : ℕ) → KeepsAs 1 old.now t
-    → Executes version_text [] old new (Ok count) → Keeps new.now t
+    → Executes version_text [] old new (Ok count) → KeepsIn old.now.schema new.now t
 sets_version t old new count kept h =
     let w : Rewrites 0 (λ tree. tree ≡ stored_version 2 t.base ∷ []) old new = rewrites_as 0 old new
     (λ held. held.rows)
     (updates (λ (row : ℕ × List ℕ). 1) (λ (row : ℕ × List ℕ). stored_version row.0 row.1) (λ row. refl) 0 meta_table
-    refl (λ olds news. refl) version_text [] [] (λ row. true) (λ row. refl) version_project version_is
+    refl version_text [] [] (λ row. true) (λ row. refl) version_project version_is
     (λ row. (2, row.1)) (λ row. refl) (λ row. refl) (λ row. cast_meta row.1) old new ((1, t.base) ∷ []) count
     kept.schema (record { rises = (lit< tt, tt); rows = kept.hold.meta }) h) in
-    keeps_current new.now t (keeps_all 2 new.now t w.schema
+    becomes_current old.now new.now t (becomes_all 2 old.now new.now t w.schema kept.schema
     (elim [ table.Meta ↦ w.rows | p ↦ other_table_held 1 old new t kept w p (λ e. omega (arith, e)) ])
     kept.hold.numbered kept.hold.spelled)
 
@@ -187,15 +191,24 @@ transforms_inside : (From To : Tables → Database → Type 0) (text : List ℕ)
     → OnOk r (TransformsTables From To old new)
 transforms_inside From To text makes old new r h = grind (arith, common_steps)
 
+-- A step leaves the schema as it is, so that it stays without additions.
+still_migrating : (old new : Database) (t : Tables) → old.schema ≡ store_schema → BecomesAs 1 old new t
+    → IsMigrating new t
+still_migrating old new t exact made = record { schema = made.schema ∙ exact; keeps = made.keeps }
+
 pub does_copy : (old new : State) (r : Result ℕ Error) → ExecutesInside 0 copy_text [] old new r
     → OnOk r (TransformsTables HasEmptyHier HasCopiedLinks old new)
-does_copy = transforms_inside HasEmptyHier HasCopiedLinks copy_text copies_links
+does_copy = transforms_inside HasEmptyHier HasCopiedLinks copy_text (λ t old new count from h.
+    still_migrating old.now new.now _ from.schema (copies_links t old new count from.keeps h))
 
 pub does_drop : (old new : State) (r : Result ℕ Error) → ExecutesInside 0 drop_text [] old new r
     → OnOk r (TransformsTables HasCopiedLinks HasMovedLinks old new)
-does_drop = transforms_inside HasCopiedLinks HasMovedLinks drop_text (λ t. drops_copied (tables_with_copied_links t))
+does_drop = transforms_inside HasCopiedLinks HasMovedLinks drop_text (λ t old new count from h.
+    still_migrating old.now new.now _ from.schema
+    (drops_copied (tables_with_copied_links t) old new count from.keeps h))
 
 pub does_version : (old new : State) (r : Result ℕ Error) → ExecutesInside 0 version_text [] old new r
     → OnOk r (TransformsTables HasMovedLinks IsMigratedStore old new)
-does_version = transforms_inside HasMovedLinks IsMigratedStore version_text
-    (λ t. sets_version (tables_after_migration t))
+does_version = transforms_inside HasMovedLinks IsMigratedStore version_text (λ t old new count from h.
+    let made = sets_version (tables_after_migration t) old new count from.keeps h in
+    record { schema_is = made.schema_is ∙ from.schema; keeps = made.keeps })

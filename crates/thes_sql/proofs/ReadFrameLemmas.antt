@@ -3,6 +3,7 @@ use Rattle.std.proofs.Common.{arith, ◌≡◌, ◌⊎◌, inl, inr, ℕ, List, 
 use Rattle.std.proofs.Common.{true, refl, OnOk, [], subst, ◌∙◌, Option, None, Some, is_ok, ◌≢◌}
 use Rattle.std.proofs.lemmas.Grind.{common_steps}
 use Rattle.sqlite.specs.Order.{Row}
+use Rattle.sqlite.specs.Schema.{Schema}
 use Rattle.sqlite.specs.Tree.{Trees}
 use Rattle.sqlite.specs.Effect.{Database, RefusesQuery, RefusesToRead, is_query}
 use Rattle.sqlite.specs.Command.{Command}
@@ -25,7 +26,6 @@ use Rattle.sqlite_resolve.specs.declared.compiled.Compiled.{Compiled}
 use Rattle.sqlite_trees.specs.declared.store.Store.{Ghosts}
 use Rattle.sqlite.proofs.StateLemmas.{survives_weaker}
 use Rattle.sqlite.proofs.Callers.{IsPlain, command_of}
-use Rattle.thes_sql.specs.Schema.{store_schema}
 use Rattle.thes_sql.specs.Reads.{LeavesAlone}
 use Rattle.thes_sql.specs.Queries.{IsQuery, IsWholeQuery, compiles, Finds, IsStoreFault, finds_nothing, FailsToFind}
 use Rattle.thes_sql.specs.Queries.{KeepsDatabase, answer_of_error}
@@ -249,15 +249,14 @@ module _ (sql : List ℕ) (old new : State) (is : IsWholeQuery sql) where
       (same.0.now_is, same.0.committed_is)
   kept_answered e Clean h = tt
 
--- A query that compiles in the schema of a store never returns the error of one that doesn't
--- compile.
+-- A query that compiles never returns the error of one that doesn't compile.
 
 pub no_cause : (fault : CompileError) (cause : StoreError) → SqlInputError fault ≢ store_error cause
 no_cause fault cause told = let e = ap finds_nothing told ∙ cause_finds _ cause refl in cc
 
 module _ (sql : List ℕ) (params : Row) (old new : State) (q : Program) (names : List (List ℕ))
-    (has : old.now.schema ≡ store_schema) (is : command_of (understood store_schema sql) ≡ Select q names)
-    (plain : IsPlain (understood store_schema sql)) (e : Error) (fault : CompileError) where
+    (schema : Schema) (has : old.now.schema ≡ schema) (is : command_of (understood schema sql) ≡ Select q names)
+    (plain : IsPlain (understood schema sql)) (e : Error) (fault : CompileError) where
   here : command_of (understood old.now.schema sql) ≡ Select q names
   here = ap (λ schema. command_of (understood schema sql)) has ∙ is
 

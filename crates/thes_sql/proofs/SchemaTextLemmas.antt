@@ -37,10 +37,13 @@ use Rattle.thes_sql.specs.Schema.{posting_table, move_table, posting_at, move_po
 use Rattle.thes_sql.specs.Schema.{schema_up_to_meta, schema_up_to_resource, schema_up_to_outside, schema_up_to_label}
 use Rattle.thes_sql.specs.Schema.{schema_up_to_link, schema_up_to_posting, schema_up_to_move, schema_without_indexes}
 use Rattle.thes_sql.specs.Schema.{schema_with_posting_at}
+use Rattle.thes_sql.specs.Additions.{IsStoreSchema}
 use Rattle.thes_tables.specs.Tables.{Tables}
-use Rattle.thes_sql.specs.OldStore.{old_schema, KeepsOld, KeepsAs, IsOldStore, HasEmptyHier}
+use Rattle.thes_sql.specs.OldStore.{old_schema, KeepsOld, KeepsAs, IsMigrating, IsOldStore, HasEmptyHier}
 use Rattle.thes_sql.specs.TransactionEffects.{IsEmpty, Transforms, TransformsTables, ExtendsSchema}
 use Rattle.thes_sql.specs.TransactionEffects.{RunsOrFailsToCompile}
+use Rattle.thes_sql.proofs.DeclarationLemmas.{own_schema}
+use Rattle.thes_sql.proofs.ForeignKeyLemmas.{kept_twice}
 use Rattle.thes_sql.proofs.ReadFrameLemmas.{no_cause}
 
 -- The text defines the table in this schema.
@@ -255,12 +258,6 @@ index_after_try from text at table index is is_at old new t has = elim t.ran [
   | inr refused ↦ absurd (not_refused text old new refused.0 from at table index is is_at has refused.1)
 ]
 
-keeps_rows_twice : (tables : List Table) (start mid next : Trees) → KeepsRows tables start mid
-    → KeepsRows tables mid next
-    → KeepsRows tables start next
-keeps_rows_twice [] start mid next a b = tt
-keeps_rows_twice (t ∷ tables) start mid next a b = (b.0 ∙ a.0, keeps_rows_twice tables start mid next a.1 b.1)
-
 pub both_indexes : (old mid new : State) → RunsOrFailsToCompile index_posting_at_text old mid
     → RunsOrFailsToCompile index_move_posting_text mid new
     → ExtendsSchema schema_without_indexes store_schema [] old new
@@ -272,7 +269,7 @@ both_indexes old mid new first second = record {
       let two = index_after_try schema_with_posting_at index_move_posting_text 6 (record move_table { tree = 10 })
       move_posting
       (refl, refl, (refl, refl)) refl mid new second one.0 in
-      (two.0, keeps_rows_twice schema_without_indexes.tables old.now.trees mid.now.trees new.now.trees one.1 two.1, tt);
+      (two.0, kept_twice schema_without_indexes.tables old.now.trees mid.now.trees new.now.trees one.1 two.1, tt);
   inside = second.inside;
 }
 
@@ -285,9 +282,13 @@ module _ (old mid new : State) (first : ExtendsSchema old_schema schema_without_
 
   -- Creating table hier and the indexes leaves the tables of version 1 unchanged, and table hier
   -- empty.
-  enlarged_rows : (t : Tables) → KeepsOld old.now t → KeepsAs 1 new.now (record t { hier = [] })
+  enlarged_rows : (t : Tables) → KeepsOld old.now t → IsMigrating new.now (record t { hier = [] })
   enlarged_rows t was =
-      let one = first.made was.schema in let two = second.made one.0 in grind (arith, common_steps)
+      let one = first.made was.schema in
+      let two = second.made one.0 in
+      let known : IsStoreSchema new.now.schema = subst IsStoreSchema (sym two.0) own_schema in
+      let keeps : KeepsAs 1 new.now (record t { hier = [] }) = grind (arith, common_steps) in
+      record { schema = two.0; keeps = keeps }
 
   pub newer_enlarged : TransformsTables IsOldStore HasEmptyHier old new
   newer_enlarged = record { made = enlarged_rows; inside = second.inside }

@@ -39,7 +39,7 @@ use Rattle.thes_tables.specs.declared.rows.PostingRow.{PostingRow}
 use Rattle.thes_tables.specs.declared.rows.MoveRow.{MoveRow}
 use Rattle.thes_tables.specs.Tables.{Tables}
 use Rattle.thes_tables.specs.Cells.{posting_cells, move_cells, number_cell}
-use Rattle.thes_sql.specs.Schema.{store_schema}
+use Rattle.thes_sql.specs.Additions.{Additions, IsStoreSchema, schema_with}
 use Rattle.thes_sql.specs.StoredRows.{Keeps, AreIncreasingAbove, AreKeyed, values, stored_posting, stored_move}
 use Rattle.thes_sql.specs.OldStore.{old_schema, IsStoreOfVersion, stored_version, version_row}
 use Rattle.thes_tables.specs.declared.cells.Cell.TheVariants as cells
@@ -56,11 +56,15 @@ use Rattle.thes_sql.proofs.WhereLemmas.{by_number, by_place, same_ints, same_wor
 abbrev pub ordered_query : ℕ → List Term → List Term → Query
 ordered_query tree filters project = plain_query tree filters project ((col 1 0, ascending Binary) ∷ [])
 
--- The text is this query in the schema of a store, with no inputs other than its parameters.
+-- The text is this query in the schema, with no inputs other than its parameters.
+abbrev pub IsQueryIn : Schema → List ℕ → Query → Type 0
+IsQueryIn schema text q = (names : List (List ℕ))
+    × (command_of (understood schema text) ≡ Select (whole_program q) names)
+    × (reads_listing schema text ≡ false) × IsPlain (understood schema text)
+
+-- The text is this query in the schema of a store with any additions.
 abbrev pub IsQueryText : List ℕ → Query → Type 0
-IsQueryText text q = (names : List (List ℕ))
-    × (command_of (understood store_schema text) ≡ Select (whole_program q) names)
-    × (reads_listing store_schema text ≡ false) × IsPlain (understood store_schema text)
+IsQueryText text q = (added : Additions) → IsQueryIn (schema_with added) text q
 
 module _ {X : Type 0} (num : X → ℕ) (stored : X → Row) (cells : X → List Cell) (tree : ℕ) (project : List Term)
     (params : Row) (filters : List Term) (p : X → Bool)
@@ -99,11 +103,12 @@ module _ {X : Type 0} (num : X → ℕ) (stored : X → Row) (cells : X → List
       ∙ map-map (λ (o : Output). o.1) out_of (filter p xs) ∙ sym (map-map values cells (filter p xs))
 
   pub query_rows : (text : List ℕ) → IsQueryText text query → (old new : State) (xs : List X) (out : List Row)
-      → old.now.schema ≡ store_schema → AreKeyed stored num xs (old.now.trees tree) → Shown text params old new out
+      → IsStoreSchema old.now.schema → AreKeyed stored num xs (old.now.trees tree) → Shown text params old new out
       → out ≡ map values (map cells (filter p xs))
   query_rows text is old new xs out has held h =
-      let read = reads_as text params old new store_schema has (Select (whole_program query) is.0) is.1 is.3 is.2 out
-      h in
+      let it = is has.added in
+      let read = reads_as text params old new (schema_with has.added) has.is (Select (whole_program query) it.0) it.1
+      it.3 it.2 out h in
       answer_rows old.now.trees xs out held (read.answer Null)
 
 abbrev posting_columns : List Term
@@ -125,8 +130,8 @@ columns_of table.Move = move_columns
 
 pub table_query_text : (p : Table) → IsQueryText (read_text p) (ordered_query (tree_of p) [] (columns_of p))
 unfolding understood everything
-table_query_text table.Meta = (_, refl, refl, (refl, refl))
-table_query_text p = (_, refl, refl, (refl, refl))
+table_query_text table.Meta added = (_, refl, refl, (refl, refl))
+table_query_text p added = (_, refl, refl, (refl, refl))
 
 module _ (tree : ℕ) (project : List Term) (of : Row → Row)
     (shows : (row : Row) → output (ordered_query tree [] project) ([] ∷ row ∷ []) ≡ (rowid row ∷ [], of row)) where
@@ -148,12 +153,13 @@ module _ (tree : ℕ) (project : List Term) (of : Row → Row)
 
   -- A query without a filter returns the columns of all rows.
   pub rows_read : (text : List ℕ) → IsQueryText text table_query → (old new : State) (out : List Row)
-      → old.now.schema ≡ store_schema → IsTable (old.now.trees tree) → Shown text [] old new out
+      → IsStoreSchema old.now.schema → IsTable (old.now.trees tree) → Shown text [] old new out
       → out ≡ map of (old.now.trees tree)
   rows_read text is old new out has up h =
       let rows = old.now.trees tree in
-      let read = reads_as text [] old new store_schema has (Select (whole_program table_query) is.0) is.1 is.3 is.2
-      out h in
+      let it = is has.added in
+      let read = reads_as text [] old new (schema_with has.added) has.is (Select (whole_program table_query) it.0) it.1
+      it.3 it.2 out h in
       let a : IsAnswer table_query (overlay old.now.trees []) [] out = read.answer Null in
       let outputs : a.kept ≡ map row_out rows = a.distinct ∙ ap (map (output table_query)) (a.grouped
       ∙ ap (flat_map (λ r. cond (list_all (holds ([] ∷ r ∷ [])) []) (([] ∷ r ∷ []) ∷ []) []))
@@ -183,7 +189,7 @@ keyed_text = codes "SELECT num, pkey, record, first_at, at, withdrawn FROM posti
 
 pub keyed_is : IsQueryText keyed_text (ordered_query 8 (equal_terms (col 1 2) (col 0 0) ∷ []) posting_columns)
 unfolding understood everything
-keyed_is = (_, refl, refl, (refl, refl))
+keyed_is added = (_, refl, refl, (refl, refl))
 
 pub keyed_is_query : IsQuery keyed_text
 unfolding everything
@@ -194,7 +200,7 @@ numbered_text = codes "SELECT num, pkey, record, first_at, at, withdrawn FROM po
 
 pub numbered_is : IsQueryText numbered_text (ordered_query 8 number_filter posting_columns)
 unfolding understood everything
-numbered_is = (_, refl, refl, (refl, refl))
+numbered_is added = (_, refl, refl, (refl, refl))
 
 pub numbered_is_query : IsQuery numbered_text
 unfolding everything
@@ -203,7 +209,7 @@ numbered_is_query = refl
 pub standing_is : IsQueryText assigned_text (ordered_query 8
     place_filter posting_columns)
 unfolding understood everything
-standing_is = (_, refl, refl, (refl, refl))
+standing_is added = (_, refl, refl, (refl, refl))
 
 pub standing_is_query : IsQuery assigned_text
 unfolding everything
@@ -212,7 +218,7 @@ standing_is_query = refl
 pub standing_numbers_is : IsQueryText assigned_numbers_text (ordered_query 8
     place_filter (col 1 0 ∷ []))
 unfolding understood everything
-standing_numbers_is = (_, refl, refl, (refl, refl))
+standing_numbers_is added = (_, refl, refl, (refl, refl))
 
 pub standing_numbers_is_query : IsQuery assigned_numbers_text
 unfolding everything
@@ -223,7 +229,7 @@ moving_text = codes "SELECT num, posting, source, target FROM move WHERE posting
 
 pub moving_is : IsQueryText moving_text (ordered_query 10 (equal_terms (col 1 2) (col 0 0) ∷ []) move_columns)
 unfolding understood everything
-moving_is = (_, refl, refl, (refl, refl))
+moving_is added = (_, refl, refl, (refl, refl))
 
 pub moving_is_query : IsQuery moving_text
 unfolding everything
@@ -277,10 +283,7 @@ meta_text = read_text table.Meta
 abbrev version_cells : ℕ × List ℕ → List Cell
 version_cells x = number_cell 1 ∷ number_cell x.0 ∷ cells.Text x.1 ∷ []
 
-pub old_meta_query_text : (names : List (List ℕ))
-    × (command_of (understood old_schema meta_text)
-    ≡ Select (whole_program (ordered_query 0 [] (columns_of table.Meta))) names)
-    × (reads_listing old_schema meta_text ≡ false) × IsPlain (understood old_schema meta_text)
+pub old_meta_query_text : IsQueryIn old_schema meta_text (ordered_query 0 [] (columns_of table.Meta))
 unfolding understood everything
 old_meta_query_text = (_, refl, refl, (refl, refl))
 
@@ -320,14 +323,17 @@ module _ (sql : List ℕ) (db : Database) (schema : Schema) (has : db.schema ≡
 abbrev meta_query : Query
 meta_query = ordered_query 0 [] (columns_of table.Meta)
 
-meta_typed : (accepts_program store_schema [] meta_query [] ≡ true)
-    × (accepts_program old_schema [] meta_query [] ≡ true)
-unfolding everything
-meta_typed = (refl, refl)
+-- The query compiles in the schema, and its columns have types.
+abbrev AcceptsMeta : Schema → Type 0
+AcceptsMeta schema = (is_ok (understood schema meta_text) ≡ true) × (accepts_program schema [] meta_query [] ≡ true)
 
-meta_compiles : (is_ok (understood store_schema meta_text) ≡ true) × (is_ok (understood old_schema meta_text) ≡ true)
+accepts_meta : (added : Additions) → AcceptsMeta (schema_with added)
 unfolding understood everything
-meta_compiles = (refl, refl)
+accepts_meta added = (refl, refl)
+
+old_accepts_meta : AcceptsMeta old_schema
+unfolding understood everything
+old_accepts_meta = (refl, refl)
 
 meta_not_refused : (db : Database) (schema : Schema) → db.schema ≡ schema
     → accepts_program schema [] meta_query [] ≡ true → (e : Error)
@@ -336,19 +342,20 @@ meta_not_refused db schema has typed e h = grind (arith, common_steps, no_fold_o
 
 pub version_found : (version : ℕ) (base : List ℕ) (db : Database) (found : Option (List Row))
     → IsStoreOfVersion version base db → Finds meta_text db found → found ≡ Some (version_row version base ∷ [])
-version_found version base db (Some out) (inl has, is) h =
-    let asks = table_query_text table.Meta in
+version_found version base db (Some out) (inl known, is) h =
+    let asks = table_query_text table.Meta known.added in
     ap Some (version_in_turn version base db.trees out is
-    ((found_answers meta_text db store_schema has _ asks.0 asks.1 asks.2 out h).answer Null))
+    ((found_answers meta_text db (schema_with known.added) known.is _ asks.0 asks.1 asks.2 out h).answer Null))
 version_found version base db (Some out) (inr has, is) h =
     let asks = old_meta_query_text in
     ap Some (version_in_turn version base db.trees out is
     ((found_answers meta_text db old_schema has _ asks.0 asks.1 asks.2 out h).answer Null))
-version_found version base db None (inl has, is) h =
-    let asks = table_query_text table.Meta in
-    absurd (found_some meta_text db store_schema has _ asks.0 asks.1 asks.2 meta_compiles.0
-    (meta_not_refused db store_schema has meta_typed.0) h)
+version_found version base db None (inl known, is) h =
+    let asks = table_query_text table.Meta known.added in
+    let accepts = accepts_meta known.added in
+    absurd (found_some meta_text db (schema_with known.added) known.is _ asks.0 asks.1 asks.2 accepts.0
+    (meta_not_refused db (schema_with known.added) known.is accepts.1) h)
 version_found version base db None (inr has, is) h =
     let asks = old_meta_query_text in
-    absurd (found_some meta_text db old_schema has _ asks.0 asks.1 asks.2 meta_compiles.1
-    (meta_not_refused db old_schema has meta_typed.1) h)
+    absurd (found_some meta_text db old_schema has _ asks.0 asks.1 asks.2 old_accepts_meta.0
+    (meta_not_refused db old_schema has old_accepts_meta.1) h)

@@ -19,25 +19,22 @@ use Rattle.sqlite.specs.Rowids.TheVariants.{Given}
 use Rattle.sqlite.specs.Tree.{Trees}
 use Rattle.sqlite_trees.specs.Tree.{rowid}
 use Rattle.sqlite.specs.Effect.{Answers}
+use Rattle.sqlite.specs.Schema.{Schema}
 use Rattle.sqlite.specs.Table.{Table}
 use Rattle.sqlite.specs.Listing.{understood}
 use Rattle.sqlite.specs.State.{State, Executes}
 use Rattle.sqlite.proofs.Callers.{statement_of, runs_as}
 use Rattle.sqlite_keyed.proofs.ListLemmas.{map-map}
-use Rattle.thes_sql.specs.Schema.{store_schema}
+use Rattle.thes_sql.specs.Additions.{IsStoreSchema, schema_with, store_tables}
 use Rattle.thes_sql.specs.StoredRows.{AreKeyed}
 use Rattle.thes_sql.proofs.StatementTextLemmas.{plain_query, whole_program, IsCommandText}
-use Rattle.thes_sql.proofs.WriteEffectLemmas.{IsQuietTable, update_effect, delete_effect}
+use Rattle.thes_sql.proofs.ForeignKeyLemmas.{LeavesOtherTables, get_first, writes_alone}
+use Rattle.thes_sql.proofs.WriteEffectLemmas.{update_effect, delete_effect}
 use Rattle.thes_sql.proofs.KeyedRowLemmas.{many_updated, many_dropped, change_num, rising_map, rising_filter}
-
--- The trees of all other tables are unchanged.
-abbrev pub LeavesOtherTables : ℕ → Trees → Trees → Type 0
-LeavesOtherTables tree old new = AllByRecursion (λ (t : Table). t.tree ≢ tree → new t.tree ≡ old t.tree)
-    store_schema.tables
 
 -- The statement rewrites one table: its tree has these rows, and nothing else has changed.
 pub record Rewrites (tree : ℕ) (Holds : List Row → Type 0) (old new : State) : Type 0 where
-  pub schema : new.now.schema ≡ store_schema
+  pub schema : new.now.schema ≡ old.now.schema
   pub rows : Holds (new.now.trees tree)
   pub others : LeavesOtherTables tree old.now.trees new.now.trees
 
@@ -76,10 +73,10 @@ module _ {X : Type 0} (stored : X → Row) (params : Row) (filters : List Term) 
     out_of x = ([], shown x)
 
     -- The query returns the rows that pass, in any order.
-    pub answer_permutes : (db : Trees) (xs : List X) (given : List Row) → db tree ≡ map stored xs
-        → Answers (record { schema = store_schema; trees = db }) (whole_program query) params given
+    pub answer_permutes : (schema : Schema) (db : Trees) (xs : List X) (given : List Row) → db tree ≡ map stored xs
+        → Answers (record { schema = schema; trees = db }) (whole_program query) params given
         → IsPermutation (map shown (filter p xs)) given
-    answer_permutes db xs given is h =
+    answer_permutes schema db xs given is h =
         let a : IsAnswer query (overlay db []) params given = h.answer Null in
         let staged : a.staged ≡ map (λ x. params ∷ stored x ∷ []) (filter p xs) =
         a.grouped ∙ ap (flat_map (λ r. cond (list_all (holds (params ∷ r ∷ [])) filters) ((params ∷ r ∷ []) ∷ []) []))
@@ -93,8 +90,7 @@ module _ {X : Type 0} (stored : X → Row) (params : Row) (filters : List Term) 
 
 -- Assumes a table of a store, and a statement on it.
 module _ {X : Type 0} (num : X → ℕ) (stored : X → Row) (is_num : (x : X) → rowid (stored x) ≡ Int (pos (num x)))
-    (at : ℕ) (table : Table) (is_at : slice_get store_schema.tables at ≡ Some table)
-    (quiet : IsQuietTable store_schema table)
+    (at : ℕ) (table : Table) (is_at : slice_get store_tables at ≡ Some table)
     (text : List ℕ) (params : Row) (filters : List Term) (p : X → Bool) (test : (x : X)
     → list_all (holds (params ∷ stored x ∷ [])) filters ≡ p x) where
   abbrev HoldsKeyedRows : List X → List Row → Type 0
@@ -104,27 +100,28 @@ module _ {X : Type 0} (num : X → ℕ) (stored : X → Row) (is_num : (x : X) �
   pub deletes : (is : IsCommandText text (Delete at (whole_program (plain_query table.tree filters (col 1 0 ∷ []) []))))
       → ((x : X) → output (plain_query table.tree filters (col 1 0 ∷ []) []) (params ∷ stored x ∷ []) ≡
       ([], Int (pos (num x)) ∷ []))
-      → (old new : State) (xs : List X) (count : ℕ) → old.now.schema ≡ store_schema
+      → (old new : State) (xs : List X) (count : ℕ) → IsStoreSchema old.now.schema
       → HoldsKeyedRows xs (old.now.trees table.tree) → Executes text params old new (Ok count)
       → Rewrites table.tree (HoldsKeyedRows (filter (λ x. not (p x)) xs)) old new
   deletes is shows old new xs count has held h =
       let db = old.now.trees in
       let q = whole_program (plain_query table.tree filters (col 1 0 ∷ []) []) in
-      let w = runs_as text params old new store_schema has (Delete at q) is.0 is.1 count h in
-      let did = delete_effect store_schema at table params (statement_of text (understood store_schema text)) old new
-      count
-      has is_at quiet q w in
+      let schema = schema_with has.added in
+      let means = is has.added in
+      let w = runs_as text params old new schema has.is (Delete at q) means.0 means.1 count h in
+      let did = delete_effect schema at table params (statement_of text (understood schema text)) old new count has.is
+      (get_first store_tables has.added.tables at table is_at) (writes_alone has.added has.apart at table is_at) q w in
       let given = answer_permutes stored params filters p test table.tree (col 1 0 ∷ [])
-      (λ x. Int (pos (num x)) ∷ []) shows db xs did.0 held.rows did.1 in
+      (λ x. Int (pos (num x)) ∷ []) shows schema db xs did.0 held.rows did.1 in
       let left = many_dropped num stored is_num p xs held.rises did.0 (λ x. Int (pos (num x)) ∷ []) given (λ x. refl) in
       record {
-        schema = did.2;
+        schema = did.2 ∙ sym has.is;
         rows = record {
           rises = rising_filter num (λ x. not (p x)) 0 xs held.rises;
           rows = did.3.rows
               ∙ ap (λ (l : List Row). without_all l (ids_of did.0)) held.rows ∙ left;
         };
-        others = did.3.tables;
+        others = did.3.others;
       }
 
   -- Assumes an UPDATE of the rows that pass.
@@ -141,16 +138,19 @@ module _ {X : Type 0} (num : X → ℕ) (stored : X → Row) (is_num : (x : X) �
     news l given = numbered Given (without_all l (ids_of given)) (map (λ s. cast_row table (drop 1 s)) given)
 
     -- The tree has the changed rows after the UPDATE.
-    pub updates : (old new : State) (xs : List X) (count : ℕ) → old.now.schema ≡ store_schema
+    pub updates : (old new : State) (xs : List X) (count : ℕ) → IsStoreSchema old.now.schema
         → HoldsKeyedRows xs (old.now.trees table.tree) → Executes text params old new (Ok count)
         → Rewrites table.tree (HoldsKeyedRows (map (λ x. if p x then f x else x) xs)) old new
     updates old new xs count has held h =
         let db = old.now.trees in
         let q = whole_program (plain_query table.tree filters project []) in
-        let w = runs_as text params old new store_schema has (Update at q) is.0 is.1 count h in
-        let did = update_effect store_schema at table params (statement_of text (understood store_schema text)) old new
-        count has is_at quiet q w in
-        let given = answer_permutes stored params filters p test table.tree project shown shows db xs did.0 held.rows
+        let schema = schema_with has.added in
+        let means = is has.added in
+        let w = runs_as text params old new schema has.is (Update at q) means.0 means.1 count h in
+        let did = update_effect schema at table params (statement_of text (understood schema text)) old new count has.is
+        (get_first store_tables has.added.tables at table is_at) (writes_alone has.added has.apart at table is_at) q w
+        in
+        let given = answer_permutes stored params filters p test table.tree project shown shows schema db xs did.0 held.rows
         did.1 in
         let fresh : are_fresh (without_all (map stored xs) (ids_of did.0)) (news (map stored xs) did.0) ≡ true =
         subst (λ (l : List Row). are_fresh (without_all l (ids_of did.0)) (news l did.0) ≡ true) held.rows did.3.fresh
@@ -158,7 +158,7 @@ module _ {X : Type 0} (num : X → ℕ) (stored : X → Row) (is_num : (x : X) �
         let changed = many_updated num stored is_num p xs held.rises did.0 shown given (λ x. refl) f keeps
         (λ s. cast_row table (drop 1 s)) casts fresh in
         record {
-          schema = did.2;
+          schema = did.2 ∙ sym has.is;
           rows = record {
             rises = rising_map num (λ x. if p x then f x else x)
                 (change_num num stored is_num p xs held.rises did.0 shown given (λ x. refl) f keeps
@@ -167,5 +167,5 @@ module _ {X : Type 0} (num : X → ℕ) (stored : X → Row) (is_num : (x : X) �
                 ∙ ap (λ (l : List Row). edited (λ n. l) (edit_of (λ n. l) table (ids_of did.0) Given 1 did.0))
                 held.rows ∙ changed;
           };
-          others = did.3.tables;
+          others = did.3.others;
         }

@@ -16,7 +16,7 @@ use Rattle.sqlite.specs.Listing.{understood}
 use Rattle.sqlite.proofs.Callers.{IsPlain, command_of}
 use Rattle.thes_tables.specs.declared.change.Change.{Change}
 use Rattle.thes_tables.specs.declared.change.Change.TheVariants as change
-use Rattle.thes_sql.specs.Schema.{store_schema}
+use Rattle.thes_sql.specs.Additions.{Additions, schema_with}
 
 -- The query of one table with these filters, columns and order.
 abbrev pub plain_query : ℕ → List Term → List Term → List (Term × Key) → Query
@@ -38,10 +38,10 @@ whole_program q = record { lets = []; body = q }
 abbrev pub equal_terms : Term → Term → Term
 equal_terms a b = op2 (by.Compare Eq Binary) a b
 
--- The text is this command in the schema of a store, with no inputs other than its parameters.
+-- The text is this command in the schema of a store with any additions, with no inputs other than its parameters.
 abbrev pub IsCommandText : List ℕ → Command → Type 0
-IsCommandText text command = (command_of (understood store_schema text) ≡ command)
-    × IsPlain (understood store_schema text)
+IsCommandText text command = (added : Additions) → (command_of (understood (schema_with added) text) ≡ command)
+    × IsPlain (understood (schema_with added) text)
 
 -- The number of the row is the first parameter.
 abbrev pub number_filter : List Term
@@ -74,7 +74,7 @@ add_meta_terms = col 0 0 ∷ lit Null ∷ col 0 1 ∷ col 0 2 ∷ []
 
 pub add_meta_is : IsCommandText add_meta_text (Insert 0 (Values add_meta_terms 4))
 unfolding understood everything
-add_meta_is = (refl, (refl, refl))
+add_meta_is added = (refl, (refl, refl))
 
 -- The text of the statement that makes a change.
 abbrev pub statement_text : Change → List ℕ
@@ -128,18 +128,18 @@ statement_command (change.AddMove row) =
 
 pub statement_is : (c : Change) → IsCommandText (statement_text c) (statement_command c)
 unfolding understood everything
-statement_is (change.AddResource n resource) = (refl, (refl, refl))
-statement_is (change.Retire n) = (refl, (refl, refl))
-statement_is (change.Replace n by) = (refl, (refl, refl))
-statement_is (change.AddOutside n iri) = (refl, (refl, refl))
-statement_is (change.AddLabel label) = (refl, (refl, refl))
-statement_is (change.DropLabel label) = (refl, (refl, refl))
-statement_is (change.AddLink link) = (refl, (refl, refl))
-statement_is (change.DropLink link) = (refl, (refl, refl))
-statement_is (change.AddHier row) = (refl, (refl, refl))
-statement_is (change.DropHier row) = (refl, (refl, refl))
-statement_is (change.AddPosting row) = (refl, (refl, refl))
-statement_is (change.Withdraw n) = (refl, (refl, refl))
-statement_is (change.SetPlace n place) = (refl, (refl, refl))
-statement_is (change.MoveAll source target) = (refl, (refl, refl))
-statement_is (change.AddMove row) = (refl, (refl, refl))
+statement_is (change.AddResource n resource) added = (refl, (refl, refl))
+statement_is (change.Retire n) added = (refl, (refl, refl))
+statement_is (change.Replace n by) added = (refl, (refl, refl))
+statement_is (change.AddOutside n iri) added = (refl, (refl, refl))
+statement_is (change.AddLabel label) added = (refl, (refl, refl))
+statement_is (change.DropLabel label) added = (refl, (refl, refl))
+statement_is (change.AddLink link) added = (refl, (refl, refl))
+statement_is (change.DropLink link) added = (refl, (refl, refl))
+statement_is (change.AddHier row) added = (refl, (refl, refl))
+statement_is (change.DropHier row) added = (refl, (refl, refl))
+statement_is (change.AddPosting row) added = (refl, (refl, refl))
+statement_is (change.Withdraw n) added = (refl, (refl, refl))
+statement_is (change.SetPlace n place) added = (refl, (refl, refl))
+statement_is (change.MoveAll source target) added = (refl, (refl, refl))
+statement_is (change.AddMove row) added = (refl, (refl, refl))

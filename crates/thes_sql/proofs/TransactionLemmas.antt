@@ -52,7 +52,7 @@ pub all_or_old : {S : Type 0} (g : Ghosts S) (start begun : Held S) (changes : L
     → Hold trees (tables_after_delta changes t))
 all_or_old g start begun changes mid new is first did last = kept_or_old g start begun mid new _ is first
     (λ clean t keeps fits. ((subst (λ (h : Held _). IsTrue h.in_transaction → AppliesChanges changes (state g h) mid) is
-    (did clean) refl).rows t keeps fits).hold) last
+    (did clean) refl).rows t keeps fits).keeps.hold) last
 
 -- If a crash interrupts a migration, it leaves the old database or the migrated tables.
 pub migrated_or_old : {S : Type 0} (g : Ghosts S) (start begun : Held S) (mid new : State)
@@ -64,4 +64,4 @@ pub migrated_or_old : {S : Type 0} (g : Ghosts S) (start begun : Held S) (mid ne
     (λ trees. (t : Tables) → KeepsOld (state g start).now t → Hold trees (tables_after_migration t))
 migrated_or_old g start begun mid new is first did last = kept_or_old g start begun mid new _ is first
     (λ clean t old. ((subst (λ (h : Held _). IsTrue h.in_transaction
-    → TransformsTables IsOldStore IsMigratedStore (state g h) mid) is (did clean) refl).made t old).hold) last
+    → TransformsTables IsOldStore IsMigratedStore (state g h) mid) is (did clean) refl).made t old).keeps.hold) last

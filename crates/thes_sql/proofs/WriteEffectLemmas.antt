@@ -1,7 +1,6 @@
--- Proves the effect of a write in a schema without foreign keys, AUTOINCREMENT and defaults that
--- depend on the time.
+-- Proves the effect of a write to a table without foreign keys, AUTOINCREMENT and defaults that depend on the time.
 use Rattle.std.proofs.Common.{arith, ◌≡◌, ◌⊎◌, inl, inr, ℕ, ℤ, List, [], slice_get, Bool, true, false, cond, Option}
-use Rattle.std.proofs.Common.{Some, None, Ok, Err, Result, refl, ap, subst}
+use Rattle.std.proofs.Common.{Some, None, Ok, Err, Result, refl, sym, ap, subst}
 use Rattle.std.proofs.lemmas.Grind.{common_steps}
 use Rattle.sqlite.specs.declared.types.Value.{Value}
 use Rattle.sqlite.specs.declared.types.Value.TheVariants.{Null, Int}
@@ -13,7 +12,7 @@ use Rattle.sqlite.specs.Kind.TheVariants.{Integer}
 use Rattle.sqlite.specs.Source.{Source}
 use Rattle.sqlite.specs.Command.{Command}
 use Rattle.sqlite.specs.Command.TheVariants.{Insert, Update, Delete}
-use Rattle.sqlite.specs.Edit.{Edit, edit_of, taken_by, Applies}
+use Rattle.sqlite.specs.Edit.{Edit, edit_of, taken_by}
 use Rattle.sqlite.specs.Cast.{cast}
 use Rattle.sqlite.specs.Rowids.{Rowids}
 use Rattle.sqlite.specs.Rowids.TheVariants.{Chosen, Given}
@@ -27,8 +26,7 @@ use Rattle.sqlite_schema.specs.declared.program.Program.{Program}
 use Rattle.sqlite_rules.specs.Calls.{ids_of}
 use Rattle.sqlite.specs.State.{State, mode_of, Writes}
 use Rattle.sqlite_schema.specs.declared.schema.Keys.TheVariants.{Enforced}
-use Rattle.sqlite_rules.specs.Action.{works}
-use Rattle.sqlite.proofs.Callers.{one_step}
+use Rattle.thes_sql.proofs.ForeignKeyLemmas.{EditsTable, IsAlone}
 
 cond_same : (b : Bool) (x : Value) → cond b x x ≡ x
 cond_same true x = refl
@@ -50,10 +48,6 @@ value_unstopped (inr on) = on
 
 pub same_value : {B E : Type 0} {a b : B} → ◌≡◌ {A = Result B E} (Ok a) (Ok b) → a ≡ b
 same_value e = cc
-
--- No foreign key acts when rows of the table are removed.
-abbrev pub IsQuietTable : Schema → Table → Type 0
-IsQuietTable schema table = (olds news : List Row) → works schema Enforced 0 table.tree olds news ≡ []
 
 count_same : (task : Task) (db next : Trees) (c : Option Row) (top : _) → task.table.is_counted ≡ false
     → Counts task db c top (Ok next) → next ≡ db
@@ -100,7 +94,7 @@ read_then task q given db edit rows w h = grind (arith, common_steps)
 -- Assumes a statement on the table at this position of the schema.
 module _ (schema : Schema) (at : ℕ) (table : Table) (params : Row) (text : List ℕ) (old new : State) (count : ℕ)
     (has : old.now.schema ≡ schema) (is : slice_get schema.tables at ≡ Some table)
-    (quiet : IsQuietTable schema table) where
+    (alone : IsAlone schema table) where
   abbrev task : Task
   task = record { limit = old.step_limit; keys = Enforced; schema = schema; table = table; params = params }
 
@@ -118,20 +112,21 @@ module _ (schema : Schema) (at : ℕ) (table : Table) (params : Row) (text : Lis
       → (w : Written) × WritesRows task db command (Ok w) × (new.now ≡ record { schema = schema; trees = w.trees })
   written_rows command tally d = grind (arith, common_steps, conclusion_state)
 
-  -- The edit is applied without further edits by foreign keys.
+  -- The edit is applied, and no foreign key changes another table of the store.
   edit_applied : (ids : List ℤ) (how : Rowids) (skip : ℕ) (rows : List Row) (next : Trees)
       → Edited schema Enforced db (edit_of db table ids how skip rows) (Ok next)
       → new.now ≡ record { schema = schema; trees = next }
-      → (new.now.schema ≡ schema) × Applies schema Enforced db (edit_of db table ids how skip rows) new.now.trees
+      → (new.now.schema ≡ schema) × EditsTable db (edit_of db table ids how skip rows) new.now.trees
   edit_applied ids how skip rows next did now =
-      let edit = edit_of db table ids how skip rows in
-      let one = one_step schema Enforced db next edit (quiet (taken_by db edit) edit.news) did in
-      grind (arith, common_steps)
+      let one = alone db next (edit_of db table ids how skip rows) refl did in (
+        ap (λ (d : Database). d.schema) now,
+        subst (λ (d : Database). EditsTable db (edit_of db table ids how skip rows) d.trees) (sym now) one,
+      )
 
   pub insert_effect : (from : Source) → table.is_counted ≡ false → Writes old new None (Insert at from) text params
       count
       → (rows : List Row) × Sourced old.step_limit database_before (stamped table params) from (Ok rows)
-      × (new.now.schema ≡ schema) × Applies schema Enforced db (edit_of db table [] Chosen 0 rows) new.now.trees
+      × (new.now.schema ≡ schema) × EditsTable db (edit_of db table [] Chosen 0 rows) new.now.trees
   insert_effect from uncounted w =
       let done = written_rows (Insert at from) w.tally (in_schema schema (Insert at from) params text old new count
       has w) in
@@ -141,7 +136,7 @@ module _ (schema : Schema) (at : ℕ) (table : Table) (params : Row) (text : Lis
 
   pub update_effect : (q : Program) → Writes old new None (Update at q) text params count
       → (rows : List Row) × Answers database_before q params rows × (new.now.schema ≡ schema)
-      × Applies schema Enforced db (edit_of db table (ids_of rows) Given 1 rows) new.now.trees
+      × EditsTable db (edit_of db table (ids_of rows) Given 1 rows) new.now.trees
   update_effect q w =
       let done = written_rows (Update at q) w.tally (in_schema schema (Update at q) params text old new count has w) in
       let there = read_then task q params db (λ rows. edit_of db table (ids_of rows) Given 1 rows)
@@ -151,7 +146,7 @@ module _ (schema : Schema) (at : ℕ) (table : Table) (params : Row) (text : Lis
 
   pub delete_effect : (q : Program) → Writes old new None (Delete at q) text params count
       → (rows : List Row) × Answers database_before q params rows × (new.now.schema ≡ schema)
-      × Applies schema Enforced db (edit_of db table (ids_of rows) Given 0 []) new.now.trees
+      × EditsTable db (edit_of db table (ids_of rows) Given 0 []) new.now.trees
   delete_effect q w =
       let done = written_rows (Delete at q) w.tally (in_schema schema (Delete at q) params text old new count has w) in
       let there = read_then task q params db (λ rows. edit_of db table (ids_of rows) Given 0 [])

@@ -8,8 +8,9 @@ use Rattle.thes_tables.specs.declared.cells.Cell.TheVariants.{Text}
 use Rattle.thes_tables.specs.Cells.{number_cell}
 use Rattle.thes_tables.specs.OldRows.{is_broader, untyped_row, tables_after_migration}
 use Rattle.thes_tables.specs.Tables.{Tables}
+use Rattle.thes_sql.specs.Additions.{IsStoreSchema}
 use Rattle.thes_sql.specs.Schema.{schema_up_to_move, store_schema}
-use Rattle.thes_sql.specs.StoredRows.{Keeps, keyed_row, values, HoldResources, HoldOutside, HoldPostings, HoldMoves}
+use Rattle.thes_sql.specs.StoredRows.{KeepsIn, keyed_row, values, HoldResources, HoldOutside, HoldPostings, HoldMoves}
 use Rattle.thes_sql.specs.StoredRows.{AreHidden, ArePostingsNumbered, AreSpelled, label_values, link_values}
 use Rattle.thes_sql.specs.StoredRows.{hier_values}
 
@@ -38,12 +39,18 @@ pub record KeepsOld (db : Database) (t : Tables) : Type 0 where
   pub schema : db.schema ≡ old_schema
   pub hold : HoldAs 1 db.trees t
 
--- The database is a store in the middle of its migration: it has the schema of version 2 and these tables, and table
--- meta has this version.
+-- The database has the schema of version 2, perhaps with a user's additions, and these tables, and table meta has this
+-- version.
 pub record KeepsAs (version : ℕ) (db : Database) (t : Tables) : Type 0 where
-  pub schema : db.schema ≡ store_schema
+  pub schema : IsStoreSchema db.schema
   pub hold : HoldAs version db.trees t
   pub hier : AreHidden hier_values t.hier (db.trees 11)
+
+-- The database is a store in the middle of its migration, with these tables: it has the schema of version 2 without
+-- additions, and table meta still has version 1.
+pub record IsMigrating (db : Database) (t : Tables) : Type 0 where
+  pub schema : db.schema ≡ store_schema
+  pub keeps : KeepsAs 1 db t
 
 -- The tables after table hier was created: it is empty.
 abbrev pub tables_with_empty_hier : Tables → Tables
@@ -60,23 +67,23 @@ IsOldStore t db = KeepsOld db t
 
 -- The migration has created table hier, which is empty.
 abbrev pub HasEmptyHier : Tables → Database → Type 0
-HasEmptyHier t db = KeepsAs 1 db (tables_with_empty_hier t)
+HasEmptyHier t db = IsMigrating db (tables_with_empty_hier t)
 
 -- The migration has copied the links of kind broader into table hier.
 abbrev pub HasCopiedLinks : Tables → Database → Type 0
-HasCopiedLinks t db = KeepsAs 1 db (tables_with_copied_links t)
+HasCopiedLinks t db = IsMigrating db (tables_with_copied_links t)
 
 -- The migration has deleted the links of kind broader from table link; table meta still has version 1.
 abbrev pub HasMovedLinks : Tables → Database → Type 0
-HasMovedLinks t db = KeepsAs 1 db (tables_after_migration t)
+HasMovedLinks t db = IsMigrating db (tables_after_migration t)
 
 -- The database is a store of version 2 with the migrated tables.
 abbrev pub IsMigratedStore : Tables → Database → Type 0
-IsMigratedStore t db = Keeps db (tables_after_migration t)
+IsMigratedStore t db = KeepsIn store_schema db (tables_after_migration t)
 
--- The database has the schema of version 1 or of version 2.
+-- The database has the schema of version 1, or that of version 2, perhaps with a user's additions.
 abbrev pub HasKnownSchema : Database → Type 0
-HasKnownSchema db = (db.schema ≡ store_schema) ⊎ (db.schema ≡ old_schema)
+HasKnownSchema db = IsStoreSchema db.schema ⊎ (db.schema ≡ old_schema)
 
 -- The database has a schema of either version, and the only row of table meta has this version and this base.
 abbrev pub IsStoreOfVersion : ℕ → List ℕ → Database → Type 0

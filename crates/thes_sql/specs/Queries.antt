@@ -24,12 +24,12 @@ abbrev pub reads_rows : Statement → Bool
 reads_rows (Select s) = true
 reads_rows _ = false
 
--- The text is a query that doesn't read the time.
+-- What parsing a text gives is a query that doesn't read the time; an error isn't one.
 abbrev pub is_query_text : Result Parsed CompileError → Bool
 is_query_text (Ok p) = reads_rows p.statement && length p.formats == 0
 is_query_text (Err e) = false
 
--- The text has no parameters, and nothing comes after its statement.
+-- What parsing a text of this size gives has no parameters, and nothing comes after its statement; an error isn't one.
 abbrev pub is_whole_text : ℕ → Result Parsed CompileError → Bool
 is_whole_text size (Ok p) = length p.names == 0 && leb size p.tail
 is_whole_text size (Err e) = false

@@ -19,7 +19,7 @@ use Rattle.thes_tables.specs.declared.rows.MoveRow.{MoveRow}
 use Rattle.thes_tables.specs.Tables.{Tables}
 use Rattle.thes_tables.specs.Cells.{meta_cells, resource_rows, outside_cells, label_cells, link_cells, hier_cells}
 use Rattle.thes_tables.specs.Cells.{posting_cells, move_cells, number_cell}
-use Rattle.thes_sql.specs.Schema.{store_schema}
+use Rattle.thes_sql.specs.Additions.{IsStoreSchema}
 use Rattle.thes_sql.specs.StoredRows.{Keeps, values}
 
 -- The number of the tree in which the database stores a table.
@@ -48,9 +48,9 @@ places_of table.Move = 0 ∷ 2 ∷ 3 ∷ 4 ∷ []
 abbrev pub rows_in_trees : Table → Trees → List Row
 rows_in_trees p db = map (λ (row : Row). map (column row) (places_of p)) (db (tree_of p))
 
--- The database has the schema of a store, and the rows of each tree are sorted by rowid.
+-- The database has the schema of a store, perhaps with a user's additions, and the rows of each tree are sorted by rowid.
 pub record IsReadable (db : Database) : Type 0 where
-  pub schema : db.schema ≡ store_schema
+  pub schema : IsStoreSchema db.schema
   pub ordered : (p : Table) → IsTable (db.trees (tree_of p))
 
 -- The cells of all rows of a table, in order.

@@ -4,6 +4,7 @@ use Rattle.std.specs.List.{AllByRecursion}
 use Rattle.sqlite.specs.declared.types.Value.{Value}
 use Rattle.sqlite.specs.declared.types.Value.TheVariants.{Null, Int, Text as Words, Blob}
 use Rattle.sqlite.specs.Order.{Row}
+use Rattle.sqlite.specs.Schema.{Schema}
 use Rattle.sqlite.specs.Tree.{Trees}
 use Rattle.sqlite.specs.Effect.{Database}
 use Rattle.thes_base.specs.declared.data.Resource.{Resource}
@@ -17,7 +18,7 @@ use Rattle.thes_tables.specs.declared.cells.Cell.TheVariants as cells
 use Rattle.thes_tables.specs.Tables.{Tables}
 use Rattle.thes_tables.specs.Cells.{resource_cells, label_cells, link_cells, hier_cells, posting_cells, move_cells}
 use Rattle.thes_tables.specs.Cells.{outside_cells, meta_cells}
-use Rattle.thes_sql.specs.Schema.{store_schema}
+use Rattle.thes_sql.specs.Additions.{IsStoreSchema}
 
 -- The SQL value of a cell.
 abbrev pub value_of : Cell → Value
@@ -145,7 +146,13 @@ pub record Hold (db : Trees) (t : Tables) : Type 0 where
   pub move : HoldMoves t.move (db 10)
   pub spelled : AreSpelled t
 
--- The database is a store with these tables: it has the schema of version 2, and its trees hold them.
+-- The database is a store with these tables: it has the schema of version 2, perhaps with a user's additions, and its
+-- trees hold them.
 pub record Keeps (db : Database) (t : Tables) : Type 0 where
-  pub schema : db.schema ≡ store_schema
+  pub schema : IsStoreSchema db.schema
   pub hold : Hold db.trees t
+
+-- The database is a store with these tables, and has this schema: `store_schema`, if it has no additions.
+pub record KeepsIn (schema : Schema) (db : Database) (t : Tables) : Type 0 where
+  pub schema_is : db.schema ≡ schema
+  pub keeps : Keeps db t

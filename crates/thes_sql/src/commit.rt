@@ -2,7 +2,7 @@
 ghost use Rattle.std.specs.Prelude.{◌≡◌, IfOk, IsTrue};
 ghost use Rattle.thes_tables.specs.Tables.{Tables};
 ghost use Rattle.thes_tables.specs.Rows.{tables_after_delta, DeltaFits};
-ghost use Rattle.thes_sql.specs.StoredRows.{Keeps, Hold};
+ghost use Rattle.thes_sql.specs.StoredRows.{Keeps, KeepsIn, Hold};
 ghost use Rattle.thes_sql.specs.TransactionEffects.{AppliesChanges, SucceedsInside, StaysInside, IsOwnTransaction};
 ghost use Rattle.sqlite.specs.State.{HasCleanDisk, Survives};
 ghost use Rattle.sqlite.specs.Held.{state};
@@ -29,8 +29,10 @@ fn apply_all<S: Alter>(tx: &mut Transaction<'_, S>, changes: &[Change]) -> Resul
 pub fn commit_all<S: Alter>(conn: &mut Connection<S>, changes: &[Change]) -> Result<bool, Error>
     ensures all { HasCleanDisk (state S.Store conn.new) → IfOk result (λ done. IsTrue done
         → (t : Tables) → Keeps (state S.Store conn.old).now t → DeltaFits changes.now t
-        → Keeps (state S.Store conn.new).committed (tables_after_delta changes.now t)
-        × Keeps (state S.Store conn.new).now (tables_after_delta changes.now t)) }
+        → KeepsIn (state S.Store conn.old).now.schema (state S.Store conn.new).committed
+        (tables_after_delta changes.now t)
+        × KeepsIn (state S.Store conn.old).now.schema (state S.Store conn.new).now
+        (tables_after_delta changes.now t)) }
     ensures own { IsOwnTransaction S.Store conn.old conn.new result }
     ensures crash { Survives (state S.Store conn.old) (state S.Store conn.new)
         (λ trees. (t : Tables) → Keeps (state S.Store conn.old).now t → DeltaFits changes.now t

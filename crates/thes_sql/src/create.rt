@@ -2,7 +2,7 @@
 ghost use Rattle.std.specs.Prelude.{◌≡◌, ◌∷◌, [], IfOk, IsTrue};
 ghost use Rattle.thes_tables.specs.Tables.{empty_tables};
 ghost use Rattle.thes_sql.specs.Schema.{empty_schema, schema_without_indexes, store_schema};
-ghost use Rattle.thes_sql.specs.StoredRows.{Keeps, Hold};
+ghost use Rattle.thes_sql.specs.StoredRows.{KeepsIn, Hold};
 ghost use Rattle.thes_sql.specs.OldStore.{old_schema, IsOldStore, HasEmptyHier};
 ghost use Rattle.thes_sql.specs.TransactionEffects.{IsEmpty, Transforms, TransformsTables, ExtendsSchema, RunsOrFailsToCompile, SucceedsInside, StaysInside, IsOwnTransaction};
 ghost use Rattle.sqlite.specs.State.{HasCleanDisk, Survives};
@@ -97,7 +97,7 @@ pub(crate) fn define_newer<S: Alter>(tx: &mut Transaction<'_, S>) -> Result<(), 
 fn add_meta<S: Alter>(tx: &mut Transaction<'_, S>, base: &Base) -> Result<usize, Error>
     ensures same_reference { tx.new.conn.ghost_name ≡ tx.old.conn.ghost_name }
     ensures does { SucceedsInside S.Store
-        (Transforms (IsEmpty store_schema) (λ db. Keeps db (empty_tables base.now)))
+        (Transforms (IsEmpty store_schema) (λ db. KeepsIn store_schema db (empty_tables base.now)))
         tx.old.conn tx.new.conn result }
     ensures stays { StaysInside S.Store tx.old.conn tx.new.conn }
 {
@@ -111,7 +111,7 @@ fn add_meta<S: Alter>(tx: &mut Transaction<'_, S>, base: &Base) -> Result<usize,
 fn create_all<S: Alter>(tx: &mut Transaction<'_, S>, base: &Base) -> Result<(), Error>
     ensures same_reference { tx.new.conn.ghost_name ≡ tx.old.conn.ghost_name }
     ensures does { SucceedsInside S.Store
-        (Transforms (IsEmpty empty_schema) (λ db. Keeps db (empty_tables base.now)))
+        (Transforms (IsEmpty empty_schema) (λ db. KeepsIn store_schema db (empty_tables base.now)))
         tx.old.conn tx.new.conn result }
     ensures stays { StaysInside S.Store tx.old.conn tx.new.conn }
 {
@@ -126,8 +126,8 @@ fn create_all<S: Alter>(tx: &mut Transaction<'_, S>, base: &Base) -> Result<(), 
 pub fn create_tables<S: Alter>(conn: &mut Connection<S>, base: &Base) -> Result<bool, Error>
     ensures all { HasCleanDisk (state S.Store conn.new) → IfOk result (λ done. IsTrue done
         → IsEmpty empty_schema (state S.Store conn.old).now
-        → Keeps (state S.Store conn.new).committed (empty_tables base.now)
-        × Keeps (state S.Store conn.new).now (empty_tables base.now)) }
+        → KeepsIn store_schema (state S.Store conn.new).committed (empty_tables base.now)
+        × KeepsIn store_schema (state S.Store conn.new).now (empty_tables base.now)) }
     ensures own { IsOwnTransaction S.Store conn.old conn.new result }
     ensures crash { IsEmpty empty_schema (state S.Store conn.old).now
         → Survives (state S.Store conn.old) (state S.Store conn.new)

@@ -1,4 +1,4 @@
-//! Creates, reads, changes and migrates the tables of a store in a database.
+//! The SQL statements that create, read, change and migrate a store's tables.
 #![tactic(auto)]
 
 pub mod commit;

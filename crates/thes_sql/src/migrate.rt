@@ -2,7 +2,8 @@
 ghost use Rattle.std.specs.Prelude.{◌≡◌, ◌≤◌, IfOk, IsTrue};
 ghost use Rattle.thes_tables.specs.OldRows.{tables_after_migration};
 ghost use Rattle.thes_tables.specs.Tables.{Tables};
-ghost use Rattle.thes_sql.specs.StoredRows.{Keeps, Hold};
+ghost use Rattle.thes_sql.specs.Schema.{store_schema};
+ghost use Rattle.thes_sql.specs.StoredRows.{KeepsIn, Hold};
 ghost use Rattle.thes_sql.specs.OldStore.{KeepsOld, IsOldStore, HasEmptyHier, HasCopiedLinks, HasMovedLinks, IsMigratedStore};
 ghost use Rattle.thes_sql.specs.TransactionEffects.{TransformsTables, SucceedsInside, StaysInside, IsOwnTransaction};
 ghost use Rattle.sqlite.specs.State.{HasCleanDisk, Survives};
@@ -76,8 +77,8 @@ fn migrate_all<S: Alter>(tx: &mut Transaction<'_, S>) -> Result<(), Error>
 pub fn migrate_tables<S: Alter>(conn: &mut Connection<S>) -> Result<bool, Error>
     ensures all { HasCleanDisk (state S.Store conn.new) → IfOk result (λ done. IsTrue done
         → (t : Tables) → KeepsOld (state S.Store conn.old).now t
-        → Keeps (state S.Store conn.new).committed (tables_after_migration t)
-        × Keeps (state S.Store conn.new).now (tables_after_migration t)) }
+        → KeepsIn store_schema (state S.Store conn.new).committed (tables_after_migration t)
+        × KeepsIn store_schema (state S.Store conn.new).now (tables_after_migration t)) }
     ensures own { IsOwnTransaction S.Store conn.old conn.new result }
     ensures clean { doubt (state S.Store conn.old).is_clean
         ≤ doubt (state S.Store conn.new).is_clean }

@@ -2,6 +2,7 @@
 ghost use Rattle.std.specs.Prelude.{◌≡◌, false, IsTrue};
 ghost use Rattle.sqlite.specs.Held.{state};
 ghost use Rattle.sqlite.specs.State.{HasCleanDisk};
+ghost use Rattle.thes_sql.specs.Queries.{IsQuery};
 ghost use Rattle.thes_sql.specs.Reads.{LeavesTables};
 
 use crate::values::{hier_values, label_values, link_values};
@@ -29,13 +30,18 @@ fn has_row<S: Alter>(
     conn: &mut Connection<S>,
     sql: &str,
     params: &[ValueRef<'_>],
-) -> Result<bool, Error> {
+) -> Result<bool, Error>
+    requires { IsQuery sql.now }
+    ensures leaves { LeavesTables S.Store conn.old conn.new }
+{
     Ok(!conn.query_all(sql, params)?.is_empty())
 }
 
 // Checks whether the table label, link or hier has the row that a change inserts or deletes there;
 // false for a change of another table.
-fn has_listed<S: Alter>(conn: &mut Connection<S>, change: &Change) -> Result<bool, Error> {
+fn has_listed<S: Alter>(conn: &mut Connection<S>, change: &Change) -> Result<bool, Error>
+    ensures leaves { LeavesTables S.Store conn.old conn.new }
+{
     match change {
         Change::AddLabel(row) | Change::DropLabel(row) => has_row(
             conn,
@@ -58,7 +64,10 @@ fn has_listed<S: Alter>(conn: &mut Connection<S>, change: &Change) -> Result<boo
 
 /// Checks whether a database shows a change of one row, given that it didn't before. Returns false
 /// for a change of places, `SetPlace` or `MoveAll`.
-pub fn has_change<S: Alter>(conn: &mut Connection<S>, change: &Change) -> Result<bool, Error> {
+#[tactic(auto, using(crate::proofs::OutcomeTextLemmas::resource_row_is_query, crate::proofs::OutcomeTextLemmas::dead_row_is_query, crate::proofs::OutcomeTextLemmas::outside_row_is_query, crate::proofs::OutcomeTextLemmas::posting_row_is_query, crate::proofs::OutcomeTextLemmas::withdrawn_row_is_query, crate::proofs::OutcomeTextLemmas::move_row_is_query))]
+pub fn has_change<S: Alter>(conn: &mut Connection<S>, change: &Change) -> Result<bool, Error>
+    ensures leaves { LeavesTables S.Store conn.old conn.new }
+{
     match change {
         Change::AddResource(n, _) => has_row(
             conn,

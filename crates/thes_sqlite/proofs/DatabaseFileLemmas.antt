@@ -21,7 +21,7 @@ use Rattle.sqlite.specs.Start.{FindsIn}
 use Rattle.sqlite.specs.State.{State, IsLive, Opens}
 use Rattle.thes_tables.specs.Tables.{Tables}
 use Rattle.thes_sql.specs.Schema.{empty_schema}
-use Rattle.thes_sql.specs.StoredRows.{Keeps}
+use Rattle.thes_sql.specs.StoredRows.{KeepsIn}
 use Rattle.thes_sqlite.specs.DatabaseFiles.{ClosesFiles, HoldsStore, IsNewFile, OpensFiles}
 
 -- The trees of a database determine its schema.
@@ -53,10 +53,10 @@ pub opens_files : (image : Image) (s : State) → FindsIn image s → Opens s �
 opens_files image s found opened live = record {
   finds = found;
   settled = opened.clean;
-  serves = λ t store.
+  serves = λ schema t store.
       let trees : s.committed.trees ≡ store.database.trees = ∥∥₁_elim store.files_hold (Trees-set _ _) (found.holds _)
       in
-      subst (λ (d : Database). Keeps d t)
+      subst (λ (d : Database). KeepsIn schema d t)
       (sym (opened.clean ∙ same_database s.committed store.database (live opened.is_open).1 store.sound trees))
       store.keeps;
   empty = new_is_empty image s found opened.clean (live opened.is_open).1;
@@ -67,18 +67,18 @@ pub closes_files : {D : Type 0} {g : disk.Ghosts D} (c : Held (FileStore D g)) (
     → IsCopied c files → ClosesFiles g (file_state c) files
 closes_files {D} {g} c files live copied = record {
   was_up = (copied.was_clean, copied.was_open);
-  holds = λ settled t keeps. held settled t keeps (image_of g files) copied.seen;
-  crash = λ settled t keeps image may. held settled t keeps image (copied.left image may);
+  holds = λ settled schema t keeps. held settled schema t keeps (image_of g files) copied.seen;
+  crash = λ settled schema t keeps image may. held settled schema t keeps image (copied.left image may);
 }
   where
     s : State
     s = file_state c
 
-    held : s.now ≡ s.committed → (t : Tables) → Keeps s.now t → (image : Image) → HoldsAlone image s.committed.trees
-        → HoldsStore image t
-    held settled t keeps image holds = record {
+    held : s.now ≡ s.committed → (schema : Schema) (t : Tables) → KeepsIn schema s.now t → (image : Image)
+        → HoldsAlone image s.committed.trees → HoldsStore image schema t
+    held settled schema t keeps image holds = record {
       database = s.committed;
       files_hold = holds.both;
       sound = (live copied.was_open).1;
-      keeps = subst (λ (d : Database). Keeps d t) settled keeps;
+      keeps = subst (λ (d : Database). KeepsIn schema d t) settled keeps;
     }

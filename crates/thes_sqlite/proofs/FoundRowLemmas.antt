@@ -13,7 +13,6 @@ use Rattle.thes_tables.specs.declared.cells.Cell.{Cell}
 use Rattle.thes_tables.specs.Cells.{Raw, RawTable}
 use Rattle.thes_sql.specs.Declarations.{declares}
 use Rattle.thes_sql.specs.Reads.{LeavesTables}
-use Rattle.thes_sql.proofs.DeclarationLemmas.{store_declares}
 use Rattle.thes_store.specs.FoundLoads.{PassesFound}
 use Rattle.thes_store.specs.Sinks.{SinkAcceptsAll, sink_rows_of_table, sink_rows_of_tables}
 use Rattle.thes_tables.specs.TableOrder.{raw_rows_of, table_order}
@@ -63,7 +62,7 @@ module _ {R : Type 0} (gives : R → Table × Option (List Cell) → Result (Uni
       (r : Result (Unit {0}) Fault) → declares (state g old).now.schema p ≡ false → gives before (p, None) r after
       → YieldsTable g gives p old new before r after
   undeclared_yielded g p old new before after r undeclared took = record {
-    rows = λ clean is. absurd (cc (store_declares p));
+    rows = λ clean is. let declared = is.schema.declared p in absurd (cc);
     content = λ clean. none_passed p (state g old).now before after r took (inl undeclared);
   }
 

@@ -1,18 +1,21 @@
 -- Proves that each call of the storage keeps its invariant, and that a commit applies its changes
 -- to the rows.
 use Rattle.std.proofs.lemmas.Grind.{common_steps}
-use Rattle.std.proofs.Common.{arith, ◌≡◌, ℕ, ◌+◌, List, [], ◌∷◌, map, Bool, Option, None, Some, Result}
+use Rattle.std.proofs.Common.{arith, inl, inr, pos, ◌≡◌, ℕ, ◌+◌, List, [], ◌∷◌, map, Bool, Option, None, Some, Result}
 use Rattle.std.proofs.Common.{false, Ok, Err, refl, sym, ap, subst, ◌∙◌, IsTrue}
 use Rattle.std.specs.Prelude.{IsUtf8}
 use Rattle.std.specs.List.{AllByRecursion}
 use Rattle.sqlite.specs.Order.{Row, column}
 use Rattle.sqlite.specs.declared.types.Value.{Value}
+use Rattle.sqlite.specs.declared.types.Value.TheVariants.{Int}
 use Rattle.sqlite.specs.Tree.{Trees}
 use Rattle.sqlite.specs.Effect.{Database}
 use Rattle.sqlite.specs.State.{State, HasCleanDisk, Survives}
 use Rattle.sqlite.specs.Held.{Held, state}
 use Rattle.sqlite.specs.declared.error.Error.{Error}
+use Rattle.sqlite_trees.specs.Tree.{IsTable, rowid}
 use Rattle.sqlite_trees.specs.declared.store.Store.{Ghosts}
+use Rattle.thes_base.specs.declared.fault.Table.{Table}
 use Rattle.thes_base.specs.declared.fault.Table.TheVariants as table
 use Rattle.thes_base.specs.declared.data.Resource.{Resource}
 use Rattle.thes_base.specs.Labels.{Label, label_kind_no}
@@ -25,11 +28,12 @@ use Rattle.thes_tables.specs.Cells.{cells_of_tables, number_cell, flag_cell, res
 use Rattle.thes_tables.specs.Cells.{resource_rows, meta_cells, outside_cells, label_cells, link_cells, hier_cells}
 use Rattle.thes_tables.specs.Cells.{posting_cells, move_cells}
 use Rattle.thes_tables.proofs.CellLemmas.{listed_one}
-use Rattle.thes_sql.specs.StoredRows.{Keeps, Hold, AreHidden, hidden_row, value_of, numbered_from, stored_resource}
+use Rattle.thes_sql.specs.StoredRows.{Keeps, KeepsIn, Hold, AreKeyed, AreHidden, hidden_row, value_of, numbered_from}
+use Rattle.thes_sql.specs.StoredRows.{stored_resource}
 use Rattle.thes_sql.specs.StoredRows.{stored_outside, stored_posting, stored_move, label_values, link_values}
 use Rattle.thes_sql.specs.StoredRows.{hier_values, stored_meta, IsSpelledOutside, IsSpelledLabel, IsSpelledPosting}
 use Rattle.thes_sql.specs.TransactionEffects.{IsOwnTransaction}
-use Rattle.thes_sql.specs.Reads.{places_of, IsReadable, LeavesTables}
+use Rattle.thes_sql.specs.Reads.{places_of, tree_of, IsReadable, LeavesTables}
 use Rattle.thes_sql.proofs.KeyedRowLemmas.{is_table}
 use Rattle.thes_sqlite.specs.KeeperView.{raw_in, raw_of_keeper, KeeperView, IsKeeperUp, IsUp, HasCommittedTables}
 use Rattle.thes_sqlite.specs.KeeperView.{IsStore, IsKeeperState, LeavesEither, LeavesAfter}
@@ -126,9 +130,28 @@ raw_of db t h =
       move = Some (move i);
     }
 
+keyed_in_order : {A : Type 0} (stored : A → Row) (num : A → ℕ) → ((x : A) → rowid (stored x) ≡ Int (pos (num x)))
+    → (xs : List A) (tree : List Row) → AreKeyed stored num xs tree → IsTable tree
+keyed_in_order stored num is xs tree h = subst IsTable (sym h.rows) (is_table num stored is 0 xs h.rises)
+
+hidden_in_order : {A : Type 0} (of : A → List Value) (xs : List A) (tree : List Row) → AreHidden of xs tree
+    → IsTable tree
+hidden_in_order {A} of xs tree h =
+    keyed_in_order (hidden_row of) (λ (row : ℕ × A). row.0) (λ row. refl) h.given tree h.held
+
 -- A database that is a store is readable.
 pub readable_of : (db : Database) (t : Tables) → Keeps db t → IsReadable db
-readable_of db t k = grind (arith, common_steps, is_table)
+readable_of db t k = record { schema = k.schema; ordered = in_order }
+  where
+    in_order : (p : Table) → IsTable (db.trees (tree_of p))
+    in_order table.Meta = subst IsTable (sym k.hold.meta) (tt, tt)
+    in_order table.Resource = keyed_in_order stored_resource _ (λ row. refl) _ _ k.hold.resource
+    in_order table.Outside = keyed_in_order stored_outside _ (λ row. refl) _ _ k.hold.outside
+    in_order table.Label = hidden_in_order label_values t.label _ k.hold.label
+    in_order table.Link = hidden_in_order link_values t.link _ k.hold.link
+    in_order table.Hier = hidden_in_order hier_values t.hier _ k.hold.hier
+    in_order table.Posting = keyed_in_order stored_posting _ (λ row. refl) _ _ k.hold.posting
+    in_order table.Move = keyed_in_order stored_move _ (λ row. refl) _ _ k.hold.move
 
 pub before_read : {S : Type 0} (g : Ghosts S) (old new : Held S) → LeavesTables g old new → IsUp (state g new)
     → IsUp (state g old)
@@ -154,6 +177,25 @@ kept_of_raw g view old new same kept leaves known up t is =
     let s = kept.served known (before_read g view.conn new leaves up) in
     (holds_shown (state g view.conn) s t (ap (λ k. raw_of_keeper g k) same ∙ is), s.settled)
 
+-- A call that leaves the tables unchanged keeps the invariant.
+pub keeper_state_after_read : {S : Type 0} (g : Ghosts S) (first old new : Held S)
+    → IsKeeperState (state g first) (state g old) → LeavesTables g old new
+    → IsKeeperState (state g first) (state g new)
+keeper_state_after_read g first old new kept leaves = record {
+  autocommit = leaves.mode kept.autocommit;
+  served = λ known up.
+      let was = kept.served known (before_read g old new leaves up) in
+      let same = leaves.same up.0 up.1 was.settled in record {
+        settled = same.0 ∙ was.settled ∙ sym same.1;
+        keeps = (was.keeps.0, subst (λ (d : Database). Keeps d was.keeps.0) (sym same.0) was.keeps.1);
+      };
+  same = λ known up.
+      let before = before_read g old new leaves up in
+      let was = kept.served known before in
+      let schema = kept.same known before in
+      (schema.0, ap (λ (d : Database). d.schema) (leaves.same up.0 up.1 was.settled).0 ∙ schema.1);
+}
+
 pub up_before : (old new : State) {C : Trees → Type 0} → Survives old new C
     → (HasCleanDisk new → IsTrue new.is_open → IsTrue old.is_open) → IsUp new → IsUp old
 up_before old new s was up = (omega (arith, s.clean, up.0), was up.0 up.1)
@@ -174,16 +216,26 @@ raw_after_changes old t changes db kept made u e = raw_of db (tables_after_delta
 -- A transaction of fitting changes keeps the invariant, and applies the changes to the rows.
 pub keeper_state_after_commit : (first : State) (old new : State) (changes : List Change) → IsKeeperState first old
     → (IsUp new → IsUp old) → new.in_transaction ≡ old.in_transaction → FitsKeeper first changes old
-    → (IsUp new → (t : Tables) → Keeps old.now t → DeltaFits changes t → Keeps new.now (tables_after_delta changes t))
+    → (IsUp new → (t : Tables) → Keeps old.now t → DeltaFits changes t
+    → KeepsIn old.now.schema new.now (tables_after_delta changes t))
     → (IsUp new → new.now ≡ new.committed)
     → IsKeeperState first new × (IsStore first → IsUp new → RawAfterChanges changes (raw_in old.now.trees)
     (raw_in new.now.trees))
-keeper_state_after_commit first old new changes kept before mode fits did settled = grind (
-  arith,
-  common_steps,
-  raw_after_changes,
-  raw_of,
+keeper_state_after_commit first old new changes kept before mode fits did settled = (
+  record {
+    autocommit = mode ∙ kept.autocommit;
+    served = λ known up. record { settled = settled up; keeps = (_, (made known up).keeps) };
+    same = λ known up. let was = kept.same known (before up) in (was.0, (made known up).schema_is ∙ was.1);
+  },
+  λ known up. let tables = (kept.served known (before up)).keeps in
+      raw_after_changes old tables.0 changes new.now.trees tables.1 (made known up).keeps.hold,
 )
+  where
+    made : (known : IsStore first) (up : IsUp new) → KeepsIn old.now.schema new.now
+        (tables_after_delta changes (kept.served known (before up)).keeps.0)
+    made known up =
+        let tables = (kept.served known (before up)).keeps in
+        did up tables.0 tables.1 (fits known (before up) tables.0 (raw_of old.now.trees tables.0 tables.1.hold))
 
 abbrev pub IsSettled : State → Type 0
 IsSettled s = (db : Trees) → IsTrue s.is_open → s.may_leave db → db ≡ s.committed.trees
@@ -196,12 +248,15 @@ pub leaves_either : (first : State) (old new : State) (changes : List Change) �
     → IsSettled old → FitsKeeper first changes old → Survives old new
     (λ trees. (t : Tables) → Keeps old.now t → DeltaFits changes t → Hold trees (tables_after_delta changes t))
     → IsStore first → LeavesEither changes old new
-leaves_either first old new changes kept law fits s known clean opened t is db may = grind (
-  arith,
-  common_steps,
-  holds_shown,
-  left_trees,
-)
+leaves_either first old new changes kept law fits s known clean opened t is db may =
+    let up : IsUp old = (omega (arith, s.clean, clean), opened) in
+    let served = kept.served known up in
+    let keeps = holds_shown old served t is in
+    elim (s.crash clean db may) [
+      | inl before ↦ inl (subst (λ trees. Hold trees t) (sym (left_trees old served.settled up law db before))
+          keeps.hold)
+      | inr made ↦ inr (made t keeps (fits known up t is))
+    ]
 
 pub leaves_after : (first : State) (old new : State) (changes : List Change) → IsKeeperState first new → IsSettled new
     → (IsStore first → IsUp new → RawAfterChanges changes (raw_in old.now.trees) (raw_in new.now.trees))
@@ -232,8 +287,9 @@ module _ {S : Type 0} (g : Ghosts S) (view old : KeeperView S) (same : view ≡ 
   -- A successful transaction keeps the invariant and applies the changes, durably.
   pub is_done : {done : Bool} → IsOwnTransaction {E = Error} g view.conn new (Ok done)
       → (HasCleanDisk (state g new) → IsTrue done → (t : Tables) → Keeps (state g view.conn).now t
-      → DeltaFits changes t → Keeps (state g new).committed (tables_after_delta changes t)
-      × Keeps (state g new).now (tables_after_delta changes t)) → IsDone g view old changes new
+      → DeltaFits changes t → KeepsIn (state g view.conn).now.schema (state g new).committed (tables_after_delta changes t)
+      × KeepsIn (state g view.conn).now.schema (state g new).now (tables_after_delta changes t))
+      → IsDone g view old changes new
   is_done own all =
       let both = keeper_state_after_commit (state g view.first) (state g view.conn) (state g new) changes kept
       (up_before (state g view.conn) (state g new) crash own.was)

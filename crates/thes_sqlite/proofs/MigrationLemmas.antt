@@ -1,6 +1,6 @@
 -- Proves the verdict of a migration on a database, and the state that the migration leaves.
 use Rattle.std.proofs.lemmas.Grind.{common_steps}
-use Rattle.std.proofs.Common.{◌<◌, IsTrue, arith, inl, inr, ◌≡◌, ◌⊎◌, ◌≤◌, ℕ, List, [], ◌∷◌, refl, sym}
+use Rattle.std.proofs.Common.{◌<◌, IsTrue, arith, inl, inr, ◌≡◌, ◌⊎◌, ◌≤◌, ℕ, List, [], ◌∷◌, refl, sym, ap}
 use Rattle.std.proofs.Common.{subst, ◌∙◌, Result, Ok, Err, OnOk, Bool, true, false, Some, Option}
 use Rattle.sqlite.specs.Order.{Row}
 use Rattle.sqlite.specs.Tree.{Trees}
@@ -22,7 +22,8 @@ use Rattle.thes_tables.proofs.CellLemmas.{head_one, tail_one, number_one}
 use Rattle.thes_load_rules.specs.Rules.{state_of}
 use Rattle.thes_load_rules.specs.Verdicts.{HasVerdict}
 use Rattle.thes_load_rules.proofs.LegalTableLemmas.{held_loads}
-use Rattle.thes_sql.specs.StoredRows.{Keeps, Hold}
+use Rattle.thes_sql.specs.Schema.{store_schema}
+use Rattle.thes_sql.specs.StoredRows.{Keeps, KeepsIn, Hold}
 use Rattle.thes_sql.specs.OldStore.{KeepsOld, version_row}
 use Rattle.thes_sql.specs.Queries.{Finds, IsStoreFault, FailsToFind}
 use Rattle.thes_tables.specs.OldRows.{tables_after_migration}
@@ -32,10 +33,11 @@ use Rattle.thes_sql.proofs.SelectLemmas.{version_found}
 use Rattle.thes_sql.proofs.KnownSchemaLemmas.{knows_links, misses_hier}
 use Rattle.thes_tables.proofs.OldRowLemmas.{migration_law}
 use Rattle.thes_sqlite.specs.Faults.{IsKeeperFault, HasFailed, error_fault}
-use Rattle.thes_sqlite.specs.KeeperView.{IsUp, raw_in, IsStore}
+use Rattle.thes_sqlite.specs.KeeperView.{IsUp, raw_in, raw_of_keeper, IsStore, IsKeeperState, IsKeeperUp}
+use Rattle.thes_sqlite.specs.KeeperView.{KeeperView}
 use Rattle.thes_sqlite.specs.MigrationEffects.{IsMigrateFault, HasMetaVersion, IsMetaVerdict, IsVerdictOn}
 use Rattle.thes_sqlite.specs.MigrationEffects.{IsVersionVerdict, IsMigrationVerdict, Judges, meta_fault_of}
-use Rattle.thes_sqlite.specs.MigrationEffects.{IsUnwritten, Migrates}
+use Rattle.thes_sqlite.specs.MigrationEffects.{IsUnwritten, Migrates, ServesRows}
 use Rattle.thes_sqlite.specs.MigrationLaws.{HoldsOldState, HoldsState, MigratesState, MigratesStates}
 use Rattle.thes_sqlite.proofs.KeeperLemmas.{raw_of}
 
@@ -220,7 +222,8 @@ module _ {S : Type 0} (g : Ghosts S) (old mid new : Held S) (idle : old.in_trans
     mid_idle = leaves.tables.mode idle
 
     pub migration_succeeds : (HasCleanDisk (state g new) → (t : Tables) → KeepsOld (state g mid).now t
-        → Keeps (state g new).committed (tables_after_migration t) × Keeps (state g new).now (tables_after_migration t))
+        → KeepsIn store_schema (state g new).committed (tables_after_migration t)
+        × KeepsIn store_schema (state g new).now (tables_after_migration t))
         → Migrates g old new (Ok 2)
     migration_succeeds made = record {
       idle = own.mode ∙ mid_idle;
@@ -259,12 +262,39 @@ module _ {S : Type 0} (g : Ghosts S) (old mid new : Held S) (idle : old.in_trans
 -- After its migration, a store of version 1 is served as a store of version 2.
 pub serves_migrated : {S : Type 0} (g : Ghosts S) (old new first : Held S) → first ≡ new → (version : ℕ)
     → Migrates g old new (Ok version) → IsUp (state g new) → (t : Tables) → KeepsOld (state g old).now t
-    → (IsStore (state g first) × IsUp (state g new))
-    × (raw_in (state g new).now.trees ≡ cells_of_tables (tables_after_migration t))
-serves_migrated g old new first is version m up t was = (
-  (grind (arith, common_steps)),
-  raw_of (state g new).now.trees (tables_after_migration t) (m.made up.0 t was).1.hold,
-)
+    → (failures : ℕ) → ServesRows g (record { conn = new; failures = failures; first = first }) store_schema
+    (cells_of_tables (tables_after_migration t))
+serves_migrated g old new first is version m up t was failures =
+    let made = m.made up.0 t was in
+    let settled = m.settled up in
+    let serves : IsStore (state g new) = λ now. record { settled = settled; keeps = (_, made.1.keeps) } in record {
+      is_up = (subst (λ (h : Held _). IsStore (state g h)) (sym is) serves, up);
+      schema_is = ap (λ (h : Held _). (state g h).now.schema) is ∙ made.1.schema_is;
+      rows_are = raw_of (state g new).now.trees (tables_after_migration t) made.1.keeps.hold;
+    }
+
+-- A store of version 2 is served as before, with the schema that it had at the start.
+pub serves_current : {S : Type 0} (g : Ghosts S) (old : KeeperView S) (new first : Held S) → first ≡ new
+    → (version failures : ℕ) → IsKeeperState (state g old.first) (state g old.conn)
+    → Migrates g old.conn new (Ok version) → IsKeeperUp g old → IsUp (state g new)
+    → IsUp (state g old.first) × ServesRows g (record { conn = new; failures = failures; first = first })
+    (state g old.first).now.schema (raw_of_keeper g old)
+serves_current g old new first is version failures kept m was up =
+    let served = kept.served was.0 was.1 in
+    let same = kept.same was.0 was.1 in
+    let tables = served.keeps.0 in
+    let unwritten : (state g new).now ≡ (state g old.conn).now = (m.current up.0 tables served.keeps.1).0 in
+    let keeps : Keeps (state g new).now tables =
+    subst (λ (d : Database). Keeps d tables) (sym unwritten) served.keeps.1 in
+    let settled = m.settled up in
+    let serves : IsStore (state g new) = λ now. record { settled = settled; keeps = (tables, keeps) } in (
+      same.0,
+      record {
+        is_up = (subst (λ (h : Held _). IsStore (state g h)) (sym is) serves, up);
+        schema_is = ap (λ (h : Held _). (state g h).now.schema) is ∙ ap (λ (d : Database). d.schema) unwritten ∙ same.1;
+        rows_are = ap (λ (d : Database). raw_in d.trees) unwritten;
+      },
+    )
 
 -- Assumes the migration of a store of version 1 whose tables encode a state.
 module _ {S : Type 0} (g : Ghosts S) (base : List ℕ) (s : Content) (old new : Held S)
@@ -276,23 +306,32 @@ module _ {S : Type 0} (g : Ghosts S) (base : List ℕ) (s : Content) (old new : 
   rows = (migration_law base s was.0).0 was.2
 
   holds : (r : Result ℕ Fault) → OnOk r (HasCleanDisk (state g new) → (t : Tables) → KeepsOld (state g old).now t
-      → Keeps (state g new).committed (tables_after_migration t) × Keeps (state g new).now (tables_after_migration t))
+      → KeepsIn store_schema (state g new).committed (tables_after_migration t)
+      × KeepsIn store_schema (state g new).now (tables_after_migration t))
       → OnOk r (HoldsState base s (state g new).now × HoldsState base s (state g new).committed)
   holds (Err e) made = tt
   holds (Ok v) made = let both = made clean was.0 was.1 in ((t, both.1, rows), (t, both.0, rows))
 
   loads : (r : Result ℕ Fault) → OnOk r (HasCleanDisk (state g new) → (t : Tables) → KeepsOld (state g old).now t
-      → Keeps (state g new).committed (tables_after_migration t) × Keeps (state g new).now (tables_after_migration t))
+      → KeepsIn store_schema (state g new).committed (tables_after_migration t)
+      × KeepsIn store_schema (state g new).now (tables_after_migration t))
       → OnOk r (IsLegalState base s → (t : Tables) × HasVerdict (raw_in (state g new).now.trees) (Ok t)
       × (state_of t ≡ s))
   loads (Err e) made = tt
   loads (Ok v) made = λ legal.
       let both = made clean was.0 was.1 in
       let told = held_loads base s t legal rows in
-      (t, subst (λ raw. HasVerdict raw (Ok t)) (sym (raw_of (state g new).now.trees t both.1.hold)) told.0, told.1)
+      (t, subst (λ raw. HasVerdict raw (Ok t)) (sym (raw_of (state g new).now.trees t both.1.keeps.hold)) told.0, told.1)
 
   pub state_migrated : (r : Result ℕ Fault) → Migrates g old new r → MigratesState g base s old new r
-  state_migrated r m = grind (arith, common_steps, holds, loads, rows)
+  state_migrated r m = record {
+    holds = holds r m.made;
+    loads = loads r m.made;
+    crash = λ db may. elim (m.crash.crash clean db may) [
+      | inl before ↦ inl before
+      | inr made ↦ inr (t, made.1 was.0 was.1, rows)
+    ];
+  }
 
 pub migrates_states : {S : Type 0} (g : Ghosts S) → MigratesStates g
 migrates_states g base s old new r m clean was = state_migrated g base s old new clean was r m

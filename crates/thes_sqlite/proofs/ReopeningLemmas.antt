@@ -1,13 +1,14 @@
 -- Proves what storage that opens its database again returns of its first connection.
 use Rattle.std.proofs.Common.{◌≡◌, ◌∙◌, Bool, true, false, Option, Some, sym, ap, subst}
 use Rattle.sqlite.specs.Held.{Held, state}
+use Rattle.sqlite.specs.Schema.{Schema}
 use Rattle.sqlite_trees.specs.declared.store.Store.{Ghosts}
 use Rattle.thes_tables.specs.Tables.{Tables}
 use Rattle.thes_sqlite.specs.KeeperView.{KeeperView, IsKeeperState}
 use Rattle.thes_sqlite.specs.Reopening.{ReopeningView, IsOfFiles, ReturnsFirst}
 
 -- The connection of a storage is returned as its first one.
-pub returns_first : {S : Type 0} (g : Ghosts S) (held : Tables → Type 0) (v : ReopeningView S)
+pub returns_first : {S : Type 0} (g : Ghosts S) (held : Schema → Tables → Type 0) (v : ReopeningView S)
     (first : Option (KeeperView S)) (k : KeeperView S) (conn : Held S) (returned : Option (Held S) × Bool)
     → first ≡ v.first → first ≡ Some k → IsOfFiles g held first → conn ≡ k.conn
     → IsKeeperState (state g k.first) (state g k.conn) → returned ≡ (Some conn, false)

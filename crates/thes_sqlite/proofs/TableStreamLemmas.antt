@@ -19,7 +19,8 @@ use Rattle.thes_store.specs.Sinks.{SinkAcceptsAll, sink_rows_of_table}
 use Rattle.thes_sql.specs.StoredRows.{Keeps, values}
 use Rattle.thes_sql.specs.Declarations.{declares}
 use Rattle.thes_sql.specs.Queries.{Finds}
-use Rattle.thes_sql.specs.Reads.{read_text, assigned_text, assigned_numbers_text, number_cells_at_concept, IsReadable}
+use Rattle.thes_sql.specs.Reads.{read_text, assigned_text, assigned_numbers_text, number_cells_at_concept}
+use Rattle.thes_sql.specs.Reads.{rows_in_trees, IsReadable}
 use Rattle.thes_sql.proofs.QueryTextLemmas.{table_is_query}
 use Rattle.thes_sql.proofs.ReadFrameLemmas.{found_result, fails_to_find, is_understood}
 use Rattle.thes_sql.proofs.SelectLemmas.{rows_of_any_table, rows_at_concept, numbers_at_concept, table_query_text}
@@ -48,7 +49,22 @@ posting_items (x ∷ xs) = (refl, posting_items xs)
 
 pub table_wants : (p : Table) (db : State) → IsReadable db.now
     → Wants (IsTableRow p) (read_text p) [] db (sink_rows_of_table p (raw_table p db.now.trees))
-table_wants p db is = grind (arith, common_steps, rows_of_any_table, rows_begin_table, table_items)
+table_wants p db is = record {
+  whole = λ s new rows same shown. items rows (rows_of_any_table p s new rows
+      (subst (λ (d : Database). IsReadable d) (sym same) is) shown ∙ in_trees s same);
+  part = λ s rows same still begun.
+      let more = rows_begin_table p s rows (subst (λ (d : Database). IsReadable d) (sym same) is) still begun in
+      (more.0, items (rows ++ more.0) (more.1 ∙ in_trees s same));
+}
+  where
+    in_trees : (s : State) → s.now ≡ db.now → rows_in_trees p s.now.trees ≡ rows_in_trees p db.now.trees
+    in_trees s same = ap (λ (d : Database). rows_in_trees p d.trees) same
+
+    items : (rows : List Row) → rows ≡ rows_in_trees p db.now.trees
+        → AreRowsOf (IsTableRow p) rows (sink_rows_of_table p (raw_table p db.now.trees))
+    items rows e =
+        subst (λ l. AreRowsOf (IsTableRow p) l (sink_rows_of_table p (raw_table p db.now.trees))) (sym e)
+        (table_items p (rows_in_trees p db.now.trees))
 
 pub assigned_wants : (concept : ℕ) (db : State) (t : Tables) → Keeps db.now t
     → Wants IsPostingRow assigned_text (Int (pos concept) ∷ []) db (assigned_posting_rows concept t.posting)
@@ -123,4 +139,6 @@ input_finds_none p old new fault h = grind (arith, common_steps, fails_to_find, 
 -- The query of a table compiles in the schema of a store.
 pub never_input : (p : Table) (old new : State) → IsReadable old.now → (fault : CompileError)
     → FailsToQuery (read_text p) [] old new (SqlInputError fault) → ⊥
-never_input p old new is fault h = grind (arith, common_steps, table_query_text p, is_understood)
+never_input p old new is fault h =
+    let it = table_query_text p is.schema.added in
+    is_understood (read_text p) [] old new _ it.0 _ is.schema.is it.1 it.3 _ fault h refl

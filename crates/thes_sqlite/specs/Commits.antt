@@ -15,8 +15,8 @@ pub record DatabaseFrame {S T E : Type 0} (g : Ghosts S) (old new : Held S) (res
   pub settled : IsUp (state g new) → (state g new).now ≡ (state g new).committed
   pub none : OnErr result (LeavesUnwritten g old new)
 
--- What every commit keeps: on a fault the rows and the database are unchanged, whatever it holds, and the count of
--- failures agrees with the result. The connection at the start stays known.
+-- What every commit keeps, whatever the database holds: on a fault the rows and the database are unchanged; the count
+-- of failures agrees with the result; the remembered connection stays the same.
 pub record KeeperCommitFrame {S T : Type 0} (g : Ghosts S) (old new : KeeperView S) (result : Result T Fault) : Type 0
   where
     pub storage : CommitFrame (storage_view g old) (storage_view g new) result

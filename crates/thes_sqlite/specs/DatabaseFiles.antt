@@ -6,19 +6,20 @@ use Rattle.sqlite_wal.specs.Recovery.{Image}
 use Rattle.sqlite_wal.specs.Files.{outcomes}
 use Rattle.sqlite.specs.Effect.{Database, IsDatabase}
 use Rattle.sqlite.specs.Files.{HoldsDatabase, image_of}
+use Rattle.sqlite.specs.Schema.{Schema}
 use Rattle.sqlite.specs.Start.{FindsIn}
 use Rattle.sqlite.specs.State.{State}
 use Rattle.thes_tables.specs.Tables.{Tables}
 use Rattle.thes_sql.specs.Schema.{empty_schema}
-use Rattle.thes_sql.specs.StoredRows.{Keeps}
+use Rattle.thes_sql.specs.StoredRows.{KeepsIn}
 use Rattle.thes_sqlite.specs.KeeperView.{IsUp}
 
--- The contents of the two files are a database that is a store with these tables.
-pub record HoldsStore (image : Image) (t : Tables) : Type 0 where
+-- The contents of the two files are a database that is a store with this schema and these tables.
+pub record HoldsStore (image : Image) (schema : Schema) (t : Tables) : Type 0 where
   pub database : Database
   pub files_hold : ∥ HoldsDatabase image database.trees ∥₁
   pub sound : IsDatabase database
-  pub keeps : Keeps database t
+  pub keeps : KeepsIn schema database t
 
 -- The file of a database is absent or empty, whatever its log holds.
 abbrev pub IsNewFile : Image → Type 0
@@ -29,13 +30,14 @@ IsNewFile image = image.db ≡ []
 pub record OpensFiles (image : Image) (s : State) : Type 0 where
   pub finds : FindsIn image s
   pub settled : s.now ≡ s.committed
-  pub serves : (t : Tables) → HoldsStore image t → Keeps s.now t
+  pub serves : (schema : Schema) (t : Tables) → HoldsStore image schema t → KeepsIn schema s.now t
   pub empty : IsNewFile image → s.now.schema ≡ empty_schema
 
 -- The files were closed. If the database was a store, and nothing in it was uncommitted, they hold this store, as they
 -- read now and whatever a crash leaves of them.
 pub record ClosesFiles {D : Type 0} (g : Ghosts D) (s : State) (files : Files D) : Type 0 where
   pub was_up : IsUp s
-  pub holds : s.now ≡ s.committed → (t : Tables) → Keeps s.now t → HoldsStore (image_of g files) t
-  pub crash : s.now ≡ s.committed → (t : Tables) → Keeps s.now t → (image : Image)
-      → outcomes g files.log files.db image → HoldsStore image t
+  pub holds : s.now ≡ s.committed → (schema : Schema) (t : Tables) → KeepsIn schema s.now t
+      → HoldsStore (image_of g files) schema t
+  pub crash : s.now ≡ s.committed → (schema : Schema) (t : Tables) → KeepsIn schema s.now t → (image : Image)
+      → outcomes g files.log files.db image → HoldsStore image schema t

@@ -5,6 +5,7 @@ use Rattle.sqlite.specs.Held.{Held, held_code, state}
 use Rattle.sqlite_trees.specs.declared.store.Store.{Ghosts}
 use Rattle.thes_base.specs.declared.fault.Fault.{Fault}
 use Rattle.thes_base.specs.declared.fault.Table.{Table}
+use Rattle.sqlite.specs.Schema.{Schema}
 use Rattle.sqlite.specs.Tree.{Trees}
 use Rattle.sqlite.specs.State.{State, HasCleanDisk}
 use Rattle.thes_tables.specs.declared.change.Change.{Change}
@@ -13,7 +14,8 @@ use Rattle.thes_tables.specs.Rows.{tables_after_delta}
 use Rattle.thes_tables.specs.Cells.{Raw, RawTable, cells_of_tables}
 use Rattle.thes_tables.specs.TableOrder.{raw_by_table}
 use Rattle.thes_store.specs.Storage.{StorageView, QueryFrame}
-use Rattle.thes_sql.specs.StoredRows.{Keeps, Hold}
+use Rattle.thes_sql.specs.Schema.{store_schema}
+use Rattle.thes_sql.specs.StoredRows.{Keeps, KeepsIn, Hold}
 use Rattle.thes_sql.specs.Reads.{rows_in_trees}
 use Rattle.thes_sqlite.specs.ValueCells.{cell_of}
 
@@ -29,7 +31,7 @@ raw_in db = raw_by_table (λ p. raw_table p db)
 abbrev pub IsUp : State → Type 0
 IsUp s = HasCleanDisk s × IsTrue s.is_open
 
--- The database is a store with some tables, and nothing in it is uncommitted.
+-- The database is a store with some tables, perhaps with a user's additions, and nothing in it is uncommitted.
 pub record HasCommittedTables (s : State) : Type 0 where
   pub settled : s.now ≡ s.committed
   pub keeps : (t : Tables) × Keeps s.now t
@@ -39,16 +41,22 @@ pub record HasCommittedTables (s : State) : Type 0 where
 abbrev pub IsStore : State → Type 0
 IsStore s = IsUp s → HasCommittedTables s
 
--- If the database was opened in files that held a store with some tables, `held`, the disk hasn't failed silently and the
--- database is open, it is this store, and nothing in it is uncommitted.
-abbrev pub ServesTables : (Tables → Type 0) → State → Type 0
-ServesTables held s = IsUp s → (t : Tables) → held t → (s.now ≡ s.committed) × Keeps s.now t
+-- If the database was opened in files that held a store with a schema and some tables, `held`, the disk hasn't failed
+-- silently and the database is open, it is this store, and nothing in it is uncommitted.
+abbrev pub ServesTables : (Schema → Tables → Type 0) → State → Type 0
+ServesTables held s = IsUp s → (schema : Schema) (t : Tables) → held schema t
+    → (s.now ≡ s.committed) × KeepsIn schema s.now t
+
+-- The database has the schema that it had in the state `first`, a user's additions included, and was open then.
+abbrev pub HasSchemaOf : State → State → Type 0
+HasSchemaOf now first = IsUp first × (now.now.schema ≡ first.now.schema)
 
 -- The invariant between calls: no transaction is open, and a database that was a store in the state
--- `first` is one now.
+-- `first` is one now, with the same schema.
 pub record IsKeeperState (first now : State) : Type 0 where
   pub autocommit : now.in_transaction ≡ false
   pub served : IsStore first → IsStore now
+  pub same : IsStore first → IsUp now → HasSchemaOf now first
 
 -- Storage in a database as contracts see it: its connection, its count of failures, and its
 -- connection at the start or after the last migration.
@@ -77,10 +85,12 @@ IsKeeperUp g k = IsStore (state g k.first) × IsUp (state g k.conn)
 abbrev pub storage_view : {S : Type 0} → Ghosts S → KeeperView S → StorageView
 storage_view g k = record { rows = raw_of_keeper g k; is_up = IsKeeperUp g k; failures = k.failures }
 
--- The storage is new: it keeps the tables of a store without rows, and has counted no failures.
+-- The storage is new: it keeps the tables of a store without rows, in the schema that the program makes, and has counted no
+-- failures.
 pub record IsNewKeeper {S : Type 0} (g : Ghosts S) (base : List ℕ) (k : KeeperView S) : Type 0 where
   pub rows : IsUp (state g k.conn) → raw_of_keeper g k ≡ cells_of_tables (empty_tables base)
   pub store : IsStore (state g k.first)
+  pub schema : IsUp (state g k.first) → (state g k.first).now.schema ≡ store_schema
   pub failures : k.failures ≡ 0
 
 -- The effect of every query: that on any storage, and the connection at the start stays known.

@@ -14,8 +14,9 @@ use Rattle.thes_base.specs.declared.fault.Table.TheVariants as table
 use Rattle.thes_store.specs.Causes.{max_failures}
 use Rattle.thes_tables.specs.declared.cells.Cell.{Cell}
 use Rattle.thes_tables.specs.Tables.{Tables}
-use Rattle.thes_tables.specs.Cells.{number_cell, cells_of_tables}
-use Rattle.thes_sql.specs.StoredRows.{Keeps, Hold}
+use Rattle.thes_tables.specs.Cells.{Raw, number_cell, cells_of_tables}
+use Rattle.thes_sql.specs.Schema.{store_schema}
+use Rattle.thes_sql.specs.StoredRows.{Keeps, KeepsIn, Hold}
 use Rattle.thes_sql.specs.Reads.{read_text, LeavesAlone}
 use Rattle.thes_sql.specs.Queries.{compiles, Finds, finds_nothing, KeepsDatabase}
 use Rattle.thes_sql.specs.OldStore.{KeepsOld, links_text, hier_text}
@@ -106,7 +107,7 @@ hier_verdict_of (Ok true) = Err (BadStore table.Hier)
 hier_verdict_of (Ok false) = Ok tt
 hier_verdict_of (Err e) = Err (error_fault e)
 
--- The database is a store of version 1 or of version 2.
+-- The database is a store of version 1, or one of version 2, perhaps with a user's additions.
 abbrev pub IsKnownStore : Database → Tables → Type 0
 IsKnownStore db t = KeepsOld db t ⊎ Keeps db t
 
@@ -128,17 +129,23 @@ abbrev pub HasCountedCause : ℕ → ℕ → Result ℕ Fault → Type 0
 HasCountedCause before now (Ok version) = now ≡ before
 HasCountedCause before now (Err fault) = IsStoreCounted before now fault
 
--- The database of version 1 has become one of version 2 with the migrated tables, which the storage
+-- The storage serves these rows, in a database with this schema.
+pub record ServesRows {S : Type 0} (g : Ghosts S) (k : KeeperView S) (schema : Schema) (rows : Raw) : Type 0 where
+  pub is_up : IsKeeperUp g k
+  pub schema_is : (state g k.first).now.schema ≡ schema
+  pub rows_are : raw_of_keeper g k ≡ rows
+
+-- The database of version 1 has become one of version 2 without additions, with the migrated tables, which the storage
 -- serves.
 abbrev pub ServesMigrated : {S : Type 0} → Ghosts S → KeeperView S → KeeperView S → Type 0
 ServesMigrated g old new = IsUp (state g new.conn) → (t : Tables) → KeepsOld (state g old.conn).now t
-    → IsKeeperUp g new × (raw_of_keeper g new ≡ cells_of_tables (tables_after_migration t))
+    → ServesRows g new store_schema (cells_of_tables (tables_after_migration t))
 
--- The tables that the storage serves after a migration: those of a store of version 2 as before, and those of version 1
--- as migrated.
+-- The tables that the storage serves after a migration: those of a store of version 2 as before, also with a user's
+-- additions, and those of version 1 as migrated.
 pub record ServesAfterMigration {S : Type 0} (g : Ghosts S) (old new : KeeperView S) (r : Result ℕ Fault) : Type 0 where
-  pub current : IsKeeperUp g old → IsUp (state g new.conn)
-      → IsKeeperUp g new × (raw_of_keeper g new ≡ raw_of_keeper g old)
+  pub current : IsKeeperUp g old → IsUp (state g new.conn) → IsUp (state g old.first)
+      × ServesRows g new (state g old.first).now.schema (raw_of_keeper g old)
   pub older : OnOk r (ServesMigrated g old new)
 
 -- The result that follows from a verdict: a database of version 1 is migrated, unless a statement
@@ -162,7 +169,8 @@ pub record Migrates {S : Type 0} (g : Ghosts S) (old new : Held S) (r : Result �
       → IsKeeperFault fault)
   pub was : IsUp (state g new) → IsTrue (state g old).is_open
   pub made : OnOk r (HasCleanDisk (state g new) → (t : Tables) → KeepsOld (state g old).now t
-      → Keeps (state g new).committed (tables_after_migration t) × Keeps (state g new).now (tables_after_migration t))
+      → KeepsIn store_schema (state g new).committed (tables_after_migration t)
+      × KeepsIn store_schema (state g new).now (tables_after_migration t))
   pub current : OnOk r (HasCleanDisk (state g new) → (t : Tables) → Keeps (state g old).now t
       → IsUnwritten (state g old) (state g new))
   pub settled : IsUp (state g new) → (state g new).now ≡ (state g new).committed

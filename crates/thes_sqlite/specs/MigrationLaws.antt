@@ -11,7 +11,8 @@ use Rattle.thes_base.specs.State.{State}
 use Rattle.thes_tables.specs.Tables.{Tables, IsRowsOf}
 use Rattle.thes_load_rules.specs.Rules.{state_of}
 use Rattle.thes_load_rules.specs.Verdicts.{HasVerdict}
-use Rattle.thes_sql.specs.StoredRows.{Keeps, Hold}
+use Rattle.thes_sql.specs.Schema.{store_schema}
+use Rattle.thes_sql.specs.StoredRows.{KeepsIn, Hold}
 use Rattle.thes_sql.specs.OldStore.{KeepsOld}
 use Rattle.thes_tables.specs.OldRows.{IsOldRowsOf}
 use Rattle.thes_sqlite.specs.KeeperView.{raw_in}
@@ -21,9 +22,9 @@ use Rattle.thes_sqlite.specs.MigrationEffects.{Migrates}
 abbrev pub HoldsOldState : List ℕ → State → Database → Type 0
 HoldsOldState base s db = (t : Tables) × KeepsOld db t × IsOldRowsOf base s t
 
--- The database is a store of version 2, and its tables encode this state in version 2.
+-- The database is a store of version 2 without additions, and its tables encode this state in version 2.
 abbrev pub HoldsState : List ℕ → State → Database → Type 0
-HoldsState base s db = (t : Tables) × Keeps db t × IsRowsOf base s t
+HoldsState base s db = (t : Tables) × KeepsIn store_schema db t × IsRowsOf base s t
 
 -- The trees found after a crash hold tables that encode this state in version 2.
 abbrev pub FindsState : List ℕ → State → Trees → Type 0

@@ -3,6 +3,7 @@ use Rattle.std.specs.Prelude.{◌≡◌, ℕ, Bool, false, Option, None, Some, R
 use Rattle.std.specs.Coded.{Coded, code_by, coded×, coded_ℕ, coded_option}
 use Rattle.sqlite.specs.Effect.{Database}
 use Rattle.sqlite.specs.Held.{Held, state}
+use Rattle.sqlite.specs.Schema.{Schema}
 use Rattle.sqlite.specs.State.{HasCleanDisk}
 use Rattle.sqlite_trees.specs.declared.store.Store.{Ghosts}
 use Rattle.thes_base.specs.declared.fault.Fault.{Fault}
@@ -88,8 +89,8 @@ FindsOfFirst g v raw = FindsIn (database_of_first g v.first) raw
 abbrev pub FindsStill : {S : Type 0} → Ghosts S → ReopeningView S → Raw → Type 0
 FindsStill g v raw = IsStillOpen g v × FindsOfFirst g v raw
 
--- The first connection, if there is one, was opened in files that held a store with tables that satisfy `held`.
-abbrev pub IsOfFiles : {S : Type 0} → Ghosts S → (Tables → Type 0) → Option (KeeperView S) → Type 0
+-- The first connection, if there is one, was opened in files that held a store with a schema and tables that satisfy `held`.
+abbrev pub IsOfFiles : {S : Type 0} → Ghosts S → (Schema → Tables → Type 0) → Option (KeeperView S) → Type 0
 IsOfFiles g held None = Unit {0}
 IsOfFiles g held (Some k) = ServesTables held (state g k.first)
 
@@ -106,7 +107,7 @@ IsLostShut g k (Some conn) = HasCleanDisk (state g conn) → (state g k.conn).is
 
 -- The first connection is returned, which no failure is known to have shut. At the start it served the tables that its
 -- files held, and it has kept the invariant of storage since then.
-pub record ReturnsFirst {S : Type 0} (g : Ghosts S) (held : Tables → Type 0) (v : ReopeningView S)
+pub record ReturnsFirst {S : Type 0} (g : Ghosts S) (held : Schema → Tables → Type 0) (v : ReopeningView S)
     (conn : Option (Held S)) : Type 0 where
   pub keeper : KeeperView S
   pub first_is : v.first ≡ Some keeper

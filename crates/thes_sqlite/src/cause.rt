@@ -7,6 +7,7 @@ use sqlite_disk::Disk;
 use sqlite_std_file::OpenError;
 use std::io::ErrorKind;
 use thes_base::fault::Fault;
+use thes_store::mem::MemKeeper;
 
 /// The cause of a failure of storage in a database.
 #[derive(Clone, Copy, Debug, PartialEq, Eq)]
@@ -48,6 +49,20 @@ impl Cause {
             Cause::NoMemory => Fault::OutOfMemory,
             _ => Fault::Store,
         }
+    }
+}
+
+/// Storage that remembers why it failed. A fault names no cause, so that each storage has the same.
+pub trait FaultCause {
+    /// Returns the cause of the last fault `Store` of a load or a migration; `Other` before the
+    /// first.
+    fn cause(&self) -> Cause;
+}
+
+/// Storage in memory never answers `Store`.
+impl FaultCause for MemKeeper {
+    fn cause(&self) -> Cause {
+        Cause::Other
     }
 }
 

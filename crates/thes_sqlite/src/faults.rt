@@ -2,8 +2,10 @@
 ghost use Rattle.std.specs.Prelude.{◌≡◌, ◌≢◌, ◌≤◌, ◌+◌};
 ghost use Rattle.thes_store.specs.Causes.{IsCounted};
 ghost use Rattle.thes_sqlite.specs.MigrationEffects.{IsStoreCounted};
+ghost use Rattle.thes_sqlite.specs.Causes.{error_cause};
 ghost use Rattle.thes_sqlite.specs.Faults.{IsKeeperFault, error_fault};
 
+use crate::cause::{Cause, cause_of};
 use sqlite::{Error, ErrorCode};
 use thes_base::fault::Fault;
 
@@ -19,6 +21,16 @@ pub fn fault_of(error: Error) -> Fault
         Error::SqliteFailure(ErrorCode::OutOfMemory) => Fault::OutOfMemory,
         _ => Fault::Store,
     }
+}
+
+/// Maps an error of SQLite to a fault, as `fault_of` does, and records its cause.
+pub(crate) fn fault_with_cause(error: Error, cause: &mut Cause) -> Fault
+    ensures kind { IsKeeperFault result }
+    ensures is { result ≡ error_fault error }
+    ensures cause { cause.new ≡ error_cause error }
+{
+    *cause = cause_of(error);
+    fault_of(error)
 }
 
 /// Counts a fault unless it is `OutOfMemory`, and returns it; the count saturates.

@@ -19,6 +19,7 @@ ghost use Rattle.thes_sql.specs.Reads.{LeavesTables};
 ghost use Rattle.sqlite.specs.Held.{state};
 ghost use Rattle.sqlite.specs.State.{HasCleanDisk};
 
+use crate::cause::{Cause, FaultCause};
 use crate::faults::{count_fault, count_if_store, fault_of};
 use crate::migrating::migrate_database;
 use crate::posting_look_ups::{find_posting, find_row, find_with_moves};
@@ -46,6 +47,8 @@ pub struct SqlKeeper<S: Alter> {
     failures: u64,
     // The connection at the start, or after the last migration; only contracts use it.
     first: Snapshot<Connection<S>>,
+    // The cause of the last fault `Store` of a load or a migration; `Other` before the first.
+    cause: Cause,
     alloc: Global,
 }
 
@@ -96,6 +99,7 @@ impl<S: Alter> SqlKeeper<S> {
             conn,
             failures: 0,
             first,
+            cause: Cause::Other,
             alloc,
         }
     }
@@ -109,7 +113,7 @@ impl<S: Alter> SqlKeeper<S> {
         ensures first { self.new.first ≡ self.new.conn }
         ensures cause { HasCountedCause self.old.failures self.new.failures result }
     {
-        let ended = migrate_database(self.alloc, &mut self.conn);
+        let ended = migrate_database(self.alloc, &mut self.conn, &mut self.cause);
         self.first = Snapshot::of(&self.conn);
         match ended {
             Ok(version) => Ok(version),
@@ -126,6 +130,7 @@ impl<S: Alter> SqlKeeper<S> {
             conn,
             failures: _,
             first: _,
+            cause: _,
             alloc: _,
         } = self;
         conn
@@ -172,7 +177,7 @@ impl<S: Alter> SqlKeeper<S> {
             → PassesTable R.gives name (state S.Store self.old.conn).now sink.old sink.new) }
         ensures leaves { LeavesTables S.Store self.old.conn self.new.conn }
     {
-        match yield_table_rows(self.alloc, &mut self.conn, name, sink) {
+        match yield_table_rows(self.alloc, &mut self.conn, name, sink, &mut self.cause) {
             Ok(_) => Ok(()),
             Err(fault) => Err(count_fault(&mut self.failures, fault)),
         }
@@ -195,6 +200,12 @@ impl<S: Alter> SqlKeeper<S> {
             }
         }
         Ok(())
+    }
+}
+
+impl<S: Alter> FaultCause for SqlKeeper<S> {
+    fn cause(&self) -> Cause {
+        self.cause
     }
 }
 

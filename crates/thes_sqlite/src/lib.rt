@@ -1,4 +1,4 @@
-//! Keeps the tables of a store in a database, and migrates stores to the current version.
+//! Storage of the tables in a database: its files, rows and faults, and migrations.
 #![tactic(auto)]
 
 mod any_cells;

@@ -2,11 +2,13 @@
 ghost use Rattle.std.specs.Prelude.{◌≡◌, ◌⊎◌, Some, Err, IfErr, false};
 ghost use Rattle.thes_sqlite.specs.MigrationEffects.{IsMigrateFault, IsMetaVerdict, IsVersionVerdict, IsLinkVerdict, IsMigrationVerdict, JudgeFrame, Judges, Migrates};
 ghost use Rattle.thes_sqlite.specs.MigrationEffects.{meta_fault_of, links_verdict_of, hier_verdict_of};
+ghost use Rattle.thes_sqlite.specs.Causes.{error_cause};
 ghost use Rattle.thes_sqlite.specs.Versions.{SpellsVersion};
 ghost use Rattle.sqlite.specs.Effect.{Database};
 
 use crate::any_cells::any_cells_of;
-use crate::faults::fault_of;
+use crate::cause::{Cause, cause_of};
+use crate::faults::{fault_of, fault_with_cause};
 use sqlite::{Alter, Connection, Error, ErrorCode, Row};
 use std::alloc::Global;
 use thes_base::fault::{Fault, Table};
@@ -66,11 +68,14 @@ fn is_version_1(alloc: Global, rows: &[Row]) -> Result<bool, Fault>
     }
 }
 
-// Maps an error of the query for meta to a fault: meta can't be read, or the store has failed.
-fn meta_fault(error: Error) -> Fault
+// Maps an error of the query for meta to a fault, and records its cause: meta can't be read, or the
+// store has failed.
+fn meta_fault(error: Error, cause: &mut Cause) -> Fault
     ensures is { result ≡ meta_fault_of error }
     ensures kind { IsMigrateFault result }
+    ensures cause { cause.new ≡ error_cause error }
 {
+    *cause = cause_of(error);
     match error {
         Error::SqlInputError(_) => Fault::BadStore(Table::Meta),
         Error::SqliteFailure(ErrorCode::TypeMismatch | ErrorCode::IntegerOverflow) => {
@@ -82,80 +87,94 @@ fn meta_fault(error: Error) -> Fault
 
 // Returns whether a database has version 1 rather than version 2, by its table meta; anything else
 // is a fault.
-fn judge_version<S: Alter>(alloc: Global, conn: &mut Connection<S>) -> Result<bool, Fault>
+fn judge_version<S: Alter>(
+    alloc: Global,
+    conn: &mut Connection<S>,
+    cause: &mut Cause,
+) -> Result<bool, Fault>
     ensures judged { Judges S.Store IsVersionVerdict conn.old conn.new result }
     ensures frame { JudgeFrame S.Store conn.old conn.new result }
 {
     match version_rows(conn) {
         Ok(rows) => is_version_1(alloc, rows.as_slice()),
-        Err(error) => Err(meta_fault(error)),
+        Err(error) => Err(meta_fault(error, cause)),
     }
 }
 
-// Returns `BadStore` of link if the answer to whether table link can be queried is no.
-fn links_verdict(there: Result<bool, Error>) -> Result<(), Fault>
+// Returns `BadStore` of link if the answer to whether table link can be queried is no, or the fault of
+// the error, whose cause is recorded.
+fn links_verdict(there: Result<bool, Error>, cause: &mut Cause) -> Result<(), Fault>
     ensures is { result ≡ links_verdict_of there }
     ensures faults { IfErr result IsMigrateFault }
+    ensures cause { IfErr there (λ error. cause.new ≡ error_cause error) }
 {
     match there {
         Ok(true) => Ok(()),
         Ok(false) => Err(Fault::BadStore(Table::Link)),
-        Err(error) => Err(fault_of(error)),
+        Err(error) => Err(fault_with_cause(error, cause)),
     }
 }
 
-// Returns `BadStore` of hier if the answer to whether there is a table hier is yes.
-fn hier_verdict(there: Result<bool, Error>) -> Result<(), Fault>
+// Returns `BadStore` of hier if the answer to whether there is a table hier is yes, or the fault of the
+// error, whose cause is recorded.
+fn hier_verdict(there: Result<bool, Error>, cause: &mut Cause) -> Result<(), Fault>
     ensures is { result ≡ hier_verdict_of there }
     ensures faults { IfErr result IsMigrateFault }
+    ensures cause { IfErr there (λ error. cause.new ≡ error_cause error) }
 {
     match there {
         Ok(true) => Err(Fault::BadStore(Table::Hier)),
         Ok(false) => Ok(()),
-        Err(error) => Err(fault_of(error)),
+        Err(error) => Err(fault_with_cause(error, cause)),
     }
 }
 
 // Checks that a database has the tables of links of version 1: link can be queried, and there is no
 // hier.
-fn judge_links<S: Alter>(conn: &mut Connection<S>) -> Result<(), Fault>
+fn judge_links<S: Alter>(conn: &mut Connection<S>, cause: &mut Cause) -> Result<(), Fault>
     ensures judged { Judges S.Store (λ (db : Database). IsLinkVerdict db.schema) conn.old conn.new
         result }
     ensures frame { JudgeFrame S.Store conn.old conn.new result }
 {
-    links_verdict(has_links(conn))?;
-    hier_verdict(has_hier(conn))
+    links_verdict(has_links(conn), cause)?;
+    hier_verdict(has_hier(conn), cause)
 }
 
 // Returns true for a database of version 1 that can be migrated, and false for one of version 2;
 // any other database is a fault.
-fn judge<S: Alter>(alloc: Global, conn: &mut Connection<S>) -> Result<bool, Fault>
+fn judge<S: Alter>(
+    alloc: Global,
+    conn: &mut Connection<S>,
+    cause: &mut Cause,
+) -> Result<bool, Fault>
     ensures judged { Judges S.Store IsMigrationVerdict conn.old conn.new result }
     ensures frame { JudgeFrame S.Store conn.old conn.new result }
 {
-    if !judge_version(alloc, conn)? {
+    if !judge_version(alloc, conn, cause)? {
         return Ok(false);
     }
-    judge_links(conn)?;
+    judge_links(conn, cause)?;
     Ok(true)
 }
 
 /// Migrates a database from version 1 to version 2 in one transaction, and returns its version, 2.
-/// A database of version 2 is left unchanged, and so is one that can't be migrated.
+/// A database of version 2 is left unchanged, and so is one that can't be migrated. Records the
+/// cause of an error of the database.
 pub(crate) fn migrate_database<S: Alter>(
     alloc: Global,
     conn: &mut Connection<S>,
+    cause: &mut Cause,
 ) -> Result<u32, Fault>
     requires { conn.old.in_transaction ≡ false }
     ensures { Migrates S.Store conn.old conn.new result }
 {
     let settled = conn.is_autocommit();
     prove!(settled);
-    if !judge(alloc, conn)? {
+    if !judge(alloc, conn, cause)? {
         return Ok(2);
     }
     match migrate_tables(conn) {
         Ok(_) => Ok(2),
-        Err(error) => Err(fault_of(error)),
+        Err(error) => Err(fault_with_cause(error, cause)),
     }
 }

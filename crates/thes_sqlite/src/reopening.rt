@@ -1,6 +1,7 @@
 //! Storage in a database that is opened again after a failure of its disk has shut it.
 ghost use Rattle.std.specs.Prelude.{◌≡◌, false, None, Some, IfOk, IfErr, IfSome, OnOk, IsTrue};
 ghost use Rattle.sqlite.specs.Held.{state};
+ghost use Rattle.sqlite.specs.Schema.{Schema};
 ghost use Rattle.thes_base.specs.Resources.{entry_at};
 ghost use Rattle.thes_tables.specs.Tables.{Tables};
 ghost use Rattle.thes_tables.specs.Cells.{cells_of_tables};
@@ -15,7 +16,7 @@ ghost use Rattle.thes_sqlite.specs.Reopening.{FindsOfFirst, IsLostShut, IsStillO
 ghost use Rattle.thes_sqlite.specs.Reopening.{ReturnsFirst};
 ghost use Rattle.thes_sqlite.specs.KeeperView.{ServesTables};
 
-use crate::cause::Cause;
+use crate::cause::{Cause, FaultCause};
 use crate::faults::{count_fault, fault_of};
 use crate::keeper::SqlKeeper;
 use crate::posting_look_ups::{find_posting, find_row, find_with_moves};
@@ -48,8 +49,8 @@ pub trait Reopen<C> {
 
 /// What the files of a database held before they were opened, which only contracts use.
 pub trait HeldTables {
-    // The files held a store with these tables.
-    ghost held: { Tables → Type 0 };
+    // The files held a store with this schema and these tables.
+    ghost held: { Schema → Tables → Type 0 };
 }
 
 /// Storage that keeps its tables in a database, and opens the database again after a failure has
@@ -63,6 +64,8 @@ pub struct ReopeningKeeper<S: Alter, O: Reopen<Connection<S>> + HeldTables> {
     failures: u64,
     // Whether a commit that returned `Store` may have been performed.
     is_in_doubt: bool,
+    // The cause of the last fault `Store` of a load; `Other` before the first.
+    cause: Cause,
     alloc: Global,
 }
 
@@ -93,11 +96,12 @@ fn load_later<S: Alter, R: RowSink>(
     alloc: Global,
     conn: &mut Connection<S>,
     sink: &mut R,
+    cause: &mut Cause,
 ) -> Result<(), Fault>
     ensures { IfErr result IsKeeperFault }
 {
     for name in &tables_in_order() {
-        if let Err(fault) = yield_table_rows(alloc, conn, *name, sink) {
+        if let Err(fault) = yield_table_rows(alloc, conn, *name, sink, cause) {
             return Err(fault);
         }
     }
@@ -182,6 +186,7 @@ impl<S: Alter + Drop, O: Reopen<Connection<S>> + HeldTables> ReopeningKeeper<S, 
             opener,
             failures: 0,
             is_in_doubt: false,
+            cause: Cause::Other,
             alloc,
         }
     }
@@ -202,6 +207,7 @@ impl<S: Alter + Drop, O: Reopen<Connection<S>> + HeldTables> ReopeningKeeper<S, 
             opener: _,
             failures: _,
             is_in_doubt,
+            cause: _,
             alloc: _,
         } = self;
         let (conn, is_reopened) = match first {
@@ -251,7 +257,7 @@ impl<S: Alter + Drop, O: Reopen<Connection<S>> + HeldTables> ReopeningKeeper<S, 
     }
 
     // Opens the database again if a failure has shut it, and returns whether it was shut. If it
-    // can't be opened, there is no connection afterwards.
+    // can't be opened, there is no connection afterwards, and the cause is recorded.
     fn reopen_if_shut(&mut self) -> bool
         ensures keeps { KeepsStorage (storage_still S.Store self.old)
             (storage_still S.Store self.new) }
@@ -262,8 +268,9 @@ impl<S: Alter + Drop, O: Reopen<Connection<S>> + HeldTables> ReopeningKeeper<S, 
         if !is_gone {
             return false;
         }
-        if let Ok(conn) = self.opener.reopen(lost) {
-            self.later = Some(conn);
+        match self.opener.reopen(lost) {
+            Ok(conn) => self.later = Some(conn),
+            Err(cause) => self.cause = cause,
         }
         true
     }
@@ -304,10 +311,12 @@ impl<S: Alter + Drop, O: Reopen<Connection<S>> + HeldTables> ReopeningKeeper<S, 
             self.old self.new sink.old result sink.new }
     {
         if let Some(keeper) = &mut self.first {
-            return keeper.load(sink);
+            let loaded = keeper.load(sink);
+            self.cause = keeper.cause();
+            return loaded;
         }
         match &mut self.later {
-            Some(conn) => load_later(self.alloc, conn, sink),
+            Some(conn) => load_later(self.alloc, conn, sink, &mut self.cause),
             None => Err(Fault::Store),
         }
     }
@@ -422,6 +431,12 @@ impl<S: Alter + Drop, O: Reopen<Connection<S>> + HeldTables> ReopeningKeeper<S, 
             Some(conn) => collect_numbers(self.alloc, conn, concept),
             None => Err(Fault::Store),
         }
+    }
+}
+
+impl<S: Alter, O: Reopen<Connection<S>> + HeldTables> FaultCause for ReopeningKeeper<S, O> {
+    fn cause(&self) -> Cause {
+        self.cause
     }
 }
 

@@ -17,7 +17,8 @@ ghost use Rattle.sqlite.specs.Order.{column};
 ghost use Rattle.sqlite.specs.declared.types.Value.TheVariants.{Int};
 
 use crate::any_cells::any_cells_of;
-use crate::faults::fault_of;
+use crate::cause::Cause;
+use crate::faults::{fault_of, fault_with_cause};
 use crate::rows::{read_number, read_posting};
 use sqlite::{Alter, Connection, Error, Row, params};
 use std::alloc::Global;
@@ -39,12 +40,13 @@ fn yield_row<R: RowSink>(alloc: Global, name: Table, row: &Row, sink: &mut R) ->
 }
 
 // Passes the rows of a table to a sink as they are read. If the table can't be queried, reports that
-// to the sink instead.
+// to the sink instead. Records the cause of an error of the database.
 fn yield_rows<S: Alter, R: RowSink>(
     alloc: Global,
     conn: &mut Connection<S>,
     name: Table,
     sink: &mut R,
+    cause: &mut Cause,
 ) -> Result<(), Fault>
     requires { declares (state S.Store conn.old).now.schema name ≡ true }
     ensures yields { YieldsTable S.Store R.gives name conn.old conn.new sink.old result sink.new }
@@ -53,11 +55,11 @@ fn yield_rows<S: Alter, R: RowSink>(
     let mut rows = match conn.query(table_query(name), &[]) {
         Ok(rows) => rows,
         Err(Error::SqlInputError(_)) => return sink.report_unqueried(name),
-        Err(error) => return Err(fault_of(error)),
+        Err(error) => return Err(fault_with_cause(error, cause)),
     };
     'rows: for _ in 0..u64::MAX {
         if let Err(error) = rows.advance() {
-            return Err(fault_of(error));
+            return Err(fault_with_cause(error, cause));
         }
         let Some(row) = rows.get() else {
             return Ok(());
@@ -70,13 +72,14 @@ fn yield_rows<S: Alter, R: RowSink>(
 }
 
 /// Passes the rows of a table to a sink. If the table can't be queried, or isn't declared as in a
-/// store, reports that to the sink instead.
+/// store, reports that to the sink instead. Records the cause of an error of the database.
 #[tactic(auto, using(crate::proofs::FoundRowLemmas::undeclared_yielded))]
 pub(crate) fn yield_table_rows<S: Alter, R: RowSink>(
     alloc: Global,
     conn: &mut Connection<S>,
     name: Table,
     sink: &mut R,
+    cause: &mut Cause,
 ) -> Result<(), Fault>
     ensures yields { YieldsTable S.Store R.gives name conn.old conn.new sink.old result sink.new }
     ensures differs { declares (state S.Store conn.old).now.schema name ≡ false
@@ -86,7 +89,7 @@ pub(crate) fn yield_table_rows<S: Alter, R: RowSink>(
     if !declares(conn, name) {
         return sink.report_unqueried(name);
     }
-    yield_rows(alloc, conn, name, sink)
+    yield_rows(alloc, conn, name, sink, cause)
 }
 
 // Passes a row of table posting to a sink as a posting.

@@ -24,7 +24,8 @@ module _ {E : Type 0} (place : ℕ) (old new : List ℕ) where
       → has_position q old ≡ true → has_position q new ≡ true
   kept_after_append r ok err q h = grind (arith, common_steps, listed_in, append_left, in_listed)
 
-  pub listed_after_append : (r : Result (Unit {0}) E) → OnOk r (new ≡ old ++ place ∷ []) → OnOk r (has_position place new
+  pub listed_after_append : (r : Result (Unit {0}) E) → OnOk r (new ≡ old ++ place ∷ [])
+      → OnOk r (has_position place new
       ≡ true)
   listed_after_append (Ok u) ok = ap (has_position place) ok
       ∙ listed_in place (old ++ place ∷ []) (append_right place old (place ∷ []) (inl refl))

@@ -25,7 +25,8 @@ module _ {A : Type 0} where
   ready_first number s o rest ready = grind (arith, common_steps)
 
   -- A list that begins with a value, if there is one, and others begins with that value.
-  begins_first : (items : List A) (o : Option A) (more : List A) → (rest : List A) × (items ≡ cons_option o more ++ rest)
+  begins_first : (items : List A) (o : Option A) (more : List A) → (rest : List A)
+      × (items ≡ cons_option o more ++ rest)
       → (rest : List A) × (items ≡ cons_option o [] ++ rest)
   begins_first items None more begins = (items, refl)
   begins_first items (Some x) more begins = (more ++ begins.0, begins.1)
@@ -51,7 +52,8 @@ room_first m c rest room = record {
       (count_first (added_posting c) (rows_added_by added_posting rest)) room.posting;
   steps = fewer_fit (vec_len m.steps) _ _ (vec_capacity m.steps)
       (count_first (added_move c) (rows_added_by added_move rest)) room.steps;
-  label_copies = begins_first m.label_copies.items (changed_label c) (rows_added_by changed_label rest) room.label_copies;
+  label_copies = begins_first m.label_copies.items (changed_label c) (rows_added_by changed_label rest)
+      room.label_copies;
 }
 
 -- Tables that are ready for the changes that are left are ready for the next one and those after it.

@@ -121,11 +121,13 @@ module _ {S A X : Type 0} (gives : S → A → Result (Unit {0}) Fault → S →
       (subst (λ q. SinkOutcome gives mid (parts (x ∷ [])) q new) err h)))
 
 module _ {S A : Type 0} (gives : S → A → Result (Unit {0}) Fault → S → Type 0) (p : A → Bool) (rows : List A)
-    (places : List ℕ) (i place : ℕ) (o : Option A) (old mid new : S) (r : Result (Unit {0}) Fault) (lt : i < length places)
+    (places : List ℕ) (i place : ℕ) (o : Option A) (old mid new : S) (r : Result (Unit {0}) Fault)
+    (lt : i < length places)
     (is : place ≡ get_or places i place) (t : SinkAcceptsAll gives old (rows_at_positions p rows (take i places)) mid)
     (found : o ≡ slice_get rows place) (h : SinkOutcome gives mid (filtered_option p o) r new) where
   at_place : SinkOutcome gives mid (rows_at_positions p rows (place ∷ [])) r new
-  at_place = subst (λ l. SinkOutcome gives mid l r new) (ap (filtered_option p) found ∙ sym (picked_cons p rows place [] ∙ append-nil _)) h
+  at_place = subst (λ l. SinkOutcome gives mid l r new) (ap (filtered_option p) found
+      ∙ sym (picked_cons p rows place [] ∙ append-nil _)) h
 
   -- A sink that accepts the row at one more position, if it passes the test, has those at the positions so far.
   pub place_accepted : (done : Unit {0}) → r ≡ Ok done

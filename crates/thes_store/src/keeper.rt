@@ -32,8 +32,8 @@ impl Model for Posting {
     ghost view = { λ a. record { row = a.row; moves = a.moves } };
 }
 
-/// Storage for the tables. What a contract says of the rows holds if `is_up` holds when the call returns; what it says
-/// of the failures always holds.
+/// Storage for the tables. What a contract says of the rows holds if `is_up` holds when the call
+/// returns; what it says of the failures always holds.
 pub trait Keeper {
     ghost view: { Self → StorageView };
 

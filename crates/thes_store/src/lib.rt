@@ -1,4 +1,4 @@
-//! Storage for the tables: the interface, and an implementation in memory.
+//! The trait `Keeper` for storage of the tables, and storage in memory.
 #![tactic(auto)]
 
 mod added_row;

@@ -110,7 +110,8 @@ fn move_at(rows: &[MoveRow], place: usize) -> Option<&MoveRow>
     rows.get(place)
 }
 
-// Returns the moves at these positions that are moves of the posting, in the order of the positions.
+// Returns the moves at these positions that are moves of the posting, in the order of the
+// positions.
 fn moves_at(
     alloc: Global,
     rows: &[MoveRow],
@@ -161,8 +162,8 @@ fn push_number(
     }
 }
 
-// Returns the numbers of the postings at these positions that are assigned to the concept, in the order of the
-// positions.
+// Returns the numbers of the postings at these positions that are assigned to the concept, in the
+// order of the positions.
 fn numbers_at(
     alloc: Global,
     rows: &[PostingRow],
@@ -196,7 +197,8 @@ fn yield_if_assigned<S: PostingSink>(
     }
 }
 
-// Passes the postings at these positions that are assigned to the concept to a sink, in the order of the positions.
+// Passes the postings at these positions that are assigned to the concept to a sink, in the order
+// of the positions.
 fn yield_postings<S: PostingSink>(
     rows: &[PostingRow],
     places: &[usize],

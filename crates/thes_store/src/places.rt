@@ -118,14 +118,14 @@ impl Places {
     }
 }
 
-// Appends a position. A full list grows by a quarter, and the first position gets room for itself
-// alone, since many numbers have no other.
+// Appends a position. A full list grows by three positions and a quarter: the allocator has no
+// block for fewer than three.
 fn append(places: &mut Vec<usize>, place: usize) -> Result<(), AllocError>
     ensures ok { OnOk result (places.new.items ≡ places.old.items ++ place ∷ []) }
     ensures err { OnErr result (places.new.items ≡ places.old.items) }
 {
     if places.len() == places.capacity() {
-        places.reserve_exact(1 + places.len() / 4)?;
+        places.reserve_exact(3 + places.len() / 4)?;
     }
     places.push(place)?;
     Ok(())

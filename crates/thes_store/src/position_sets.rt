@@ -72,7 +72,7 @@ impl PositionSets {
     }
 
     /// Returns the positions under a number, or None if it has no set.
-    pub fn set(&self, n: u32) -> Option<&BTreeSet<usize>>
+    pub fn positions_at(&self, n: u32) -> Option<&BTreeSet<usize>>
         ensures { option_copied result ≡ slice_get self.now.sets.items n }
     {
         self.sets.get(n as usize)
@@ -82,7 +82,7 @@ impl PositionSets {
     pub fn places(&self, n: u32) -> Result<Vec<usize>, AllocError>
         ensures { IfOk result (λ places. ArePositions self.now n places.items) }
     {
-        match self.set(n) {
+        match self.positions_at(n) {
             Some(set) => {
                 let places = collect_positions(self.alloc, set)?;
                 Ok(places)

@@ -23,8 +23,8 @@ pub trait IndexedRow: AddedRow {
     fn index_number(&self) -> u32
         ensures { result ≡ number_of self.now };
 
-    /// Returns the number under which the row that the change inserts into this table is indexed, or None if it inserts
-    /// none.
+    /// Returns the number under which the row that the change inserts into this table is indexed,
+    /// or None if it inserts none.
     fn number_of_added_row(change: &Change) -> Option<u32>
         ensures { result ≡ option_map number_of (Self.added_row change.now) };
 
@@ -36,8 +36,8 @@ pub trait IndexedRow: AddedRow {
     ghost agree: { (x y : Self) → same x y ≡ true → number_of x ≡ number_of y };
 }
 
-/// Rows in insertion order, with an index. A removed row leaves a gap, so that the positions of other rows don't
-/// change.
+/// Rows in insertion order, with an index. A removed row leaves a gap, so that the positions of
+/// other rows don't change.
 #[derive(Drop)]
 pub struct Slots<T> {
     rows: Vec<Option<T>>,
@@ -63,8 +63,8 @@ impl<T: IndexedRow + Drop> Slots<T> {
         self.rows.as_slice()
     }
 
-    /// Reserves memory for the rows that the changes insert, and indexes their positions, so that inserting them can't
-    /// fail.
+    /// Reserves memory for the rows that the changes insert, and indexes their positions, so that
+    /// inserting them can't fail.
     pub fn make_room(&mut self, changes: &[Change]) -> Result<(), AllocError>
         requires { vec_len self.old.rows + length changes.now < 2 ^ 64 }
         ensures rows { rows_in self.new ≡ rows_in self.old }
@@ -90,8 +90,8 @@ impl<T: IndexedRow + Drop> Slots<T> {
         Ok(())
     }
 
-    // Indexes `place` as the position of the row that a change will insert, and returns `place + 1`; does nothing and
-    // returns `place` if the change inserts no row into this table.
+    // Indexes `place` as the position of the row that a change will insert, and returns `place +
+    // 1`; does nothing and returns `place` if the change inserts no row into this table.
     fn expect_one(&mut self, change: &Change, place: usize) -> Result<usize, AllocError>
         requires { place + 1 < 2 ^ 64 }
         ensures keeps { GrowsIndex self.old self.new }

@@ -75,7 +75,8 @@ impl MemTables {
         make_room(&mut self.steps, changes)
     }
 
-    /// Applies a change. `standing` is an index of the postings by place, as they are before the change.
+    /// Applies a change. `standing` is an index of the postings by place, as they are before the
+    /// change.
     pub fn apply_change(&mut self, change: Change, standing: &PositionSets)
         requires ready { IsReadyForChanges (change ∷ []) self.old }
         requires standing { IndexesByPlace standing.now self.old.posting.items }
@@ -107,8 +108,8 @@ impl MemTables {
         }
     }
 
-    /// Applies changes in order. `standing` is an index that has each posting under its place before each of the
-    /// changes.
+    /// Applies changes in order. `standing` is an index that has each posting under its place
+    /// before each of the changes.
     pub fn apply_changes(&mut self, changes: Vec<Change>, standing: &PositionSets)
         requires ready { IsReadyForChanges changes.items self.old }
         requires standing { IndexesByPlaceThroughout
@@ -123,7 +124,8 @@ impl MemTables {
     }
 }
 
-// Appends the row of a label, of which the next copy is taken.
+// Appends the row of a label. Uses up the first of `copies`, which is its copy in one block of
+// memory, made before the change.
 fn push_label(labels: &mut Slots<PackedLabel>, copies: &mut VecDeque<PackedLabel>, row: LabelRow)
     requires next { (rest : List Label) × (copies.old.items ≡ row ∷ rest) }
     requires ready { IsReady owner_of labels.old (row ∷ []) }
@@ -136,7 +138,8 @@ fn push_label(labels: &mut Slots<PackedLabel>, copies: &mut VecDeque<PackedLabel
     drop(row)
 }
 
-// Removes the rows of a label, of which the next copy is taken.
+// Removes the row of a label. Uses up the first of `copies`, which is its copy in one block of
+// memory, made before the change.
 fn remove_label(labels: &mut Slots<PackedLabel>, copies: &mut VecDeque<PackedLabel>, row: LabelRow)
     requires next { (rest : List Label) × (copies.old.items ≡ row ∷ rest) }
     requires index { AreIndexedBy owner_of labels.old }
@@ -224,7 +227,7 @@ fn move_all(postings: &mut Vec<PostingRow>, standing: &PositionSets, source: Res
     ensures items { postings.new.items ≡ map (row_after_move_all source target) postings.old.items }
     ensures room { KeepsRoom postings.old postings.new }
 {
-    if let Some(places) = standing.set(source.get()) {
+    if let Some(places) = standing.positions_at(source.get()) {
         move_at_positions(postings, places, source, target);
     }
 }

@@ -1,4 +1,4 @@
-//! The tables in which a state is kept, and how requests change them.
+//! The rows and cells of the eight tables, and the changes of rows that requests make.
 #![tactic(auto)]
 
 pub mod cells;

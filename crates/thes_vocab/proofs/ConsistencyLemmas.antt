@@ -71,7 +71,8 @@ pub finds_added : (rs : List Resource) (labels : Labels) (l : Label) (old new : 
     → KeepsNames old new → (o : Option ℕ) → IsSchemeOf rs l.owner o
     → HasLabelEntry new o (record { kind = l.kind; tag = l.tag; text = l.text }) l.owner
     → AreHoldersIndexed rs (set.insert labels l) new
-finds_added rs labels l old new finds keeps o at noted s n t x h = grind (arith, common_steps, inserted_cases, scheme_is)
+finds_added rs labels l old new finds keeps o at noted s n t x h =
+    grind (arith, common_steps, inserted_cases, scheme_is)
 
 -- The index finds all holders after a label is removed.
 pub finds_less : (rs : List Resource) (labels : Labels) (l : Label) (names : Names) → AreHoldersIndexed rs labels names
@@ -83,7 +84,8 @@ pub finds_renamed : (rs : List Resource) (labels : Labels) (owner : ℕ) (tag te
     (old new : Names) → AreHoldersIndexed rs labels old → KeepsNames old new → (o : Option ℕ) → IsSchemeOf rs owner o
     → HasEntryInScheme new o tag text owner
     → AreHoldersIndexed rs (replace_preferred owner tag text keep was labels) new
-finds_renamed rs labels owner tag text was keep old new finds keeps o at noted s n t x h = grind (arith, common_steps, renamed_cases, scheme_is)
+finds_renamed rs labels owner tag text was keep old new finds keeps o at noted s n t x h =
+    grind (arith, common_steps, renamed_cases, scheme_is)
 
 -- The index finds all holders after the entry of a label that its owner doesn't have is removed.
 pub finds_forgotten : (rs : List Resource) (labels : Labels) (owner : ℕ) (own : List LabelData) (o : Option ℕ)
@@ -118,7 +120,8 @@ module _ (rs : List Resource) (labels : Labels) (r : Resource) (tag text : List 
   pub finds_new : (o : Option ℕ) → MatchOption o ((scheme : ℕ) → IsConceptIn scheme r → ⊥)
       (λ scheme. IsConceptIn scheme r) → HasEntryInScheme new o tag text number_of_new
       → AreHoldersIndexed (rs ++ r ∷ []) with_name new
-  finds_new o at noted s n t x h = grind (arith, common_steps, concept_cases, exists_apart, inserted_cases, not_next, old_only, scheme_of_new)
+  finds_new o at noted s n t x h =
+      grind (arith, common_steps, concept_cases, exists_apart, inserted_cases, not_next, old_only, scheme_of_new)
 
 -- The invariant holds after a resource with a preferred label is added.
 pub kept_named : (base : List ℕ) (rs : List Resource) (iris : Iris) (labels : Labels) (names : Names)

@@ -23,4 +23,11 @@ module _ (rs : List Resource) where
       omega (arith, all) in q)
 
 -- What a loop along a chain of replacements cites.
-pub ruleset along_chain = (remaining_at_start, remaining_at_step, remaining_at_end, within_none, append-nil, append_assoc)
+pub ruleset along_chain = (
+  remaining_at_start,
+  remaining_at_step,
+  remaining_at_end,
+  within_none,
+  append-nil,
+  append_assoc,
+)

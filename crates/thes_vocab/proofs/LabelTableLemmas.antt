@@ -37,26 +37,35 @@ pub owned_tie : (q : Label) (owner : ℕ) (l : LabelData) → eq_by_cmp label_cm
     ≡ (eq_by_cmp nat_cmp q.owner owner && eq_by_cmp data_cmp (data_of q) l)
 owned_tie q owner l = grind (arith, common_steps, and_assoc, both_equal)
 
-any_row : (q : Label) (owner : ℕ) (row : List LabelData) → list_any (eq_by_cmp label_cmp q)
+pub any_row : (q : Label) (owner : ℕ) (row : List LabelData) → list_any (eq_by_cmp label_cmp q)
     (map (owned_label owner) row) ≡ (eq_by_cmp nat_cmp q.owner owner && has_own row (data_of q))
 any_row q owner [] = sym (and-false (eq_by_cmp nat_cmp q.owner owner))
 any_row q owner (l ∷ row) = grind (arith, common_steps, and-or_distrib_left, owned_tie, any_row q owner row)
 
 -- Different numbers don't compare as equal.
-apart_by_cmp : (m n : ℕ) → m ≢ n → eq_by_cmp nat_cmp m n ≡ false
+pub apart_by_cmp : (m n : ℕ) → m ≢ n → eq_by_cmp nat_cmp m n ≡ false
 apart_by_cmp m n apart = grind (arith, common_steps, Equal-is, exact_unsigned)
 
 module _ (q : Label) where
   -- Rows whose first owner has number `k` have no labels of owners before it.
   none_before : (k : ℕ) (rows : LabelRows) → q.owner < k → list_any (eq_by_cmp label_cmp q) (all_owned k rows) ≡ false
   none_before k [] before = refl
-  none_before k (row ∷ rows) before = grind (arith, common_steps, any_row, apart_by_cmp, list_any-append, none_before (k + 1) rows (omega (arith, before)))
+  none_before k (row ∷ rows) before =
+      grind (
+        arith,
+        common_steps,
+        any_row,
+        apart_by_cmp,
+        list_any-append,
+        none_before (k + 1) rows (omega (arith, before)),
+      )
 
   found_from : (k i : ℕ) (rows : LabelRows) → q.owner ≡ k + i
       → list_any (eq_by_cmp label_cmp q) (all_owned k rows) ≡ has_own (owner_row rows i) (data_of q)
   found_from k i [] at = refl
   found_from k zero (row ∷ rows) at = grind (arith, common_steps, any_row, list_any-append, none_before, or-false)
-  found_from k (suc i) (row ∷ rows) at = grind (arith, common_steps, any_row, apart_by_cmp, list_any-append, found_from (k + 1) i rows (omega (arith, at)))
+  found_from k (suc i) (row ∷ rows) at =
+      grind (arith, common_steps, any_row, apart_by_cmp, list_any-append, found_from (k + 1) i rows (omega (arith, at)))
 
 -- The set has a label exactly when its owner's row has it.
 pub has_label : (rows : LabelRows) (q : Label) → set.contains (labels_in rows) q
@@ -93,10 +102,12 @@ pub row_set : (rows : LabelRows) (owner i : ℕ) (now : List LabelData) → i �
     → IsRowWritten rows (set_at rows i now) owner now
 row_set rows owner i now at within = record {
   own = ap (λ o. unwrap_or o []) (slice_get-get_or (set_at rows i now) owner now
-      (omega (arith, at, within, length-set rows i now)) ∙ ap Some (get_or-set_at rows i owner now now (sym at) within));
+      (omega (arith, at, within, length-set rows i now))
+      ∙ ap Some (get_or-set_at rows i owner now now (sym at) within));
   others = λ n apart. ap (λ o. unwrap_or o []) (elim (cases_lt n (length rows)) [
     | inl inside ↦ slice_get-get_or (set_at rows i now) n now (omega (arith, inside, length-set rows i now))
-        ∙ ap Some (get_or-set_other rows i n now now (λ same. apart (same ∙ at))) ∙ sym (slice_get-get_or rows n now inside)
+        ∙ ap Some (get_or-set_other rows i n now now (λ same. apart (same ∙ at)))
+        ∙ sym (slice_get-get_or rows n now inside)
     | inr past ↦ slice_get_past (set_at rows i now) n (omega (arith, past, length-set rows i now))
         ∙ sym (slice_get_past rows n past)
   ]);

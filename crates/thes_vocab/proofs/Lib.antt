@@ -7,6 +7,8 @@ mod LabelCheckLemmas
 mod NameLemmas
 mod ConsistencyLemmas
 mod LexicalLabelLemmas
-mod MergedRowLemmas
+pub mod MergedRowLemmas
 mod ForwardingLemmas
 mod LoadingLemmas
+pub mod SetUndoLemmas
+mod TakingBackLemmas

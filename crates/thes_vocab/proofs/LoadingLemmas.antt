@@ -71,7 +71,8 @@ module _ (base : List ℕ) (rs : List Resource) (iris : Iris) (labels : Labels) 
   loading_iri n iri fits = grind (arith, common_steps, iri_cases)
 
   -- The loaded vocabulary is consistent if all IRIs and preferred labels are there.
-  pub loading_kept : HaveIris (vocabulary_from base rs iris labels) → EachHasPreferred rs labels → IsConsistentVocabulary
+  pub loading_kept : HaveIris (vocabulary_from base rs iris labels) → EachHasPreferred rs labels
+      → IsConsistentVocabulary
       base rs iris labels old concepts
   loading_kept all named = record {
     legal = record {

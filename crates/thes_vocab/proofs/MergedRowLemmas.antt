@@ -1,7 +1,7 @@
 -- The target's row after a merge, and the number of labels copied to it, are those of the machine's definition.
 use Rattle.std.proofs.lemmas.Grind.{common_steps}
-use Rattle.std.proofs.Common.{◌≡◌, ◌⊎◌, inl, inr, ◌<◌, ℕ, zero, suc, ◌+◌, length, List, [], ◌∷◌, ◌++◌, refl, sym, ap, ◌∙◌}
-use Rattle.std.proofs.Common.{arith, Bool, true, false, not, ◌&&◌, ◌||◌, cond, get_or, take, map, eqb-true, eq-eqb}
+use Rattle.std.proofs.Common.{◌≡◌, ◌⊎◌, inl, inr, ℕ, ◌+◌, length, List, [], ◌∷◌, refl, sym, ap, ◌∙◌}
+use Rattle.std.proofs.Common.{arith, Bool, true, false, not, ◌&&◌, ◌||◌, cond, map, eqb-true, eq-eqb}
 use Rattle.std.specs.Prelude.{filter, if◌then◌else◌, ◌==◌}
 use Rattle.std.specs.declared.cmp.Ordering.{Ordering}
 use Rattle.std.specs.declared.cmp.Ordering.TheVariants.{Less}
@@ -9,10 +9,11 @@ use Rattle.std.specs.Ordering.{nat_cmp, eq_by_cmp, is_eq}
 use Rattle.std.specs.Cmp.{nat_cmp_total, both_ways, tied_itself, Equal-is}
 use Rattle.std.specs.List.{list_any, AllByRecursion}
 use Rattle.std.specs.List.Sorted.{IsStrictlySortedBy}
+use Rattle.std.proofs.lemmas.List.{length-map}
 use Rattle.std.proofs.lemmas.Map.Lookups.{exact_unsigned}
 use Rattle.std.specs.FinSet as set
 use Rattle.std.proofs.lemmas.Bool.{or_cases, or_left, or_right, and_from, cases_Bool, not-true, and_parts}
-use Rattle.std.proofs.Math.Bool.{and-false, and-or_distrib_left, or-false, or_assoc, or_comm}
+use Rattle.std.proofs.Math.Bool.{and-false, and-or_distrib_left, or-false, or_comm}
 use Rattle.thes_base.specs.Data.{LabelData}
 use Rattle.thes_base.specs.Labels.{Label, Labels, label_cmp, is_lexical_kind, S13}
 use Rattle.thes_base.specs.Changes.{label, has_lexical_label, copied_label_kind, copied_labels}
@@ -21,35 +22,18 @@ use Rattle.thes_base.proofs.LabelSetLemmas.{labels_total, labels_exact}
 use Rattle.thes_base.proofs.CopiedLabelLemmas.{name_of, name_taken}
 use Rattle.thes_base.proofs.SetMemberLemmas.{or_swap}
 use Rattle.thes_vocab.specs.OwnLabels.{data_cmp, has_own, AreLabelsOf}
-use Rattle.thes_vocab.specs.CopiedLabels.{lacks_name, lacks_own_name, merged_label, copies_label}
-use Rattle.thes_vocab.specs.LabelRows.{LabelRows, IsRowOfOwner, labels_in, owner_row, IsRowWritten, RowsAfterInsertions}
-use Rattle.thes_vocab.specs.LabelRows.{AreMissingLabels}
+use Rattle.thes_vocab.specs.CopiedLabels.{lacks_name, merged_label, AreMissingLabels}
+use Rattle.thes_vocab.specs.LabelRows.{LabelRows, IsRowOfOwner, labels_of_owner, labels_in, owner_row}
+use Rattle.thes_vocab.specs.LabelRows.{RowsAfterInsertions}
 use Rattle.thes_vocab.proofs.OwnLabelLemmas.{data_total, label_data_of_tie, tie_of_label_data, less_not_equal}
-use Rattle.thes_vocab.proofs.OwnLabelLemmas.{has_pushed, any_found, any_of}
-use Rattle.thes_vocab.proofs.LabelTableLemmas.{data_of, owned_tie, has_label, row_after}
+use Rattle.thes_vocab.proofs.OwnLabelLemmas.{any_found, any_of}
+use Rattle.thes_vocab.proofs.LabelTableLemmas.{data_of, owned_tie, any_row, apart_by_cmp, has_label}
 
-any_more : {A : Type 0} (p : A → Bool) (xs : List A) (i : ℕ) (x : A) → i < length xs → x ≡ get_or xs i x
-    → list_any p (take (suc i) xs) ≡ (list_any p (take i xs) || p x)
-any_more p [] i x b e = absurd (omega arith)
-any_more p (y ∷ []) zero x b e = ap (λ z. p z || false) (sym e) ∙ or-false (p x)
-any_more p (y ∷ z ∷ xs) zero x b e = ap (λ w. p w || false) (sym e) ∙ or-false (p x)
-any_more p (y ∷ xs) (suc i) x b e = grind (arith, common_steps, or_assoc, any_more p xs i x (omega arith) e)
-
-pub gives_more : (source target : List LabelData) (i : ℕ) (l q : LabelData) → i < length source → l
-    ≡ get_or source i l → copies_label (take (i + 1) source) target q
-    ≡ (copies_label (take i source) target q || (lacks_own_name target l && eq_by_cmp data_cmp q (merged_label l)))
-gives_more source target i l q b e = grind (arith, common_steps, any_more)
-
--- The copies after one step: the label is copied if the target lacks it.
-pub copies_taken : (source target copies : List LabelData) (i : ℕ) (l q : LabelData) → i < length source → l
-    ≡ get_or source i l → has_own copies q ≡ copies_label (take i source) target q → lacks_own_name target l ≡ true
-    → has_own (copies ++ merged_label l ∷ []) q ≡ copies_label (take (i + 1) source) target q
-copies_taken source target copies i l q b e before picks = grind (arith, common_steps, gives_more, has_pushed)
-
-pub copies_left : (source target copies : List LabelData) (i : ℕ) (l q : LabelData) → i < length source → l
-    ≡ get_or source i l → has_own copies q ≡ copies_label (take i source) target q → lacks_own_name target l ≡ false
-    → has_own copies q ≡ copies_label (take (i + 1) source) target q
-copies_left source target copies i l q b e before no_name = grind (arith, common_steps, gives_more, or-false)
+-- A copy of a label for the target, with its owner.
+pub as_labels : (target : ℕ) (ds : List LabelData) → map (owned_label target) (map merged_label ds)
+    ≡ map (λ d. owned_label target (merged_label d)) ds
+as_labels target [] = refl
+as_labels target (d ∷ ds) = ap (λ ls. owned_label target (merged_label d) ∷ ls) (as_labels target ds)
 
 module _ {A : Type 0} (p : A → Bool) where
   pub kept_yes : (x : A) (xs : List A) → p x ≡ true → filter p (x ∷ xs) ≡ x ∷ filter p xs
@@ -63,7 +47,20 @@ any_mapped : {A : Type 0} (cmp : A → A → Ordering) (equal_is_tie : (x : A) �
     (f : A → Label) (q : Label) (xs : List A) → list_any (eq_by_cmp label_cmp q) (map f (filter p xs)) ≡ true
     → (x : A) × (p x ≡ true) × (list_any (eq_by_cmp cmp x) xs ≡ true) × (q ≡ f x)
 any_mapped cmp equal_is_tie p f q [] e = absurd (cc)
-any_mapped cmp equal_is_tie p f q (x ∷ xs) e = grind (arith, common_steps, Equal-is, cases_Bool, kept_no, kept_yes, labels_exact, or_cases, or_left, or_right, any_mapped cmp equal_is_tie p f q xs)
+any_mapped cmp equal_is_tie p f q (x ∷ xs) e =
+    grind (
+      arith,
+      common_steps,
+      Equal-is,
+      cases_Bool,
+      kept_no,
+      kept_yes,
+      labels_exact,
+      or_cases,
+      or_left,
+      or_right,
+      any_mapped cmp equal_is_tie p f q xs,
+    )
 
 equal_is_tie : (x : Label) → eq_by_cmp label_cmp x x ≡ true
 equal_is_tie x = ap is_eq (tied_itself labels_total x)
@@ -138,25 +135,6 @@ module _ (labels : Labels) (source target : ℕ) (own : List LabelData) (owns : 
           (and_from (source == source) (lacks_name labels target d) (eq-eqb source source refl) takes_it) same
           (sym (set.contains-items labels l) ∙ sym (owns d) ∙ found.2)
 
-  pub union_contains : (q : Label) → set.contains (set.union labels (copied_labels source target labels)) q
-      ≡ (set.contains labels q || (eq_by_cmp nat_cmp q.owner target && list_any (test q) own))
-  union_contains q = set.contains-union labels_total labels (copied_labels source target labels) q
-      ∙ ap (λ b. set.contains labels q || b) (taken_contains q)
-
--- The target lacks a lexical label exactly when its own list does.
-pub takes_is : (labels : Labels) (target : ℕ) (own : List LabelData) → IsRowOfOwner labels target own
-    → (d : LabelData) → lacks_own_name own d ≡ lacks_name labels target d
-takes_is labels target own owns d = grind (arith, common_steps)
-
-any_same : {A : Type 0} (p q : A → Bool) → ((x : A) → p x ≡ q x) → (xs : List A) → list_any p xs ≡ list_any q xs
-any_same p q same [] = refl
-any_same p q same (x ∷ xs) = λ i. same x i || any_same p q same xs i
-
-pub gives_is : (labels : Labels) (target : ℕ) (own : List LabelData) → IsRowOfOwner labels target own
-    → (source : List LabelData) (q : LabelData) → copies_label source own q
-    ≡ list_any (λ d. lacks_name labels target d && eq_by_cmp data_cmp q (merged_label d)) source
-gives_is labels target own owns source q = grind (arith, common_steps, any_same, takes_is)
-
 -- Assumes labels that meet SKOS S13, and counts those that are copied.
 module _ (labels : Labels) (source target : ℕ) (s13 : S13 labels) where
   abbrev as_taken : LabelData → Label
@@ -204,7 +182,8 @@ module _ (labels : Labels) (source target : ℕ) (s13 : S13 labels) where
   after_none : (x d : LabelData) (own : List LabelData) → AllByRecursion (λ y. data_cmp x y ≡ Less) own
       → has_own own d ≡ true → x ≡ d → ⊥
   after_none x d [] each e same = cc
-  after_none x d (y ∷ own) each e same = grind (arith, common_steps, data_total, label_data_of_tie, less_not_equal, or_cases, after_none x d own each.1)
+  after_none x d (y ∷ own) each e same =
+      grind (arith, common_steps, data_total, label_data_of_tie, less_not_equal, or_cases, after_none x d own each.1)
 
   -- The union with the copies has one further label for each label of the list that the target lacks.
   len_built : (own : List LabelData) → IsStrictlySortedBy data_cmp own → AreSome own
@@ -265,37 +244,40 @@ module _ (labels : Labels) (source target : ℕ) (s13 : S13 labels) where
           (λ d. lacks_name labels target d && eq_by_cmp data_cmp (data_of q) (merged_label d)) own))
       go rest picks = grind (arith, common_steps, and-or_distrib_left, kept_no, kept_yes, owned_tie)
 
+  copies_are : (own : List LabelData) → AreLabelsOf labels source own → set_of_copies own
+      ≡ copied_labels source target labels
+  copies_are own are = set.same_set labels_total labels_exact _ _ (λ q.
+      set.contains-from_list labels_total (map as_taken (missing_labels own)) q ∙ built_any own q
+      ∙ sym (taken_contains labels source target own are.each q))
+
   pub taken_len : (own : List LabelData) → AreLabelsOf labels source own → set.len labels
       + length (missing_labels own) ≡ set.len (set.union labels (copied_labels source target labels))
   taken_len own are = sym (len_built own are.ordered (λ d h. sym (are.each d) ∙ h))
-      ∙ ap set.len (set.same_set labels_total labels_exact _ _ (λ q.
-      set.contains-union labels_total labels (set_of_copies own) q ∙ ap (λ b. set.contains labels q || b)
-      (set.contains-from_list labels_total (map as_taken (missing_labels own)) q ∙ built_any own q)
-      ∙ sym (union_contains labels source target own are.each q)))
+      ∙ ap (λ more. set.len (set.union labels more)) (copies_are own are)
 
--- The set of labels after the insertion of the missing labels is the union with the copies.
-pub union_rows : (old new : LabelRows) (source target : ℕ) (copies : List LabelData)
-    → RowsAfterInsertions old new target copies → AreMissingLabels old source target copies
-    → labels_in new ≡ set.union (labels_in old) (copied_labels source target (labels_in old))
-union_rows old new source target copies after missing = set.same_set labels_total labels_exact _ _ (λ q.
-    has_label new q ∙ ap (λ r. has_own r (data_of q)) (row_after old new target (owner_row new target) written q.owner)
-    ∙ at q (eq_by_cmp nat_cmp q.owner target) refl
-    ∙ sym (union_contains (labels_in old) source target (owner_row old source) (owns source) q))
+  -- The missing labels are those that the machine copies, and as many as they add.
+  module _ (copies : List LabelData) (missing : AreMissingLabels labels source target copies) where
+    pub missing_set : labels_of_owner target copies ≡ copied_labels source target labels
+    missing_set =
+        ap (labels_of_owner target) missing.2
+        ∙ ap (λ ls. set.from_list {R = label_cmp} ls) (as_labels target (missing_labels missing.0))
+        ∙ copies_are missing.0 missing.1
+
+    pub missing_len : set.len labels + length copies ≡ set.len (set.union labels (labels_of_owner target copies))
+    missing_len =
+        ap (λ n. set.len labels + n) (ap length missing.2 ∙ length-map (missing_labels missing.0) merged_label)
+        ∙ taken_len missing.0 missing.1 ∙ ap (λ more. set.len (set.union labels more)) (sym missing_set)
+
+-- The set of labels after the insertion of labels of an owner is the union with them.
+pub union_rows : (old new : LabelRows) (owner : ℕ) (inserted : List LabelData)
+    → RowsAfterInsertions old new owner inserted
+    → labels_in new ≡ set.union (labels_in old) (labels_of_owner owner inserted)
+union_rows old new owner inserted after = set.same_set labels_total labels_exact _ _ (λ q.
+    has_label new q ∙ at q (eq_by_cmp nat_cmp q.owner owner) refl
+    ∙ sym (set.contains-union labels_total (labels_in old) (labels_of_owner owner inserted) q
+    ∙ ap (λ b. set.contains (labels_in old) q || b)
+    (set.contains-from_list labels_total (map (owned_label owner) inserted) q ∙ any_row q owner inserted)))
   where
-    written : IsRowWritten old new target (owner_row new target)
-    written = record { own = refl; others = after.others }
-
-    merged : (l : LabelData) → has_own (owner_row new target) l
-        ≡ (has_own (owner_row old target) l || copies_label (owner_row old source) (owner_row old target) l)
-    merged l = after.own l ∙ or_comm (has_own copies l) (has_own (owner_row old target) l)
-        ∙ ap (λ b. has_own (owner_row old target) l || b) (missing l)
-
-    owns : (n : ℕ) → IsRowOfOwner (labels_in old) n (owner_row old n)
-    owns n l = sym (has_label old (owned_label n l))
-
-    at : (q : Label) (b : Bool) → eq_by_cmp nat_cmp q.owner target ≡ b
-        → has_own (cond b (owner_row new target) (owner_row old q.owner)) (data_of q)
-        ≡ (set.contains (labels_in old) q ||
-        (eq_by_cmp nat_cmp q.owner target && list_any (λ d. lacks_name (labels_in old) target d &&
-        eq_by_cmp data_cmp (data_of q) (merged_label d)) (owner_row old source)))
-    at q b tie = grind (arith, common_steps, Equal-is, exact_unsigned, gives_is, has_label, merged, or-false, owns)
+    at : (q : Label) (b : Bool) → eq_by_cmp nat_cmp q.owner owner ≡ b → has_own (owner_row new q.owner) (data_of q)
+        ≡ (set.contains (labels_in old) q || (eq_by_cmp nat_cmp q.owner owner && has_own inserted (data_of q)))
+    at q b tie = grind (arith, common_steps, Equal-is, apart_by_cmp, exact_unsigned, has_label, or-false, or_comm)

@@ -48,7 +48,8 @@ pub all_of_digest : (set : BTreeSet (ℕ × ℕ)) (d first last n : ℕ) → fir
 all_of_digest set d first last n low high had =
     any-filter_same (is_at (entry_cmp (d, n))) (range_contains entry_cmp (Included (d, first)) (Included (d, last)))
     true (λ e at. subst (λ f. range_contains entry_cmp (Included (d, first)) (Included (d, last)) f ≡ true)
-    (same_entry (d, n) e at) (range_contains-from_IsInRange entry_total (Included (d, first)) (Included (d, last)) (d, n)
+    (same_entry (d, n) e at) (range_contains-from_IsInRange entry_total (Included (d, first)) (Included (d, last))
+    (d, n)
     (not_greater d first n low, not_greater d n last high))) set.keys
     ∙ had
 
@@ -61,7 +62,8 @@ other_digest (l ∷ own) scheme digest tag text none has same =
     let parts = or_parts (has_digest scheme digest l) (list_any (has_digest scheme digest) own) none in
     elim (or_cases (eq_by_cmp data_cmp (own_label Pref tag text) l) (has_own own (own_label Pref tag text)) has) [
       | inl tie ↦ both_ways (has_digest scheme digest l) parts.0
-          (subst (λ (q : LabelData). has_digest scheme digest q ≡ true) (label_data_of_tie (own_label Pref tag text) l tie)
+          (subst (λ (q : LabelData). has_digest scheme digest q ≡ true)
+          (label_data_of_tie (own_label Pref tag text) l tie)
           (eq-eqb (name_digest scheme tag text) digest same))
       | inr rest ↦ other_digest own scheme digest tag text parts.1 rest same
     ]

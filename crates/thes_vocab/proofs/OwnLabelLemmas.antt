@@ -77,7 +77,15 @@ found_is own l (Err i) at = sym (has_missed data_cmp data_total own i l at.1 at.
 pub any_found : (test : LabelData → Bool) (own : List LabelData) → list_any test own ≡ true → (d : LabelData)
     × (test d ≡ true) × (has_own own d ≡ true)
 any_found test [] e = absurd (cc)
-any_found test (x ∷ own) e = grind (arith, common_steps, or_cases, or_left, or_right, tie_of_label_data, any_found test own)
+any_found test (x ∷ own) e = grind (
+  arith,
+  common_steps,
+  or_cases,
+  or_left,
+  or_right,
+  tie_of_label_data,
+  any_found test own,
+)
 
 -- A label of a list that passes a test is found.
 pub any_of : (test : LabelData → Bool) (own : List LabelData) (d : LabelData) → test d ≡ true → has_own own d ≡ true
@@ -266,3 +274,6 @@ two_of_none (x ∷ y ∷ own) short two = absurd (omega arith)
 pub two_of_second : (own : List LabelData) (l : LabelData) → IsStrictlySortedBy data_cmp own → 1 < length own → l
     ≡ get_or own 1 l → (l.kind ≡ Pref → HasTwoOwnPreferred own) × (HasTwoOwnPreferred own → l.kind ≡ Pref)
 two_of_second own l sorted b e = grind (arith, common_steps, second_of_two, two_first)
+
+-- Whether a list has two preferred labels is decided by its second label.
+pub ruleset two_preferred = (two_of_none, two_of_second)

@@ -8,11 +8,14 @@ use Rattle.thes_base.specs.Data.{LabelData}
 use Rattle.thes_base.specs.Labels.{Label, Labels}
 use Rattle.thes_base.specs.Machine.{owned_label}
 use Rattle.thes_vocab.specs.OwnLabels.{data_cmp, has_own}
-use Rattle.thes_vocab.specs.CopiedLabels.{copies_label}
 
--- The rows of owners from number 0 on.
+-- The labels of all owners: the n-th row, counted from 0, has those of owner n.
 abbrev pub LabelRows : Type 0
 LabelRows = List (List LabelData)
+
+-- The labels of the list, as a set of labels of the owner.
+abbrev pub labels_of_owner : ℕ → List LabelData → Labels
+labels_of_owner owner own = set.from_list (map (owned_label owner) own)
 
 -- The labels of rows whose first owner has number `n`, each with its owner.
 abbrev pub all_owned : ℕ → LabelRows → List Label
@@ -56,17 +59,12 @@ pub record RowsAfterInsertions (old new : LabelRows) (owner : ℕ) (inserted : L
   pub own : (l : LabelData) → has_own (owner_row new owner) l ≡ (has_own inserted l || has_own (owner_row old owner) l)
   pub others : (n : ℕ) → n ≢ owner → owner_row new n ≡ owner_row old n
 
--- The list has copies of exactly the lexical labels of the source that the target lacks.
-abbrev pub AreMissingLabels : LabelRows → ℕ → ℕ → List LabelData → Type 0
-AreMissingLabels rows source target copies = (l : LabelData) →
-    has_own copies l ≡ copies_label (owner_row rows source) (owner_row rows target) l
-
 -- Each owner has the same row, or the same lack of labels, in both.
 abbrev pub AreSameLabelRows : LabelRows → LabelRows → Type 0
 AreSameLabelRows old new = (n : ℕ) → owner_row new n ≡ owner_row old n
 
--- The outcome of inserting a label for the owner: Ok with whether it is new, and the owner has it; or Err, and each owner
--- has the same row.
+-- The outcome of inserting a label for the owner: Ok with whether it is new, and the owner has it; or Err, and each
+-- owner has the same row.
 pub record InsertsInRow {E : Type 0} (old new : LabelRows) (owner : ℕ) (l : LabelData) (result : Result Bool E)
     : Type 0 where
   pub answer : IfOk result (λ is_new. is_new ≡ not (has_own (owner_row old owner) l))

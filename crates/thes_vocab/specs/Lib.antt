@@ -10,3 +10,4 @@ pub mod ConceptLists
 pub mod IriIndex
 pub mod Consistency
 pub mod Loading
+pub mod TakingBack

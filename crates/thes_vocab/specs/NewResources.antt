@@ -21,7 +21,8 @@ vocabulary_after_add (Collection scheme tag text) v =
     vocabulary_of v.base (state_after_creation (collection_resource scheme) tag text (bare_state v))
 vocabulary_after_add (Outside iri) v = vocabulary_of v.base (state_after_outside iri (bare_state v))
 
--- The outcome of adding a resource: Ok with the next number, and the vocabulary is `after`; or Err, and it is unchanged.
+-- The outcome of adding a resource: Ok with the next number, and the vocabulary is `after`; or Err, and it is
+-- unchanged.
 pub record AddsResource {E : Type 0} (old new after : Vocabulary) (result : Result ℕ E) : Type 0 where
   pub number : IfOk result (λ n. n ≡ length old.resources + 1)
   pub ok : OnOk result (new ≡ after)

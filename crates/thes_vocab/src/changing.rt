@@ -8,10 +8,11 @@ ghost use Rattle.thes_base.specs.Resources.{IsLiveConcept, BeginsWith};
 ghost use Rattle.thes_base.specs.Changes.{state_after_creation, state_after_outside, labels_after_relabel, copied_labels};
 ghost use Rattle.thes_base.specs.RuleParts.{unless_new_label, unless_droppable, unless_replaceable_preferred};
 ghost use Rattle.thes_vocab.specs.Vocabulary.{bare_state, vocabulary_of, with_labels, vocabulary_after_death, IsLiveOwner, IsReplacement};
-ghost use Rattle.thes_vocab.specs.CopiedLabels.{lacks_name};
+ghost use Rattle.thes_vocab.specs.CopiedLabels.{lacks_name, AreMissingLabels};
 ghost use Rattle.thes_vocab.specs.NewResources.{unless_new, vocabulary_after_add, AddsResource, IsNewOwner, IsFreeName};
 
 use crate::concepts;
+use crate::row::merged_label;
 use crate::vocab::{Vocab, concept_scheme, scheme_if_concept};
 use std::alloc::AllocError;
 use thes_base::data::{Label, LabelKind, LabelValue, NewResource, Resource, ResourceKind};
@@ -125,6 +126,21 @@ impl Vocab {
         count
     }
 
+    /// Returns the labels that a merge adds to the target: copies of the lexical labels of the
+    /// source that the target lacks, preferred ones as alternative ones.
+    pub fn missing_labels(&self, source: ResNo, target: ResNo) -> Result<Vec<Label>, AllocError>
+        ensures { IfOk result (λ copies.
+            AreMissingLabels self.now.labels source target copies.items) }
+    {
+        let mut copies = Vec::new(self.alloc);
+        for label in self.labels_of(source) {
+            if self.lacks_name(target, label) {
+                copies.push(merged_label(self.alloc, label)?)?;
+            }
+        }
+        Ok(copies)
+    }
+
     /// Copies the lexical labels of the source that the target lacks, preferred ones as alternative
     /// ones, and returns their number.
     pub fn take_labels(&mut self, source: ResNo, target: ResNo) -> Result<u64, AllocError>
@@ -134,8 +150,9 @@ impl Vocab {
             OnOk result (self.new ≡ with_labels self.old (set.union self.old.labels taken)) }
         ensures err { OnErr result (self.new ≡ self.old) }
     {
-        let gained = self.taken_count(source, target);
-        self.labels.take_names(source, target, gained)?;
+        let copies = self.missing_labels(source, target)?;
+        let gained = copies.len() as u64;
+        self.labels.insert_all(target, copies, gained)?;
         Ok(gained)
     }
 

@@ -3,14 +3,14 @@ ghost use Rattle.std.specs.Prelude.{◌≡◌, ◌≢◌, ◌↔◌, ◌+◌, �
 ghost use Rattle.std.specs.FinSet as set;
 ghost use Rattle.thes_base.specs.declared.data.LabelKind.TheVariants.{Pref, Alt};
 ghost use Rattle.thes_base.specs.Data.{label_value_kind, label_value_text};
-ghost use Rattle.thes_base.specs.Changes.{label, has_lexical_label, replace_preferred, copied_labels};
+ghost use Rattle.thes_base.specs.Changes.{label, has_lexical_label, replace_preferred};
 ghost use Rattle.thes_base.specs.Labels.{HasLabel};
 ghost use Rattle.thes_base.specs.Machine.{owned_label};
 ghost use Rattle.thes_vocab.specs.Rivals.{HasTwoPreferred, HasClash};
 ghost use Rattle.thes_vocab.specs.OwnLabels.{own_label, has_own, AreLabelsOf};
-ghost use Rattle.thes_vocab.specs.LabelRows.{IsRowOfOwner, HasNoLabels, owner_row, InsertsInRow, RowsAfterRemove, RowsAfterInsertions, AreMissingLabels, AreSameLabelRows};
+ghost use Rattle.thes_vocab.specs.LabelRows.{IsRowOfOwner, HasNoLabels, owner_row, InsertsInRow, RowsAfterRemove, RowsAfterInsertions, AreSameLabelRows, labels_of_owner};
 
-use crate::row::{OwnerRow, missing_labels};
+use crate::row::OwnerRow;
 use std::alloc::{AllocError, Global};
 use std::marker::Model;
 use thes_base::data::{Label, LabelKind, LabelValue};
@@ -63,7 +63,7 @@ impl LabelTable {
     }
 
     // Returns the owner's row; an owner without labels may have none.
-    fn row(&self, owner: ResNo) -> Option<&OwnerRow>
+    fn owner_row(&self, owner: ResNo) -> Option<&OwnerRow>
         ensures { MatchOption result (HasNoLabels self.now owner)
             (λ row. IsRowOfOwner self.now owner row.now) }
     {
@@ -74,7 +74,7 @@ impl LabelTable {
     pub(crate) fn of_owner(&self, owner: ResNo) -> &[Label]
         ensures { AreLabelsOf self.now owner result.now }
     {
-        match self.row(owner) {
+        match self.owner_row(owner) {
             Some(row) => row.as_slice(),
             None => &[],
         }
@@ -84,7 +84,7 @@ impl LabelTable {
     pub(crate) fn contains(&self, owner: ResNo, kind: LabelKind, tag: &Tag, text: &str) -> bool
         ensures { result ≡ set.contains self.now (label owner kind tag.now text.now) }
     {
-        match self.row(owner) {
+        match self.owner_row(owner) {
             Some(row) => row.contains(kind, tag, text),
             None => false,
         }
@@ -95,7 +95,7 @@ impl LabelTable {
     pub(crate) fn has_lexical_label(&self, owner: ResNo, tag: &Tag, text: &str) -> bool
         ensures { result ≡ has_lexical_label self.now owner tag.now text.now }
     {
-        match self.row(owner) {
+        match self.owner_row(owner) {
             Some(row) => row.has_lexical_label(tag, text),
             None => false,
         }
@@ -107,7 +107,7 @@ impl LabelTable {
             ((text : List ℕ) → HasLabel self.now owner Pref tag.now text → ⊥)
             (λ text. HasLabel self.now owner Pref tag.now text.now) }
     {
-        match self.row(owner) {
+        match self.owner_row(owner) {
             Some(row) => row.preferred(tag),
             None => None,
         }
@@ -135,7 +135,7 @@ impl LabelTable {
     pub(crate) fn has_two_preferred(&self, owner: ResNo) -> bool
         ensures { IsTrue result ↔ HasTwoPreferred self.now owner }
     {
-        match self.row(owner) {
+        match self.owner_row(owner) {
             Some(row) => row.has_two_preferred(),
             None => false,
         }
@@ -211,23 +211,21 @@ impl LabelTable {
         self.insert(owner, Label { tag, value })
     }
 
-    // Copies the lexical labels of the source that the target lacks to the target, preferred ones
-    // as alternative ones. `gained` is their number.
-    pub(crate) fn take_names(
+    // Inserts labels of the owner; `gained` is the number of those that it doesn't have.
+    pub(crate) fn insert_all(
         &mut self,
-        source: ResNo,
-        target: ResNo,
+        owner: ResNo,
+        labels: Vec<Label>,
         gained: u64,
     ) -> Result<(), AllocError>
-        requires { let taken = copied_labels source target self.old in
-            set.len self.old + gained ≡ set.len (set.union self.old taken) }
-        ensures ok { OnOk result (self.new ≡
-            set.union self.old (copied_labels source target self.old)) }
+        requires { let more = labels_of_owner owner labels.items in
+            set.len self.old + gained ≡ set.len (set.union self.old more) }
+        ensures ok { let more = labels_of_owner owner labels.items in
+            OnOk result (self.new ≡ set.union self.old more) }
         ensures err { OnErr result (self.new ≡ self.old) }
     {
         let count = self.count.checked_add(gained).ok_or(AllocError)?;
-        let copies = missing_of(self.rows.as_slice(), self.alloc, source, target)?;
-        put_all(&mut self.rows, self.alloc, target, copies)?;
+        put_all(&mut self.rows, self.alloc, owner, labels)?;
         self.count = count;
         Ok(())
     }
@@ -318,20 +316,4 @@ fn take(rows: &mut Vec<OwnerRow>, owner: ResNo, kind: LabelKind, tag: &Tag, text
         Some(row) => row.remove(kind, tag, text),
         None => false,
     }
-}
-
-// Returns copies of the lexical labels of the source that the target lacks, with preferred ones as
-// alternative ones.
-fn missing_of(
-    rows: &[OwnerRow],
-    alloc: Global,
-    source: ResNo,
-    target: ResNo,
-) -> Result<Vec<Label>, AllocError>
-    ensures { IfOk result (λ copies. AreMissingLabels rows.now source target copies.items) }
-{
-    let none = OwnerRow::new(alloc);
-    let from = rows.get(source.get() as usize).unwrap_or(&none);
-    let to = rows.get(target.get() as usize).unwrap_or(&none);
-    missing_labels(alloc, from, to)
 }

@@ -11,6 +11,7 @@ mod labels;
 mod load;
 mod names;
 mod row;
+mod taking_back;
 mod vocab;
 
 pub use forwarding::Forwarding;

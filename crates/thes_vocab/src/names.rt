@@ -162,8 +162,8 @@ impl Names {
     // preferred labels has the same digest.
     fn forget_in(&mut self, scheme: ResNo, tag: &Tag, text: &str, concept: ResNo, own: &[Label])
         ensures keeps { KeepsOtherNames self.old self.new (Some scheme) concept own.now }
-        ensures gone { list_any (has_digest scheme (name_digest scheme tag.now text.now)) own.now ≡ false
-            → ¬ HasNameEntry self.new scheme tag.now text.now concept }
+        ensures gone { list_any (has_digest scheme (name_digest scheme tag.now text.now)) own.now
+            ≡ false → ¬ HasNameEntry self.new scheme tag.now text.now concept }
     {
         let digest = name_digest(scheme, tag, text);
         if !is_digest_of_one(own, scheme, digest) {

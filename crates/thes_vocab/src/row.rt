@@ -6,7 +6,7 @@ ghost use Rattle.std.specs.List.Sorted.{IsStrictlySortedBy};
 ghost use Rattle.std.specs.Ordering.{eq_by_cmp};
 ghost use Rattle.thes_base.specs.Data.{LabelData};
 ghost use Rattle.thes_vocab.specs.LabelPositions.{IsLabelPosition, IsPreferredAt};
-ghost use Rattle.thes_vocab.specs.CopiedLabels.{has_own_name, is_name, lacks_own_name, merged_label, copies_label};
+ghost use Rattle.thes_vocab.specs.CopiedLabels.{has_own_name, is_name, merged_label};
 ghost use Rattle.thes_vocab.specs.OwnLabels.{data_cmp, language_cmp, own_label, has_own, GainsLabels, HasOwnPreferred, HasNoOwnPreferred, HasTwoOwnPreferred};
 
 use std::alloc::{AllocError, Global};
@@ -30,7 +30,6 @@ impl Model for OwnerRow {
     ghost use Rattle.std.specs.List.Sorted.{IsStrictlySortedBy};
     ghost use Rattle.thes_base.specs.Data.{LabelData};
     ghost use Rattle.thes_vocab.specs.LabelPositions.{IsLabelPosition, IsPreferredAt};
-    ghost use Rattle.thes_vocab.specs.CopiedLabels.{lacks_own_name, merged_label, copies_label};
     ghost use Rattle.thes_vocab.specs.OwnLabels.{data_cmp};
 
     ghost Value = { List LabelData };
@@ -93,13 +92,6 @@ impl OwnerRow {
             || self.contains(LabelKind::Hidden, tag, text)
     }
 
-    // Checks whether the label is lexical, and the row lacks its text in the language.
-    fn lacks_name(&self, label: &Label) -> bool
-        ensures { result ≡ lacks_own_name self.now label.now }
-    {
-        label.kind() != LabelKind::Scope && !self.has_lexical_label(&label.tag, label.text())
-    }
-
     // Inserts a label at its place, unless it is there, and returns whether it is new.
     pub(crate) fn insert(&mut self, label: Label) -> Result<bool, AllocError>
         ensures added { IfOk result (λ added. added ≡ not (has_own self.old label)) }
@@ -145,7 +137,7 @@ impl OwnerRow {
 
     // Checks whether the row has two different preferred labels. They come first in the row, so the
     // second label decides.
-    #[tactic(auto, using(crate::proofs::OwnLabelLemmas::two_of_none, crate::proofs::OwnLabelLemmas::two_of_second))]
+    #[tactic(auto, using(crate::proofs::OwnLabelLemmas::two_preferred))]
     pub(crate) fn has_two_preferred(&self) -> bool
         ensures { IsTrue result ↔ HasTwoOwnPreferred self.now }
     {
@@ -171,15 +163,20 @@ fn is_name(label: &Label, tag: &Tag, text: &str) -> bool
     label.text() == text && label.tag == *tag && label.kind() != LabelKind::Scope
 }
 
-// Inserts a label at an index. A full row grows by a quarter, since most owners have few labels, and
-// the first label gets room for itself alone.
+// Inserts a label at an index. A full row grows by two labels and a quarter, since most owners have
+// few labels, and the first label gets room for itself alone, since many have no other.
 fn insert_at(labels: &mut Vec<Label>, place: usize, label: Label) -> Result<(), AllocError>
     requires { place ≤ length labels.old.items }
     ensures ok { OnOk result (labels.new.items ≡ insert labels.old.items place label) }
     ensures err { OnErr result (labels.new.items ≡ labels.old.items) }
 {
     if labels.len() == labels.capacity() {
-        labels.reserve_exact(1 + labels.len() / 4)?;
+        let more = if labels.is_empty() {
+            1
+        } else {
+            2 + labels.len() / 4
+        };
+        labels.reserve_exact(more)?;
     }
     labels.insert(place, label)?;
     Ok(())
@@ -212,28 +209,8 @@ fn insert_in(list: &mut Vec<Label>, label: Label)
     }
 }
 
-// Returns copies of the lexical labels of the source that the target lacks, with preferred ones as
-// alternative ones.
-#[tactic(auto, using(crate::proofs::MergedRowLemmas::copies_left, crate::proofs::MergedRowLemmas::copies_taken))]
-pub(crate) fn missing_labels(
-    alloc: Global,
-    source: &OwnerRow,
-    target: &OwnerRow,
-) -> Result<Vec<Label>, AllocError>
-    ensures { IfOk result (λ copies. (l : LabelData) →
-        has_own copies.items l ≡ copies_label source.now target.now l) }
-{
-    let mut copies = Vec::new(alloc);
-    for label in source.as_slice() {
-        if target.lacks_name(label) {
-            copies.push(merged_label(alloc, label)?)?;
-        }
-    }
-    Ok(copies)
-}
-
 // Copies a label for the target of a merge, a preferred label as an alternative one.
-fn merged_label(alloc: Global, label: &Label) -> Result<Label, AllocError>
+pub(crate) fn merged_label(alloc: Global, label: &Label) -> Result<Label, AllocError>
     ensures { IfOk result (λ l. l ≡ merged_label label.now) }
 {
     let tag = label.tag.try_clone(alloc)?;

@@ -2,6 +2,7 @@ mod ProbeLemmas
 mod EditCheckLemmas
 mod NeighbourhoodLemmas
 mod SideLemmas
+mod FarNodeLemmas
 mod KindLemmas
 mod SideSearchLemmas
 mod ReadCostLemmas

@@ -123,16 +123,16 @@ module _ (held : Links) where
         omega (arith, paid, cost),
       )
 
-      module _ (first second : SideSearch) (after : ℕ) where
+      module _ (first second : SideSearch) (left after : ℕ) where
         abbrev Ended : Type 0
-        Ended = (left : ℕ) × ArePairedSearches held relation from to first second left before after
+        Ended = ArePairedSearches held relation from to first second left before after
 
         -- If one search is done without a goal, no chain leads from one end to the other.
         none_from : (length first.nodes ≤ first.next) ⊎ (length second.nodes ≤ second.next) → Ended
             → Chain (Steps relation (Holds held)) from to → ⊥
-        none_from (inl done) (left, (a, b, one, two, within, paid)) chain =
+        none_from (inl done) (a, b, one, two, within, paid) chain =
             IsSideSearch-no_goal NoEdit held relation (to ∷ []) from first a done one (to, Contains-head to [], chain)
-        none_from (inr done) (left, (a, b, one, two, within, paid)) chain =
+        none_from (inr done) (a, b, one, two, within, paid) chain =
             IsSideSearch-no_goal NoEdit held (converse relation) (from ∷ []) to second b done two
             (from, Contains-head from [], chain_back from to chain)
 
@@ -154,8 +154,13 @@ module _ (held : Links) where
         pub PairedSearch-paid : (met : Bool) → MatchBool met (HasFoundChain held relation from to before after) Ended
             → AreVisitsBounded held relation from before after
         PairedSearch-paid true found ns covers = found.1 ns covers
-        PairedSearch-paid false (left, (a, b, one, two, within, paid)) ns covers =
-            omega (arith, IsSideSearch-paid NoEdit held relation (to ∷ []) from walked first a one ns covers, within, paid)
+        PairedSearch-paid false (a, b, one, two, within, paid) ns covers =
+            omega (
+              arith,
+              IsSideSearch-paid NoEdit held relation (to ∷ []) from walked first a one ns covers,
+              within,
+              paid,
+            )
 
 -- Chains from either end decide whether one end of a link is above the other.
 module _ (Held : Link → Type 0) (l : Link) where

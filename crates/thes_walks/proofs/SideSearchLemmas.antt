@@ -61,25 +61,25 @@ module _ (xs ys zs goals : List ℕ) (P Q S : ℕ → Type 0) (parts : (y : ℕ)
     λ y has s. elim (parts y s) [ inl p ↦ off y has p | inr q ↦ away y has q ],
   )
 
-module _ (edit : LinkEdit) (relation : Relation) (x : ℕ) (row : List Link) where
+module _ (f : Link → Option ℕ) (row : List Link) where
   abbrev Within : (from to y : ℕ) → Type 0
-  Within = LeadsWithin edit relation x row
+  Within = LeadsWithin f row
 
   abbrev pub led_at : ℕ → Option ℕ
-  led_at i = option_and_then (step_after_edit edit relation x) (slice_get row i)
+  led_at i = option_and_then f (slice_get row i)
 
   pub LeadsWithin-before : (from i y : ℕ) → Within from i y → Within from (i + 1) y
   LeadsWithin-before from i y (k, l, low, high, at, leads) = (k, l, low, omega arith, at, leads)
 
   pub LeadsWithin-last : (from i y : ℕ) → from ≤ i → led_at i ≡ Some y → Within from (i + 1) y
   LeadsWithin-last from i y low leads =
-      option_and_then_some (step_after_edit edit relation x) (slice_get row i) y leads
+      option_and_then_some f (slice_get row i) y leads
       (λ l at one. (i, l, low, omega arith, at, one))
 
   pub LeadsWithin-parts : (from i y : ℕ) → Within from (i + 1) y → Within from i y ⊎ (led_at i ≡ Some y)
   LeadsWithin-parts from i y (k, l, low, high, at, leads) = elim (below k i high) [
     | inl lt ↦ inl (k, l, low, lt, at, leads)
-    | inr same ↦ inr (ap (option_and_then (step_after_edit edit relation x)) (ap (slice_get row) (sym same) ∙ at)
+    | inr same ↦ inr (ap (option_and_then f) (ap (slice_get row) (sym same) ∙ at)
         ∙ leads)
   ]
     where
@@ -90,24 +90,27 @@ module _ (edit : LinkEdit) (relation : Relation) (x : ℕ) (row : List Link) whe
   LeadsWithin-to from i j y in_range (k, l, low, high, at, leads) = (k, l, low, omega arith, at, leads)
 
   -- Assumes the range of a side, whose links are exactly those on it.
-  module _ (held : Links) (at : ℕ) (part : Part) (is_row : IsRow held at row)
-      (is_part : IsPart row at (side_in relation) part) where
-    pub LeadsFrom-read : (i y : ℕ) → i - part.from ≤ part.to - part.from → Within part.from i y
-        → LeadsFrom edit held relation at x y
-    LeadsFrom-read i y in_range (k, l, low, high, is, leads) =
-        let sound = is_row.sound l (k, slice_get_within row k l is, get_or_from_slice_get row k l l is) in
-        (l, sound.0, sound.1, is_part.on_side k l is low (on_side k low high), leads)
-      where
-        on_side : (k : ℕ) → part.from ≤ k → k < i → k < part.to
-        on_side k low high = omega arith
+  module _ (edit : LinkEdit) (relation : Relation) (x : ℕ) (held : Links) (at : ℕ) (part : Part)
+      (is_row : IsRow held at row) (is_part : IsPart row at (side_in relation) part)
+      (same : (l : Link) → HasEnd at l → side_at at l ≡ side_in relation → f l ≡ step_after_edit edit relation x l)
+    where
+      pub LeadsFrom-read : (i y : ℕ) → i - part.from ≤ part.to - part.from → Within part.from i y
+          → LeadsFrom edit held relation at x y
+      LeadsFrom-read i y in_range (k, l, low, high, is, leads) =
+          let sound = is_row.sound l (k, slice_get_within row k l is, get_or_from_slice_get row k l l is) in
+          let side = is_part.on_side k l is low (on_side k low high) in
+          (l, sound.0, sound.1, side, sym (same l sound.1 side) ∙ leads)
+        where
+          on_side : (k : ℕ) → part.from ≤ k → k < i → k < part.to
+          on_side k low high = omega arith
 
-    pub LeadsFrom-there : (i y : ℕ) → part.to ≤ i → LeadsFrom edit held relation at x y → Within part.from i y
-    LeadsFrom-there i y done (l, has, ends, side, leads) =
-        let there = is_row.complete l has ends in
-        let is : slice_get row there.0 ≡ Some l = slice_get-get_or row there.0 l there.1 ∙ ap Some there.2 in
-        let between = is_part.has there.0 l is side in
-        let high : there.0 < part.to = between.1 in
-        (there.0, l, between.0, omega arith, is, leads)
+      pub LeadsFrom-there : (i y : ℕ) → part.to ≤ i → LeadsFrom edit held relation at x y → Within part.from i y
+      LeadsFrom-there i y done (l, has, ends, side, leads) =
+          let there = is_row.complete l has ends in
+          let is : slice_get row there.0 ≡ Some l = slice_get-get_or row there.0 l there.1 ∙ ap Some there.2 in
+          let between = is_part.has there.0 l is side in
+          let high : there.0 < part.to = between.1 in
+          (there.0, l, between.0, omega arith, is, same l ends side ∙ leads)
 
 some_led : (edit : LinkEdit) (relation : Relation) (x y : ℕ) (l : Link) {P : Type 0} → step_after_edit edit relation x
     l ≡ Some y

@@ -4,7 +4,7 @@ use Rattle.std.specs.Prelude.{[], ◌∷◌, None, Some, option_and_then, get_or
 use Rattle.thes_base.specs.declared.data.Link.{Link}
 use Rattle.thes_base.specs.declared.fault.Refusal.{Refusal}
 use Rattle.thes_base.specs.declared.fault.Refusal.TheVariants as no
-use Rattle.thes_base.specs.Links.{Links, Holds, Chain, IsBelow, IsRelated, HasEnd}
+use Rattle.thes_base.specs.Links.{Links, Holds, Chain, IsBelow, IsRelated, HasEnd, redirect}
 use Rattle.thes_links.specs.declared.relation.Relation.{Relation}
 use Rattle.thes_links.specs.declared.relation.Relation.TheVariants as along
 use Rattle.thes_links.specs.declared.side.Side.{Side}
@@ -15,7 +15,7 @@ use Rattle.thes_links.specs.GraphView.{ends_at}
 use Rattle.thes_links.specs.declared.side.Part.{Part}
 use Rattle.thes_links.specs.Reading.{HaveTwoEnds, IsRow}
 use Rattle.thes_links.specs.Side.{side_no, side_at, side_in, IsOneSided, IsPart}
-use Rattle.thes_links.specs.LinkEdit.{HeldAfter, link_after_merge, CoversAt, IsValidEdit}
+use Rattle.thes_links.specs.LinkEdit.{HeldAfter, link_after_merge, node_after, CoversAt, IsValidEdit}
 use Rattle.thes_links.specs.Steps.{Steps, step_along, Reaches, IsSearchedUpTo, GrowsBy}
 use Rattle.thes_walks.specs.declared.side_search.SideSearch.{SideSearch}
 
@@ -29,11 +29,22 @@ link_after (AfterMerge source target) l = link_after_merge source target l
 abbrev pub step_after_edit : LinkEdit → Relation → (x : ℕ) → Link → Option ℕ
 step_after_edit edit relation x l = option_and_then (λ m. step_along relation m x) (link_after edit l)
 
--- A link of the row at an index at least `from` and less than `to` leads from x to y after the edit.
-abbrev pub LeadsWithin : LinkEdit → Relation → (x : ℕ) → (row : List Link) → (from to y : ℕ) → Type 0
-LeadsWithin edit relation x row from to y =
-    (k : ℕ) × (l : Link) × (from ≤ k) × (k < to) × (slice_get row k ≡ Some l)
-    × (step_after_edit edit relation x l ≡ Some y)
+-- The end of the link that isn't n, if n is one of its ends.
+abbrev pub other_end : ℕ → Link → ℕ
+other_end n l = if l.a == n then l.b else l.a
+
+-- The node to which a held link at `at` leads from x after the edit, where x replaces `at`: the other end, or the node
+-- that replaces it; None if that is x, too.
+abbrev pub far_node_after : LinkEdit → (at x : ℕ) → Link → Option ℕ
+far_node_after NoEdit at x l = Some (other_end at l)
+far_node_after (WithLink new) at x l = Some (other_end at l)
+far_node_after (AfterMerge source target) at x l =
+    if redirect source target (other_end at l) == x then None else Some (redirect source target (other_end at l))
+
+-- The function gives y for a link of the row at an index at least `from` and less than `to`.
+abbrev pub LeadsWithin : (Link → Option ℕ) → (row : List Link) → (from to y : ℕ) → Type 0
+LeadsWithin f row from to y =
+    (k : ℕ) × (l : Link) × (from ≤ k) × (k < to) × (slice_get row k ≡ Some l) × (f l ≡ Some y)
 
 -- A held link on the relation's side of the node `at` leads from x to y after the edit.
 abbrev pub LeadsFrom : LinkEdit → Links → Relation → (at x y : ℕ) → Type 0
@@ -79,6 +90,14 @@ pub record IsPartAt (held : Links) (row : List Link) (at : ℕ) (side : Side) (p
   pub two_ends : HaveTwoEnds (Holds held)
   pub is_row : IsRow held at row
   pub on_side : IsPart row at side part
+
+-- The links of the relation lie on one side of each node, the range of the row has those at `at`, and x replaces `at`
+-- in the edit.
+pub record CanFollowAt (edit : LinkEdit) (held : Links) (row : List Link) (relation : Relation) (at x : ℕ)
+    (part : Part) : Type 0 where
+  pub one_side : IsOneSided relation
+  pub replaces : node_after edit at ≡ x
+  pub ready : IsPartAt held row at (side_in relation) part
 
 -- The edit is valid, the links of the relation lie on one side of each node, and the range has those at the node.
 pub record CanFollow (edit : LinkEdit) (held : Links) (rows : ℕ → List Link) (relation : Relation) (at : ℕ)
@@ -206,8 +225,8 @@ AreUnrelated edit held relation xs start =
     (x y : ℕ) → Contains xs x → Reaches (Steps relation (HeldAfter edit held)) start y
     → Steps along.Related (HeldAfter edit held) x y → ⊥
 
--- The result of the second search, after the first has met the nodes xs: Cycle only if it meets one of them, S27 only if
--- a related link leads from xs to a node that it reaches, and none only if no related link does.
+-- The result of the second search, after the first has met the nodes xs: Cycle only if it meets one of them, S27 only
+-- if a related link leads from xs to a node that it reaches, and none only if no related link does.
 abbrev pub IsSecondResult : LinkEdit → Links → Relation → (xs : List ℕ) → (start : ℕ) → Option Refusal → Type 0
 IsSecondResult edit held relation xs start None = AreUnrelated edit held relation xs start
 IsSecondResult edit held relation xs start (Some no.Cycle) = LeadsTo edit held relation xs start

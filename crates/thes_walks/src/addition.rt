@@ -37,8 +37,8 @@ fn matches_exactly_or_apart(kind: LinkKind) -> bool
     )
 }
 
-// Returns S27 if the new link, which is neither broader nor narrower, would break it, or else None; such a link can't
-// break Cycle.
+// Returns S27 if the new link, which is neither broader nor narrower, would break it, or else None;
+// such a link can't break Cycle.
 fn check_level_link<L: Links>(
     alloc: Global,
     links: &mut L,

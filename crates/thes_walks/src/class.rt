@@ -1,4 +1,5 @@
-//! The check of S46 in one class of exact matches, which is a set of concepts that chains of exact matches join.
+//! The check of S46 in one class of exact matches, which is a set of concepts that chains of exact
+//! matches join.
 ghost use Rattle.std.specs.Prelude.{◌≡◌, ◌+◌, ◌*◌, ◌≤◌, List, OnOk, IfOk, MatchBool, length};
 ghost use Rattle.thes_base.specs.declared.data.Link.{Link};
 ghost use Rattle.thes_links.specs.LinkEdit.{HeldAfter, IsValidEdit};
@@ -12,8 +13,8 @@ use thes_links::links::Links;
 use thes_links::relation::Relation;
 use thes_links::walk::{gather, has_link_between};
 
-/// Checks whether two members of the pivot's class of exact matches are broader or related matches after the edit
-/// (SKOS S46).
+/// Checks whether two members of the pivot's class of exact matches are broader or related matches
+/// after the edit (SKOS S46).
 pub fn breaks_class<L: Links>(
     alloc: Global,
     links: &mut L,

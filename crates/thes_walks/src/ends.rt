@@ -20,7 +20,7 @@ use thes_links::links::Links;
 use thes_links::relation::{Relation, step};
 use thes_links::side::side_for;
 
-// Returns true if no held link leads from the node in the relation.
+// Returns true only if no held link leads from the node in the relation.
 fn is_end<L: Links>(links: &L, n: ResNo, relation: Relation) -> bool
     requires { IsOneSided relation }
     ensures two_ends { HaveTwoEnds (Holds (L.net links.now).links) }
@@ -55,7 +55,7 @@ pub fn is_end_after<L: Links>(links: &L, edit: &LinkEdit, x: ResNo, relation: Re
     }
 }
 
-// Returns true if no held link makes a concept narrower than the node or related to it.
+// Returns true only if no held link makes a concept narrower than the node or related to it.
 fn is_lowest<L: Links>(links: &L, n: ResNo) -> bool
     ensures narrower { result ≡ true → IsEnd relation.Narrower (Holds (L.net links.now).links) n }
     ensures related { result ≡ true → IsEnd relation.Related (Holds (L.net links.now).links) n }
@@ -63,7 +63,7 @@ fn is_lowest<L: Links>(links: &L, n: ResNo) -> bool
     is_end(links, n, Relation::Narrower) && is_end(links, n, Relation::Related)
 }
 
-// Returns true if no held link makes a concept broader than the node or related to it.
+// Returns true only if no held link makes a concept broader than the node or related to it.
 fn is_highest<L: Links>(links: &L, n: ResNo) -> bool
     ensures broader { result ≡ true → IsEnd relation.Broader (Holds (L.net links.now).links) n }
     ensures related { result ≡ true → IsEnd relation.Related (Holds (L.net links.now).links) n }
@@ -71,8 +71,8 @@ fn is_highest<L: Links>(links: &L, n: ResNo) -> bool
     is_end(links, n, Relation::Broader) && is_end(links, n, Relation::Related)
 }
 
-/// Checks whether links of this kind lead from their first end to a broader concept, and only Cycle and S27 concern
-/// them.
+/// Checks whether links of this kind lead from their first end to a broader concept, and only Cycle
+/// and S27 concern them.
 pub fn leads_up(kind: LinkKind) -> bool
     ensures { MatchBool result (LeadsUp kind) (Unit {0}) }
 {
@@ -85,7 +85,8 @@ pub fn leads_up(kind: LinkKind) -> bool
     }
 }
 
-// Checks whether none of Cycle, S27 and S46 concerns links of this kind, as of close matches and memberships.
+// Checks whether none of Cycle, S27 and S46 concerns links of this kind, as of close matches and
+// memberships.
 fn is_loose(kind: LinkKind) -> bool
     ensures { MatchBool result (IsLoose kind) (Unit {0}) }
 {
@@ -96,8 +97,8 @@ fn is_loose(kind: LinkKind) -> bool
     }
 }
 
-// Returns true if a link to a broader concept breaks no rule because its narrower end is a lowest node, or its broader
-// end a highest one.
+// Returns true only if a link to a broader concept breaks no rule, because its narrower end is a
+// lowest node or its broader end a highest one; false decides nothing.
 fn is_outermost<L: Links>(links: &L, new: &Link) -> bool
     requires joins { AreJoinable (L.net links.now).links new.now.a new.now.b }
     requires up { LeadsUp new.now.kind }

@@ -39,8 +39,8 @@ fn learn_two_ends<L: Links>(links: &L, n: ResNo)
     links.is_outside(n);
 }
 
-// Returns the first rule that the links after the edit break by a chain or pair through the pivot; None says nothing
-// about other nodes.
+// Returns the first rule that the links after the edit break by a chain or pair through the pivot;
+// None says nothing about other nodes.
 fn first_broken_at<L: Links>(
     alloc: Global,
     links: &mut L,
@@ -65,10 +65,11 @@ fn first_broken_at<L: Links>(
     Ok(None)
 }
 
-/// Returns the first rule that the links held break, if those without an end at the pivot break none.
+/// Returns the first rule that the links held break, if those without an end at the pivot break
+/// none.
 ///
-/// The visits are bounded by the links near the pivot: those with an end at it, or at a node above it, below it or in
-/// its class of exact matches.
+/// The visits are bounded by the links near the pivot: those with an end at it, or at a node above
+/// it, below it or in its class of exact matches.
 pub fn check_at<L: Links>(
     alloc: Global,
     links: &mut L,
@@ -85,7 +86,8 @@ pub fn check_at<L: Links>(
     Ok(answer)
 }
 
-/// Checks a new link: returns LinkThere if it is held, or else the first rule that the links with it would break.
+/// Checks a new link: returns LinkThere if it is held, or else the first rule that the links with
+/// it would break.
 ///
 /// The visits are bounded by the links near its first end, and the new link itself.
 pub fn judge_add<L: Links>(
@@ -108,8 +110,8 @@ pub fn judge_add<L: Links>(
     Ok(answer)
 }
 
-// Checks a new link in normal form: returns LinkThere if it is held, or else the first rule that the links with it
-// would break.
+// Checks a new link in normal form: returns LinkThere if it is held, or else the first rule that
+// the links with it would break.
 fn check_normal_link<L: Links>(
     alloc: Global,
     links: &mut L,
@@ -132,7 +134,8 @@ fn check_normal_link<L: Links>(
     Ok(answer)
 }
 
-/// Checks a merge of the source into the target: returns the first rule that the links after it would break.
+/// Checks a merge of the source into the target: returns the first rule that the links after it
+/// would break.
 ///
 /// The visits are bounded by the links near the two concepts.
 pub fn judge_contract<L: Links>(

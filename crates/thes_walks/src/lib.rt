@@ -1,5 +1,5 @@
-//! Checks that a new link or a merge breaks none of the rules Cycle, S27 and S46, by searches that read only links near
-//! the edit.
+//! Checks that one new link or merge breaks none of the rules Cycle, S27 and S46, by searches that
+//! read only links near the edit.
 #![tactic(auto)]
 
 mod addition;

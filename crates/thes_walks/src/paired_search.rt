@@ -1,5 +1,6 @@
-//! Checks whether one end of a link is above the other by two searches, one from each end. The bound on visits counts
-//! only links near the first end, so the second search may read no more links than the first has read.
+//! Checks whether one end of a link is above the other by two searches, one from each end. The
+//! bound on visits counts only links near the first end, so the second search may read no more
+//! links than the first has read.
 ghost use Rattle.std.specs.Prelude.{◌≡◌, ◌≢◌, ◌+◌, ◌-◌, ◌*◌, ◌^◌, ◌≤◌, ◌<◌, ℕ, false, List, OnOk, IfOk, MatchBool, length};
 ghost use Rattle.thes_base.specs.declared.data.Link.{Link};
 ghost use Rattle.thes_base.specs.Links.{Holds, Chain};
@@ -8,7 +9,7 @@ ghost use Rattle.thes_links.specs.Steps.{Steps};
 ghost use Rattle.thes_walks.specs.SideSearch.{IsHierarchy, ContinuesSearch, CoversBetween};
 ghost use Rattle.thes_walks.specs.PairedSearch.{converse, AreVisitsBounded, ArePairedSearches, HasFoundChain, HasEndAbove, HasNoEndAbove};
 
-use crate::side_search::{SideSearch, TURN};
+use crate::side_search::{EditedRelation, SideSearch, TURN};
 use std::alloc::{AllocError, Global};
 use thes_base::data::Link;
 use thes_base::number::ResNo;
@@ -28,33 +29,43 @@ fn converse_of(relation: Relation) -> Relation
     }
 }
 
-// Advances the first search up to this limit, and adds the number of links that it reads to `allowance`, the number that
-// the second may still read. Returns whether it met the second.
+// Two searches, one from each end of a link, and the number of links that the second may still
+// read: those that the first has read, less those that the second has.
+#[derive(Drop)]
+struct PairedSearch {
+    first: SideSearch,
+    second: SideSearch,
+    allowance: u64,
+}
+
+// Advances the first search up to this limit. Returns whether it met the second, and the number of
+// links that it has read.
 fn advance_first<L: Links>(
     links: &mut L,
     relation: Relation,
     first: &mut SideSearch,
     seconds: &Nodes,
     limit: usize,
-    allowance: &mut u64,
-) -> Result<bool, AllocError>
+) -> Result<(bool, u64), AllocError>
     requires { IsHierarchy relation }
     ensures net { L.net links.new ≡ L.net links.old }
-    ensures done { IfOk result (λ met. met ≡ false → limit ≡ 2 ^ 64 - 1
+    ensures done { IfOk result (λ turn. turn.0 ≡ false → limit ≡ 2 ^ 64 - 1
         → length first.new.nodes ≤ first.new.next) }
-    ensures allowance { allowance.new
-        ≤ allowance.old + (L.count links.new - L.count links.old) }
-    ensures continues { IfOk result (ContinuesSearch NoEdit (L.net links.old).links relation
-        seconds.now first.old first.new (L.count links.new - L.count links.old)) }
+    ensures read { IfOk result (λ turn. turn.1 ≤ L.count links.new - L.count links.old) }
+    ensures continues { IfOk result (λ turn. ContinuesSearch NoEdit (L.net links.old).links
+        relation seconds.now first.old first.new (L.count links.new - L.count links.old) turn.0) }
 {
     let before = links.visits();
-    let met = first.advance_to(links, &LinkEdit::NoEdit, relation, seconds, limit)?;
-    *allowance = allowance.saturating_add(links.visits().saturating_sub(before));
-    Ok(met)
+    let held = EditedRelation {
+        edit: LinkEdit::NoEdit,
+        relation,
+    };
+    let met = first.advance_to(links, &held, seconds, limit)?;
+    Ok((met, links.visits().saturating_sub(before)))
 }
 
-// Advances the second search as long as `allowance` is large enough for its next node, and subtracts the number of links
-// that it reads. Returns whether it met the first.
+// Advances the second search as long as `allowance` is large enough for its next node, and
+// subtracts the number of links that it reads. Returns whether it met the first.
 fn advance_second<L: Links>(
     links: &mut L,
     relation: Relation,
@@ -77,69 +88,83 @@ fn advance_second<L: Links>(
             return Ok(false);
         }
         *allowance -= size;
-        if second.advance_at(links, relation, part, firsts)? {
+        if second.advance_at(links, part, firsts)? {
             return Ok(true);
         }
     }
     Ok(false)
 }
 
-// Advances the second search within `allowance`, and then the first up to this limit, until one is done or they meet,
-// and returns whether they have met. So no link is read if the second search has none to read.
+// Advances the second search within its allowance, and then the first up to this limit, until one
+// is done or they meet, and returns whether they have met. So no link is read if the second search
+// has none to read.
 fn take_paired_turns<L: Links>(
     links: &mut L,
     relation: Relation,
-    first: &mut SideSearch,
-    second: &mut SideSearch,
+    paired: &mut PairedSearch,
     limit: usize,
-    allowance: &mut u64,
 ) -> Result<bool, AllocError>
     requires { IsHierarchy relation }
     ensures net { L.net links.new ≡ L.net links.old }
     ensures done { IfOk result (λ met. met ≡ false → limit ≡ 2 ^ 64 - 1
-        → second.new.next < length second.new.nodes → length first.new.nodes ≤ first.new.next) }
+        → paired.new.second.next < length paired.new.second.nodes
+        → length paired.new.first.nodes ≤ paired.new.first.next) }
     ensures continues { IfOk result (λ met. (from to before : ℕ)
-        → ArePairedSearches (L.net links.old).links relation from to first.old second.old
-        allowance.old before (L.count links.old)
+        → ArePairedSearches (L.net links.old).links relation from to paired.old.first
+        paired.old.second paired.old.allowance before (L.count links.old)
         → MatchBool met (HasFoundChain (L.net links.old).links relation from to before
         (L.count links.new))
-        (ArePairedSearches (L.net links.old).links relation from to first.new second.new
-        allowance.new before (L.count links.new))) }
+        (ArePairedSearches (L.net links.old).links relation from to paired.new.first
+        paired.new.second paired.new.allowance before (L.count links.new))) }
 {
     let back = converse_of(relation);
-    if advance_second(links, back, second, &first.nodes, allowance)? {
+    if advance_second(
+        links,
+        back,
+        &mut paired.second,
+        &paired.first.nodes,
+        &mut paired.allowance,
+    )? {
         return Ok(true);
     }
-    if !second.is_done() {
-        let met = advance_first(links, relation, first, &second.nodes, limit, allowance)?;
-        return Ok(met);
+    if !paired.second.is_done() {
+        let turn = advance_first(
+            links,
+            relation,
+            &mut paired.first,
+            &paired.second.nodes,
+            limit,
+        )?;
+        let allowance = paired.allowance.saturating_add(turn.1);
+        paired.allowance = allowance;
+        return Ok(turn.0);
     }
     Ok(false)
 }
 
-// Advances the two searches in turns until one of them is done or they meet, and returns whether they have met.
+// Advances the two searches in turns until one of them is done or they meet, and returns whether
+// they have met.
 fn run_paired_search<L: Links>(
     links: &mut L,
     relation: Relation,
-    first: &mut SideSearch,
-    second: &mut SideSearch,
+    paired: &mut PairedSearch,
 ) -> Result<bool, AllocError>
     requires { IsHierarchy relation }
     ensures net { L.net links.new ≡ L.net links.old }
-    ensures done { IfOk result (λ met. met ≡ false → first.new.next < length first.new.nodes
-        → length second.new.nodes ≤ second.new.next) }
+    ensures done { IfOk result (λ met. met ≡ false
+        → paired.new.first.next < length paired.new.first.nodes
+        → length paired.new.second.nodes ≤ paired.new.second.next) }
     ensures continues { IfOk result (λ met. (from to before : ℕ)
-        → ArePairedSearches (L.net links.old).links relation from to first.old second.old 0 before
-        (L.count links.old)
+        → ArePairedSearches (L.net links.old).links relation from to paired.old.first
+        paired.old.second paired.old.allowance before (L.count links.old)
         → MatchBool met (HasFoundChain (L.net links.old).links relation from to before
         (L.count links.new))
-        ((allowance : ℕ) × ArePairedSearches (L.net links.old).links relation from to first.new
-        second.new allowance before (L.count links.new))) }
+        (ArePairedSearches (L.net links.old).links relation from to paired.new.first
+        paired.new.second paired.new.allowance before (L.count links.new))) }
 {
     let mut limit = TURN;
-    let mut allowance = 0;
-    'turns: while !first.is_done() && !second.is_done() {
-        if take_paired_turns(links, relation, first, second, limit, &mut allowance)? {
+    'turns: while !paired.first.is_done() && !paired.second.is_done() {
+        if take_paired_turns(links, relation, paired, limit)? {
             return Ok(true);
         }
         limit = limit.saturating_add(TURN);
@@ -147,7 +172,8 @@ fn run_paired_search<L: Links>(
     Ok(false)
 }
 
-// Checks whether a chain of one or more steps in the relation leads from the first node to the second.
+// Checks whether a chain of one or more steps in the relation leads from the first node to the
+// second.
 fn leads_to<L: Links>(
     alloc: Global,
     links: &mut L,
@@ -163,9 +189,14 @@ fn leads_to<L: Links>(
     ensures count { OnOk result (AreVisitsBounded (L.net links.old).links relation from
         (L.count links.old) (L.count links.new)) }
 {
-    let mut first = SideSearch::start(alloc, from)?;
-    let mut second = SideSearch::start(alloc, to)?;
-    let found = run_paired_search(links, relation, &mut first, &mut second)?;
+    let first = SideSearch::start(alloc, from)?;
+    let second = SideSearch::start(alloc, to)?;
+    let mut paired = PairedSearch {
+        first,
+        second,
+        allowance: 0,
+    };
+    let found = run_paired_search(links, relation, &mut paired)?;
     Ok(found)
 }
 

@@ -1,16 +1,19 @@
-//! A breadth-first search that reads the links on one side of each node, and can pause after each node.
+//! A breadth-first search that reads the links on one side of each node, and can pause after each
+//! node.
 ghost use Rattle.std.specs.Prelude.{◌≡◌, ◌+◌, ◌-◌, ◌≤◌, ◌<◌, ◌^◌, ◌∷◌, [], true, false, List, OnOk, IfOk, MatchBool, length, sum_by, slice_get, option_and_then};
 ghost use Rattle.thes_base.specs.declared.data.Link.{Link};
 ghost use Rattle.thes_links.specs.declared.edit.LinkEdit.TheVariants.{NoEdit, AfterMerge};
+ghost use Rattle.thes_links.specs.declared.relation.Relation.{Relation};
+ghost use Rattle.thes_links.specs.declared.side.Side.{Side};
 ghost use Rattle.thes_links.specs.Side.{side_in};
 ghost use Rattle.thes_links.specs.Steps.{Steps};
 ghost use Rattle.thes_links.specs.LinkEdit.{HeldAfter, CoversAt};
-ghost use Rattle.thes_walks.specs.SideSearch.{link_after, step_after_edit, LeadsWithin, LeadsFrom, IsSearchResult, CoversSide, one_on_side, link_visits, IsHierarchySearch, IsPartAt, HasNextPart, CanFollow, CanAdvance, ContinuesSearch, AdvancesByNode};
+ghost use Rattle.thes_walks.specs.SideSearch.{other_end, far_node_after, LeadsWithin, LeadsFrom, IsSearchResult, CoversSide, one_on_side, link_visits, IsHierarchySearch, IsPartAt, HasNextPart, CanFollowAt, CanFollow, CanAdvance, ContinuesSearch, AdvancesByNode};
 
 use std::alloc::{AllocError, Global};
 use thes_base::data::Link;
 use thes_base::number::ResNo;
-use thes_links::edit::{LinkEdit, merge};
+use thes_links::edit::LinkEdit;
 use thes_links::links::Links;
 use thes_links::nodes::Nodes;
 use thes_links::relation::{Relation, step};
@@ -19,6 +22,22 @@ use thes_links::side::{Part, side_for};
 /// The number of nodes and links by which a search may advance in its turn.
 pub const TURN: usize = 16;
 
+/// A relation between nodes, as links state it after an edit.
+#[derive(Clone, Copy)]
+pub struct EditedRelation {
+    pub edit: LinkEdit,
+    pub relation: Relation,
+}
+
+// A range of the links held at the node `at`, which lead from `x` after an edit: the node itself,
+// or the target of a merge of which it is the source.
+#[derive(Clone, Copy)]
+struct LinkRange {
+    at: ResNo,
+    x: ResNo,
+    part: Part,
+}
+
 /// A breadth-first search: the nodes met so far, and the number of them whose links were read.
 #[derive(Drop)]
 pub struct SideSearch {
@@ -26,39 +45,54 @@ pub struct SideSearch {
     pub next: usize,
 }
 
-// Returns the held link as it is after the edit, or None if a merge drops it.
-fn edited_link(edit: &LinkEdit, link: &Link) -> Option<Link>
-    ensures { result ≡ link_after edit.now link.now }
+// Returns the end of the link that isn't the node, which is one of its ends.
+#[inline(always)]
+fn other_end(link: &Link, n: ResNo) -> ResNo
+    ensures { result ≡ other_end n link.now }
 {
+    if link.a == n { link.b } else { link.a }
+}
+
+// Returns the node to which a held link at `at` leads from `x` after the edit, where `x` replaces
+// `at`; None if a merge drops the link. The link may be of any kind: those on one side of a node
+// all lead to their other ends.
+#[inline(always)]
+fn far_node(edit: &LinkEdit, link: &Link, at: ResNo, x: ResNo) -> Option<ResNo>
+    ensures { result ≡ far_node_after edit.now at x link.now }
+{
+    let end = other_end(link, at);
     match edit {
-        LinkEdit::NoEdit => Some(*link),
-        LinkEdit::WithLink(_) => Some(*link),
-        LinkEdit::AfterMerge(source, target) => merge(link, *source, *target),
+        LinkEdit::NoEdit => Some(end),
+        LinkEdit::WithLink(_) => Some(end),
+        LinkEdit::AfterMerge(source, target) => {
+            let y = if end == *source { *target } else { end };
+            if y == x { None } else { Some(y) }
+        }
     }
 }
 
-// Reads the i-th link at the node `at`, and returns the node to which it leads from `x` in the relation after the edit,
-// if any.
+// Reads the i-th link at the node `at`, and returns the node to which it leads from `x` after the
+// edit, if any.
+#[inline(always)]
 fn step_at_place<L: Links>(
     links: &mut L,
     edit: &LinkEdit,
-    relation: Relation,
     at: ResNo,
     x: ResNo,
     i: usize,
 ) -> Option<ResNo>
     ensures net { L.net links.new ≡ L.net links.old }
-    ensures step_after_edit { result ≡ option_and_then (step_after_edit edit.now relation x)
+    ensures far { result ≡ option_and_then (far_node_after edit.now at x)
         (slice_get (L.links_of (L.net links.old) at) i) }
     ensures count { L.count links.new ≤ L.count links.old + 1 }
 {
     let link = links.link_at(at, i)?;
-    let after = edited_link(edit, &link)?;
-    step(relation, &after, x)
+    far_node(edit, &link, at, x)
 }
 
 // Appends the next node, if there is one, to the nodes met, unless it is a goal. Returns whether it
 // is a goal.
+#[inline(always)]
 fn take(nodes: &mut Nodes, next: Option<ResNo>, goals: &Nodes) -> Result<bool, AllocError>
     ensures { IfOk result
         (λ found. IsSearchResult found nodes.old nodes.new goals.now (λ y. next ≡ Some y)) }
@@ -73,26 +107,25 @@ fn take(nodes: &mut Nodes, next: Option<ResNo>, goals: &Nodes) -> Result<bool, A
     Ok(false)
 }
 
-// Appends the nodes to which this range of the links at `at` leads from `x` in the relation after
-// the edit, up to the first goal. Returns whether there is a goal. The two nodes differ only if a
-// merge moves the links at its source, `at`, to its target, `x`.
+// Appends the nodes to which this range of links leads after the edit, up to the first goal.
+// Returns whether there is a goal.
+#[inline(always)]
 fn follow_part<L: Links>(
     links: &mut L,
     nodes: &mut Nodes,
     edit: &LinkEdit,
-    relation: Relation,
-    at: ResNo,
-    part: Part,
-    x: ResNo,
+    range: LinkRange,
     goals: &Nodes,
 ) -> Result<bool, AllocError>
     ensures net { L.net links.new ≡ L.net links.old }
     ensures finds { IfOk result (λ found. IsSearchResult found nodes.old nodes.new goals.now
-        (LeadsWithin edit.now relation x (L.links_of (L.net links.old) at) part.from part.to)) }
-    ensures count { L.count links.new ≤ L.count links.old + (part.to - part.from) }
+        (LeadsWithin (far_node_after edit.now range.at range.x)
+        (L.links_of (L.net links.old) range.at) range.part.from range.part.to)) }
+    ensures count { L.count links.new
+        ≤ L.count links.old + (range.part.to - range.part.from) }
 {
-    for i in part.from..part.to {
-        let next = step_at_place(links, edit, relation, at, x, i);
+    for i in range.part.from..range.part.to {
+        let next = step_at_place(links, edit, range.at, range.x, i);
         if take(nodes, next, goals)? {
             return Ok(true);
         }
@@ -100,7 +133,9 @@ fn follow_part<L: Links>(
     Ok(false)
 }
 
-/// Returns the range of the node's held links that lie on the side of the relation, without reading them.
+/// Returns the range of the node's held links that lie on the side of the relation, without reading
+/// them.
+#[inline(always)]
 pub fn part_along<L: Links>(links: &L, relation: Relation, n: ResNo) -> Part
     ensures { IsPartAt (L.net links.now).links (L.links_of (L.net links.now) n) n (side_in relation)
         result }
@@ -108,28 +143,30 @@ pub fn part_along<L: Links>(links: &L, relation: Relation, n: ResNo) -> Part
     links.part(n, side_for(relation))
 }
 
-// Appends the nodes to which this range of the links at `at`, which has those on the side of the relation, leads from
-// `x` after the edit, up to the first goal. Returns whether there is a goal.
+// Appends the nodes to which this range of links leads after the edit, up to the first goal.
+// Returns whether there is a goal. If the range has the links on the side of a relation, these are
+// the nodes to which the node leads in that relation.
 fn follow<L: Links>(
     links: &mut L,
     nodes: &mut Nodes,
     edit: &LinkEdit,
-    relation: Relation,
-    at: ResNo,
-    part: Part,
-    x: ResNo,
+    range: LinkRange,
     goals: &Nodes,
 ) -> Result<bool, AllocError>
-    requires { IsPartAt (L.net links.old).links (L.links_of (L.net links.old) at) at
-        (side_in relation) part }
     ensures net { L.net links.new ≡ L.net links.old }
-    ensures finds { IfOk result (λ found. IsSearchResult found nodes.old nodes.new goals.now
-        (LeadsFrom edit.now (L.net links.old).links relation at x)) }
-    ensures count { OnOk result
-        ((ns : List Link) → CoversSide (L.net links.old).links at (side_in relation) ns
-        → L.count links.new ≤ L.count links.old + sum_by (one_on_side at (side_in relation)) ns) }
+    ensures finds { IfOk result (λ found. (relation : Relation)
+        → CanFollowAt edit.now (L.net links.old).links (L.links_of (L.net links.old) range.at)
+        relation range.at range.x range.part → IsSearchResult found nodes.old nodes.new goals.now
+        (LeadsFrom edit.now (L.net links.old).links relation range.at range.x)) }
+    ensures bound { L.count links.new
+        ≤ L.count links.old + (range.part.to - range.part.from) }
+    ensures count { OnOk result ((side : Side)
+        → IsPartAt (L.net links.old).links (L.links_of (L.net links.old) range.at) range.at side
+        range.part
+        → (ns : List Link) → CoversSide (L.net links.old).links range.at side ns
+        → L.count links.new ≤ L.count links.old + sum_by (one_on_side range.at side) ns) }
 {
-    let found = follow_part(links, nodes, edit, relation, at, part, x, goals)?;
+    let found = follow_part(links, nodes, edit, range, goals)?;
     Ok(found)
 }
 
@@ -156,44 +193,56 @@ fn follow_merged<L: Links>(
         + sum_by (link_visits (AfterMerge source target) target (side_in relation)) ns) }
 {
     let edit = LinkEdit::AfterMerge(source, target);
-    if follow(links, nodes, &edit, relation, target, part, target, goals)? {
+    let range = LinkRange {
+        at: target,
+        x: target,
+        part,
+    };
+    if follow(links, nodes, &edit, range, goals)? {
         return Ok(true);
     }
     let more = part_along(links, relation, source);
-    let found = follow(links, nodes, &edit, relation, source, more, target, goals)?;
+    let moved = LinkRange {
+        at: source,
+        x: target,
+        part: more,
+    };
+    let found = follow(links, nodes, &edit, moved, goals)?;
     Ok(found)
 }
 
-/// Appends the nodes to which `x` leads in the relation after the edit, up to the first goal, and returns whether there
-/// is a goal. The range has the links held at `x` on the side of the relation.
+/// Appends the nodes to which `x` leads in the relation after the edit, up to the first goal, and
+/// returns whether there is a goal. The range has the links held at `x` on the side of the
+/// relation.
 pub fn follow_after_edit<L: Links>(
     links: &mut L,
     nodes: &mut Nodes,
-    edit: &LinkEdit,
-    relation: Relation,
+    along: &EditedRelation,
     x: ResNo,
     part: Part,
     goals: &Nodes,
 ) -> Result<bool, AllocError>
-    requires { CanFollow edit.now (L.net links.old).links (L.links_of (L.net links.old)) relation x
-        part }
+    requires { CanFollow along.now.edit (L.net links.old).links (L.links_of (L.net links.old))
+        along.now.relation x part }
     ensures net { L.net links.new ≡ L.net links.old }
     ensures finds { IfOk result (λ found. IsSearchResult found nodes.old nodes.new goals.now
-        (Steps relation (HeldAfter edit.now (L.net links.old).links) x)) }
-    ensures count { OnOk result ((ns : List Link) → CoversAt edit.now (L.net links.old).links x ns
-        → L.count links.new
-        ≤ L.count links.old + sum_by (link_visits edit.now x (side_in relation)) ns) }
+        (Steps along.now.relation (HeldAfter along.now.edit (L.net links.old).links) x)) }
+    ensures count { OnOk result
+        ((ns : List Link) → CoversAt along.now.edit (L.net links.old).links x ns
+        → L.count links.new ≤ L.count links.old
+        + sum_by (link_visits along.now.edit x (side_in along.now.relation)) ns) }
 {
-    match edit {
+    let range = LinkRange { at: x, x, part };
+    match &along.edit {
         LinkEdit::NoEdit => {
-            let found = follow(links, nodes, edit, relation, x, part, x, goals)?;
+            let found = follow(links, nodes, &along.edit, range, goals)?;
             Ok(found)
         }
         LinkEdit::WithLink(new) => {
-            if follow(links, nodes, edit, relation, x, part, x, goals)? {
+            if follow(links, nodes, &along.edit, range, goals)? {
                 return Ok(true);
             }
-            let found = take(nodes, step(relation, new, x), goals)?;
+            let found = take(nodes, step(along.relation, new, x), goals)?;
             Ok(found)
         }
         LinkEdit::AfterMerge(source, target) => {
@@ -201,10 +250,11 @@ pub fn follow_after_edit<L: Links>(
                 return Ok(false);
             }
             if x == *target {
+                let relation = along.relation;
                 let found = follow_merged(links, nodes, relation, *source, *target, part, goals)?;
                 return Ok(found);
             }
-            let found = follow(links, nodes, edit, relation, x, part, x, goals)?;
+            let found = follow(links, nodes, &along.edit, range, goals)?;
             Ok(found)
         }
     }
@@ -221,6 +271,7 @@ impl SideSearch {
     }
 
     /// Checks whether the links of all nodes met were read, so that the search is at its end.
+    #[inline(always)]
     pub fn is_done(&self) -> bool
         ensures done { MatchBool result (length self.now.nodes ≤ self.now.next)
             (self.now.next < length self.now.nodes) }
@@ -232,28 +283,30 @@ impl SideSearch {
     /// Reads the links that lead from the next node in the relation after the edit, of which the
     /// range has those held there. Appends the nodes to which they lead, up to the first goal, and
     /// returns whether there is a goal.
+    #[inline(always)]
     pub fn advance<L: Links>(
         &mut self,
         links: &mut L,
-        edit: &LinkEdit,
-        relation: Relation,
+        along: &EditedRelation,
         part: Part,
         goals: &Nodes,
     ) -> Result<bool, AllocError>
-        requires { CanAdvance edit.now (L.net links.old).links (L.links_of (L.net links.old))
-            relation self.old part }
+        requires { CanAdvance along.now.edit (L.net links.old).links
+            (L.links_of (L.net links.old)) along.now.relation self.old part }
         ensures net { L.net links.new ≡ L.net links.old }
-        ensures advances { IfOk result (AdvancesByNode edit.now (L.net links.old).links relation
-            goals.now self.old self.new (L.count links.new - L.count links.old)) }
+        ensures advances { IfOk result (AdvancesByNode along.now.edit (L.net links.old).links
+            along.now.relation goals.now self.old self.new
+            (L.count links.new - L.count links.old)) }
     {
         let x = self.nodes.as_slice()[self.next];
-        let found = follow_after_edit(links, &mut self.nodes, edit, relation, x, part, goals)?;
+        let found = follow_after_edit(links, &mut self.nodes, along, x, part, goals)?;
         self.next += 1;
         Ok(found)
     }
 
-    /// Returns the range of the next node's held links on the side of the relation, without reading them; an empty
-    /// range if there is no next node.
+    /// Returns the range of the next node's held links on the side of the relation, without reading
+    /// them; an empty range if there is no next node.
+    #[inline(always)]
     pub fn next_part<L: Links>(&self, links: &L, relation: Relation) -> Part
         ensures { HasNextPart (L.net links.now).links (L.links_of (L.net links.now)) relation
             self.now result }
@@ -266,50 +319,52 @@ impl SideSearch {
 
     /// Reads this range of the next node's held links. Appends the nodes to which they lead, up to
     /// the first goal, and returns whether there is a goal.
+    #[inline(always)]
     pub fn advance_at<L: Links>(
         &mut self,
         links: &mut L,
-        relation: Relation,
         part: Part,
         goals: &Nodes,
     ) -> Result<bool, AllocError>
-        requires { CanAdvance NoEdit (L.net links.old).links (L.links_of (L.net links.old)) relation
-            self.old part }
+        requires { self.old.next < length self.old.nodes }
         ensures net { L.net links.new ≡ L.net links.old }
         ensures count { L.count links.new ≤ L.count links.old + (part.to - part.from) }
-        ensures advances { IfOk result (AdvancesByNode NoEdit (L.net links.old).links relation
-            goals.now self.old self.new (part.to - part.from)) }
+        ensures advances { IfOk result (λ found. (relation : Relation)
+            → CanAdvance NoEdit (L.net links.old).links (L.links_of (L.net links.old)) relation
+            self.old part → AdvancesByNode NoEdit (L.net links.old).links relation goals.now
+            self.old self.new (part.to - part.from) found) }
     {
         let x = self.nodes.as_slice()[self.next];
         let edit = LinkEdit::NoEdit;
-        let found = follow_part(links, &mut self.nodes, &edit, relation, x, part, x, goals)?;
+        let range = LinkRange { at: x, x, part };
+        let found = follow(links, &mut self.nodes, &edit, range, goals)?;
         self.next += 1;
         Ok(found)
     }
 
-    /// Advances the search until all nodes are read, one leads to a goal, or the nodes met and the links held at the
-    /// next one are more than `limit`. Returns whether there is a goal.
+    /// Advances the search until all nodes are read, one leads to a goal, or the nodes met and the
+    /// links held at the next one are more than `limit`. Returns whether there is a goal.
     pub fn advance_to<L: Links>(
         &mut self,
         links: &mut L,
-        edit: &LinkEdit,
-        relation: Relation,
+        along: &EditedRelation,
         goals: &Nodes,
         limit: usize,
     ) -> Result<bool, AllocError>
-        requires { IsHierarchySearch edit.now relation }
+        requires { IsHierarchySearch along.now.edit along.now.relation }
         ensures net { L.net links.new ≡ L.net links.old }
         ensures done { IfOk result (λ found. found ≡ false → limit ≡ 2 ^ 64 - 1
             → length self.new.nodes ≤ self.new.next) }
-        ensures continues { IfOk result (ContinuesSearch edit.now (L.net links.old).links relation
-            goals.now self.old self.new (L.count links.new - L.count links.old)) }
+        ensures continues { IfOk result (ContinuesSearch along.now.edit (L.net links.old).links
+            along.now.relation goals.now self.old self.new
+            (L.count links.new - L.count links.old)) }
     {
         'reading: while !self.is_done() {
-            let part = self.next_part(links, relation);
+            let part = self.next_part(links, along.relation);
             if limit < self.nodes.as_slice().len().saturating_add(part.size()) {
                 return Ok(false);
             }
-            if self.advance(links, edit, relation, part, goals)? {
+            if self.advance(links, along, part, goals)? {
                 return Ok(true);
             }
         }
@@ -321,18 +376,18 @@ impl SideSearch {
     pub fn finish<L: Links>(
         &mut self,
         links: &mut L,
-        edit: &LinkEdit,
-        relation: Relation,
+        along: &EditedRelation,
         goals: &Nodes,
     ) -> Result<bool, AllocError>
-        requires { IsHierarchySearch edit.now relation }
+        requires { IsHierarchySearch along.now.edit along.now.relation }
         ensures net { L.net links.new ≡ L.net links.old }
         ensures done { IfOk result
             (λ found. found ≡ false → length self.new.nodes ≤ self.new.next) }
-        ensures continues { IfOk result (ContinuesSearch edit.now (L.net links.old).links relation
-            goals.now self.old self.new (L.count links.new - L.count links.old)) }
+        ensures continues { IfOk result (ContinuesSearch along.now.edit (L.net links.old).links
+            along.now.relation goals.now self.old self.new
+            (L.count links.new - L.count links.old)) }
     {
-        let found = self.advance_to(links, edit, relation, goals, usize::MAX)?;
+        let found = self.advance_to(links, along, goals, usize::MAX)?;
         Ok(found)
     }
 }

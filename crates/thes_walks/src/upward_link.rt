@@ -1,6 +1,6 @@
-//! Checks a link from a low node up to a high one by two searches that take turns, up from the high node and down from
-//! the low one. The search that ends first has met all nodes of its side; the other one is finished only if a related
-//! link may lead from one of these nodes.
+//! Checks a link from a low node up to a high one by two searches that take turns, up from the high
+//! node and down from the low one. The search that ends first has met all nodes of its side; the
+//! other one is finished only if a related link may lead from one of these nodes.
 ghost use Rattle.std.specs.Prelude.{◌≡◌, ◌+◌, ◌-◌, ◌*◌, ◌^◌, ◌≤◌, ◌<◌, ℕ, true, false, List, Contains, OnOk, IfOk, MatchBool, length};
 ghost use Rattle.thes_base.specs.declared.data.Link.{Link};
 ghost use Rattle.thes_links.specs.declared.relation.Relation.TheVariants.{Related};
@@ -11,7 +11,7 @@ ghost use Rattle.thes_walks.specs.Ends.{IsEnd};
 ghost use Rattle.thes_walks.specs.SideSearch.{read_cost, IsHierarchySearch, IsSideSearch, AreAmong, ContinuesInTurn, AreTied, IsSecondResult, IsBrokenBetween, CoversBetween};
 
 use crate::ends::is_end_after;
-use crate::side_search::{SideSearch, TURN, follow_after_edit, part_along};
+use crate::side_search::{EditedRelation, SideSearch, TURN, follow_after_edit, part_along};
 use std::alloc::{AllocError, Global};
 use thes_base::fault::Refusal;
 use thes_base::number::ResNo;
@@ -20,9 +20,9 @@ use thes_links::links::Links;
 use thes_links::nodes::Nodes;
 use thes_links::relation::Relation;
 
-// Advances the search up to this limit, and then the search down, until one is done or they meet, and returns whether
-// they have met. The limit is on the nodes that a search has met and the links of its next one, so that neither reads a
-// node with many links while the other has few to read.
+// Advances the search up to this limit, and then the search down, until one is done or they meet,
+// and returns whether they have met. The limit is on the nodes that a search has met and the links
+// of its next one, so that neither reads a node with many links while the other has few to read.
 fn take_turns<L: Links>(
     links: &mut L,
     edit: &LinkEdit,
@@ -37,17 +37,26 @@ fn take_turns<L: Links>(
     ensures continues { IfOk result (ContinuesInTurn edit.now (L.net links.old).links up.old
         down.old up.new down.new (L.count links.old) (L.count links.new)) }
 {
-    if up.advance_to(links, edit, Relation::Broader, &down.nodes, limit)? {
+    let broader = EditedRelation {
+        edit: *edit,
+        relation: Relation::Broader,
+    };
+    if up.advance_to(links, &broader, &down.nodes, limit)? {
         return Ok(true);
     }
     if !up.is_done() {
-        let met = down.advance_to(links, edit, Relation::Narrower, &up.nodes, limit)?;
+        let narrower = EditedRelation {
+            edit: *edit,
+            relation: Relation::Narrower,
+        };
+        let met = down.advance_to(links, &narrower, &up.nodes, limit)?;
         return Ok(met);
     }
     Ok(false)
 }
 
-// Advances the two searches in turns until one is done or they meet, and returns whether they have met.
+// Advances the two searches in turns until one is done or they meet, and returns whether they have
+// met.
 fn search_in_turns<L: Links>(
     links: &mut L,
     edit: &LinkEdit,
@@ -104,53 +113,60 @@ fn are_tied<L: Links>(
 {
     let mut met = Nodes::none(alloc);
     for x in xs.as_slice() {
+        let related = EditedRelation {
+            edit: *edit,
+            relation: Relation::Related,
+        };
         let part = part_along(links, Relation::Related, *x);
-        if follow_after_edit(links, &mut met, edit, Relation::Related, *x, part, ys)? {
+        if follow_after_edit(links, &mut met, &related, *x, part, ys)? {
             return Ok(true);
         }
     }
     Ok(false)
 }
 
-// Returns which of Cycle and S27 would be broken, given `ended`, all nodes that the first search could reach. Finishes
-// the other search only if a related link may lead from one of them.
+// Returns which of Cycle and S27 would be broken, given `ended`, all nodes that the first search
+// could reach. Finishes the other search only if a related link may lead from one of them.
 fn check_second_search<L: Links>(
     alloc: Global,
     links: &mut L,
-    edit: &LinkEdit,
+    along: &EditedRelation,
     ended: &Nodes,
     other: &mut SideSearch,
-    relation: Relation,
 ) -> Result<Option<Refusal>, AllocError>
-    requires { IsHierarchySearch edit.now relation }
+    requires { IsHierarchySearch along.now.edit along.now.relation }
     ensures net { L.net links.new ≡ L.net links.old }
     ensures rest { IfOk result (λ answer. (kept : List ℕ) (start read : ℕ)
         → AreAmong kept ended.now
-        → IsSideSearch edit.now (L.net links.old).links relation kept start other.old read
-        → IsSecondResult edit.now (L.net links.old).links relation ended.now start answer) }
+        → IsSideSearch along.now.edit (L.net links.old).links along.now.relation kept start
+        other.old read
+        → IsSecondResult along.now.edit (L.net links.old).links along.now.relation ended.now start
+        answer) }
     ensures count { OnOk result ((kept : List ℕ) (start read : ℕ) (ns : List Link)
         → AreAmong kept ended.now
-        → IsSideSearch edit.now (L.net links.old).links relation kept start other.old read
-        → ((n : ℕ) → Reaches (Steps relation (HeldAfter edit.now (L.net links.old).links)) start n
-        → CoversAt edit.now (L.net links.old).links n ns)
-        → ((n : ℕ) → Contains ended.now n → CoversAt edit.now (L.net links.old).links n ns)
+        → IsSideSearch along.now.edit (L.net links.old).links along.now.relation kept start
+        other.old read
+        → ((n : ℕ) → Reaches (Steps along.now.relation
+        (HeldAfter along.now.edit (L.net links.old).links)) start n
+        → CoversAt along.now.edit (L.net links.old).links n ns)
+        → ((n : ℕ) → Contains ended.now n → CoversAt along.now.edit (L.net links.old).links n ns)
         → read + L.count links.new
-        ≤ L.count links.old + 2 * length ns + read_cost edit.now Sideways ended.now ns) }
+        ≤ L.count links.old + 2 * length ns + read_cost along.now.edit Sideways ended.now ns) }
 {
-    if have_none(links, edit, ended) {
+    if have_none(links, &along.edit, ended) {
         return Ok(None);
     }
-    if other.finish(links, edit, relation, ended)? {
+    if other.finish(links, along, ended)? {
         return Ok(Some(Refusal::Cycle));
     }
-    if are_tied(alloc, links, edit, ended, &other.nodes)? {
+    if are_tied(alloc, links, &along.edit, ended, &other.nodes)? {
         return Ok(Some(Refusal::S27));
     }
     Ok(None)
 }
 
-/// Returns the first of Cycle and S27 that a link from the low node up to the high one would break, together with the
-/// links after the edit.
+/// Returns the first of Cycle and S27 that a link from the low node up to the high one would break,
+/// together with the links after the edit.
 pub fn check_upward_link<L: Links>(
     alloc: Global,
     links: &mut L,
@@ -172,11 +188,17 @@ pub fn check_upward_link<L: Links>(
         return Ok(Some(Refusal::Cycle));
     }
     if up.is_done() {
-        let narrower = Relation::Narrower;
-        let rest = check_second_search(alloc, links, edit, &up.nodes, &mut down, narrower)?;
+        let narrower = EditedRelation {
+            edit: *edit,
+            relation: Relation::Narrower,
+        };
+        let rest = check_second_search(alloc, links, &narrower, &up.nodes, &mut down)?;
         return Ok(rest);
     }
-    let broader = Relation::Broader;
-    let rest = check_second_search(alloc, links, edit, &down.nodes, &mut up, broader)?;
+    let broader = EditedRelation {
+        edit: *edit,
+        relation: Relation::Broader,
+    };
+    let rest = check_second_search(alloc, links, &broader, &down.nodes, &mut up)?;
     Ok(rest)
 }

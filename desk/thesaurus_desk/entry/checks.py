@@ -106,13 +106,18 @@ def check_role(lowest: Role, is_interface: bool) -> Any:
     """Returns the refusal of a person whose role isn't high enough."""
     if g.person.role >= lowest:
         return None
-    if is_interface:
+    if is_interface and not is_browser():
         return {"error": "this desk isn’t open to the public"}, 401
     if g.person.role > Role.VISITOR:
         return refusal("not_allowed", 403, role=g.words(f"people.role.{lowest.word}"))
     if request.method not in READING:
         return ask_again()
     return let_in()
+
+
+def is_browser() -> bool:
+    """Whether a page is asked for by name, as a browser does that follows the address of a concept."""
+    return request.method in READING and "text/html" in request.accept_mimetypes.values()
 
 
 def let_in() -> Any:

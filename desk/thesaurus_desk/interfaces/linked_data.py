@@ -2,12 +2,14 @@
 from __future__ import annotations
 
 import hashlib
+import re
 from collections.abc import Iterator
 
 from flask import Blueprint, Response, abort, redirect, request
 from thesaurus_desk.entry.guard import interface
 from thesaurus_desk.interfaces.source import Source
-from thesaurus_tools.rdf_writing import WRITERS, write_ntriples
+from thesaurus_tools.rdf_writing import WRITERS, Names, prefix_lines, turtle_parts, write_ntriples
+from thesaurus_tools.texts import fold
 from werkzeug.wrappers import Response as AnyResponse
 
 # The media types, in the order in which one is preferred where a client takes all, with the forms that are written.
@@ -59,31 +61,62 @@ def links(source: Source, number: int, form: str = "") -> list[str]:
     return found
 
 
-def export_lines(source: Source) -> Iterator[str]:
-    """Yields the triples of all resources, in the order of their numbers."""
+def exported(source: Source, scheme: int | None) -> list[int]:
+    """Returns the numbers of all resources, or those of a scheme, in their order."""
     mirror = source.mirror()
-    numbers = sorted(it for kind in ("scheme", "concept", "collection") for it in mirror.numbers(kind))
-    for number in numbers:
-        yield from write_ntriples(source.triples(number), mirror.base)
+    numbers = [it for kind in ("scheme", "concept", "collection") for it in mirror.numbers(kind, scheme)]
+    return sorted(numbers if scheme is None else [scheme, *numbers])
+
+
+def export_ntriples(source: Source, scheme: int | None) -> Iterator[str]:
+    """Yields the triples of all resources, or of those of a scheme, as N-Triples."""
+    for number in exported(source, scheme):
+        yield from write_ntriples(source.triples(number), source.mirror().base)
+
+
+def export_turtle(source: Source, scheme: int | None) -> Iterator[str]:
+    """Yields the same in Turtle. Its prefixes come first, whether or not they are used."""
+    names = Names(source.mirror().base)
+    yield from prefix_lines(names, names.prefixes)
+    for number in exported(source, scheme):
+        yield from turtle_parts(source.triples(number), names)
+
+
+EXPORTS = {"nt": ("ntriples", export_ntriples), "ttl": ("turtle", export_turtle)}
+
+
+def file_name(source: Source, scheme: int | None) -> str:
+    """Returns the name of a file that a reader saves, without its ending: of plain letters, digits and hyphens."""
+    mirror = source.mirror()
+    title = mirror.term(scheme, mirror.languages())[1] if scheme else source.name()
+    return "-".join(re.findall("[a-z0-9]+", fold(title)))[:60] or "thesaurus"
 
 
 def add_linked_data(blueprint: Blueprint, source: Source) -> None:
-    """Adds /id/N and /export.nt to the routes."""
+    """Adds /id/N, /export.nt and /export.ttl to the routes."""
 
-    @blueprint.get("/export.nt")
+    @blueprint.get("/export.<any(nt,ttl):ending>")
     @interface
-    def export() -> AnyResponse:
-        """Returns all triples, with the dates that are known."""
-        return Response(export_lines(source), content_type="application/n-triples; charset=utf-8")
+    def export(ending: str) -> AnyResponse:
+        """Returns all triples, or those of the scheme that is asked for, with the dates that are known."""
+        asked = request.args.get("scheme", "")
+        scheme = source.number_of(asked) if asked else None
+        if asked and (scheme is None or source.mirror().kind(scheme) != "scheme"):
+            abort(404, "no such thesaurus")
+        form, write = EXPORTS[ending]
+        name = f"{file_name(source, scheme)}.{ending}"
+        headers = {"Content-Disposition": f'attachment; filename="{name}"'}
+        return Response(write(source, scheme), headers=headers, content_type=f"{MEDIA[form]}; charset=utf-8")
 
     @blueprint.get("/id/<int:number>")
     @interface
     def resource(number: int) -> AnyResponse:
         """Sends a reader to the page of a resource, a program its triples: with 410 those of a dead concept."""
         mirror = source.mirror()
-        if mirror.kind(number) in (None, "outside"):
-            abort(404)
         form = wanted_form(source.page is not None)
+        # (the page of a number that nothing has says so to a reader)
+        if mirror.kind(number) in (None, "outside") and (form != "html" or source.page is None):
+            abort(404)
         if form is None:
             forms = sorted({it for it in FORMS if source.page or FORMS[it] != "html"})
             return Response(f"There are {', '.join(forms)}.\n", 406, content_type="text/plain; charset=utf-8")
@@ -92,5 +125,6 @@ def add_linked_data(blueprint: Blueprint, source: Source) -> None:
             return written(source, number, form, 410 if is_gone else 200)
         # (the page of a dead concept says what to use)
         response = redirect(source.page(number), 303)
-        response.headers["Link"] = ", ".join(links(source, number))
+        if mirror.kind(number) not in (None, "outside"):
+            response.headers["Link"] = ", ".join(links(source, number))
         return response

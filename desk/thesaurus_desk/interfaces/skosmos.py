@@ -15,7 +15,7 @@ from thesaurus_desk.interfaces.skosmos_concepts import (
     transitive,
 )
 from thesaurus_desk.interfaces.skosmos_search import search_answer
-from thesaurus_desk.interfaces.skosmos_vocabulary import CONTEXT, PREF, Json, Vocabulary
+from thesaurus_desk.interfaces.skosmos_vocabulary import CONTEXT, PREF, Json, Vocabulary, vocabulary_of
 from thesaurus_desk.entry.guard import interface
 from thesaurus_desk.interfaces.source import Source
 from thesaurus_tools.ntriples import SKOS
@@ -185,7 +185,7 @@ def add_skosmos(blueprint: Blueprint, source: Source) -> None:
         name = request.args.get("vocab", "").partition(" ")[0]
         if not schemes:
             abort(404, "no vocabulary")
-        return search_answer(Vocabulary(source, name or str(schemes[0])))
+        return search_answer(vocabulary_of(source, name or str(schemes[0])))
 
 
 def add_vocabulary(blueprint: Blueprint, source: Source) -> None:
@@ -195,25 +195,25 @@ def add_vocabulary(blueprint: Blueprint, source: Source) -> None:
     @interface
     def data(name: str) -> AnyResponse:
         """Returns the triples of a resource, or of the vocabulary's scheme."""
-        vocabulary = Vocabulary(source, name)
+        vocabulary = vocabulary_of(source, name)
         number = vocabulary.asked() if request.args.get("uri") else vocabulary.scheme
         return written(source, number, wanted_form(has_pages=False) or "turtle")
 
     @blueprint.get("/rest/v1/<name>/broaderTransitive")
     @interface
     def broader_transitive(name: str) -> Json:
-        return transitive(Vocabulary(source, name), up=True)
+        return transitive(vocabulary_of(source, name), up=True)
 
     @blueprint.get("/rest/v1/<name>/narrowerTransitive")
     @interface
     def narrower_transitive(name: str) -> Json:
-        return transitive(Vocabulary(source, name), up=False)
+        return transitive(vocabulary_of(source, name), up=False)
 
     @blueprint.get("/rest/v1/<name>/index/", defaults={"letter": ""})
     @blueprint.get("/rest/v1/<name>/index/<letter>")
     @interface
     def index(name: str, letter: str) -> Json:
-        return index_of(Vocabulary(source, name), letter)
+        return index_of(vocabulary_of(source, name), letter)
 
     @blueprint.get("/rest/v1/<name>/", defaults={"what": ""})
     @blueprint.get("/rest/v1/<name>/<what>")
@@ -222,4 +222,4 @@ def add_vocabulary(blueprint: Blueprint, source: Source) -> None:
         """Returns the answer of a name in ANSWERS."""
         if what not in ANSWERS:
             abort(404, "no such method")
-        return ANSWERS[what](Vocabulary(source, name))
+        return ANSWERS[what](vocabulary_of(source, name))

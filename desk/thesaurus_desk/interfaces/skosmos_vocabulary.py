@@ -26,16 +26,10 @@ def list_context(name: str, property_: str) -> Json:
 class Vocabulary:
     """A scheme that a request asks about, in a language."""
 
-    def __init__(self, source: Source, name: str) -> None:
+    def __init__(self, source: Source, name: str, scheme: int, lang: str) -> None:
         self.mirror: Mirror = source.mirror()
-        self.source, self.name = source, name
-        schemes, named = self.mirror.numbers("scheme"), source.number_of(name)
-        # (a client may call the only vocabulary by any name that its settings have for it)
-        if named not in schemes and len(schemes) != 1:
-            abort(404, "no such vocabulary")
-        self.scheme: int = named if named is not None and named in schemes else schemes[0]
+        self.source, self.name, self.scheme, self.lang = source, name, scheme, lang
         self.languages = self.mirror.languages() or ["en"]
-        self.lang = (request.args.get("lang") or "").lower()
 
     def term(self, number: int, lang: str = "") -> tuple[str, str]:
         """Returns the tag and the text of the term by which a resource is shown."""
@@ -60,6 +54,16 @@ class Vocabulary:
 
     def many(self, numbers: Iterable[int]) -> list[Json]:
         return [self.one(it) for it in self.ordered(numbers)]
+
+
+def vocabulary_of(source: Source, name: str) -> Vocabulary:
+    """Returns the vocabulary of a name, in the language that the request names. Raises 404."""
+    schemes, named = source.mirror().numbers("scheme"), source.number_of(name)
+    # (a client may call the only vocabulary by any name that its settings have for it)
+    if named not in schemes and len(schemes) != 1:
+        abort(404, "no such vocabulary")
+    scheme = named if named is not None and named in schemes else schemes[0]
+    return Vocabulary(source, name, scheme, (request.args.get("lang") or "").lower())
 
 
 def integer(name: str, default: int, most: int) -> int:

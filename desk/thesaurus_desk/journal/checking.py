@@ -24,7 +24,7 @@ def check(db: Path) -> list[str]:
     if not path.exists():
         raise ToolError(f"{path}: there is no journal")
     mirror = read_mirror(db)
-    with closing(Journal(path)) as journal:
+    with closing(Journal(path).open()) as journal:
         return [
             *differing_counts(journal, mirror),
             *differing_plans(journal, mirror),

@@ -36,9 +36,11 @@ class Step:
     def numbers(self) -> set[int]:
         """The resources that it concerns: those that it names, the one it made, and those where it moved something."""
         kept = self.kept or {}
+        # (what a step that isn't performed would have made gets no number, or another step's)
+        may_be_made = self.answer or (self.foreseen if self.state in ("sent", "unknown") else None)
         ends = {end for it in kept.get("links", ()) for end in it[1:]}
         places = {*kept.get("places", ()), *([kept["place"]] if "place" in kept else [])}
-        return concerned(self.request, self.answer or self.foreseen) | ends | places
+        return concerned(self.request, may_be_made) | ends | places
 
 
 @dataclass(slots=True)
@@ -155,6 +157,7 @@ class Journal(Database):
                     for place, it in enumerate(steps, 1)
                 ],
             )
+            rows.execute("DELETE FROM concern WHERE plan = ?", (plan,))
             self.concern(rows, plan, numbers, set(changed))
             rows.executemany("INSERT OR REPLACE INTO seal VALUES (?, ?)", list((seals or {}).items()))
             rows.executemany("INSERT OR REPLACE INTO count VALUES (?, ?)", list((counts or {}).items()))

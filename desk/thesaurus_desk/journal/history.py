@@ -9,7 +9,12 @@ from collections.abc import Iterator
 from dataclasses import dataclass
 
 from thesaurus_desk.journal.entries import Journal, Plan, Step
+from thesaurus_tools.kinds import BROADER
 
+# Tests of the rows of a table, with their values; one with None is left out.
+Tests = dict[str, int | str | tuple[str, ...] | None]
+# The test whether a plan concerns a resource.
+CONCERNING = "id IN (SELECT plan FROM concern WHERE number = ?)"
 NEEDS_GUARD = re.compile(r"'?[=+\-@\t\r]")
 COLUMNS = ("plan", "step", "time", "user", "proposed by", "action", "state", "request", "answer", "takes back")
 
@@ -22,6 +27,39 @@ class Dates:
     modified: str | None
 
 
+@dataclass(frozen=True, slots=True)
+class Ending:
+    """How a concept ended: by which plan, and what was broader than it until then."""
+
+    plan: Plan
+    broader: tuple[int, ...]
+
+
+@dataclass(frozen=True, slots=True)
+class Filter:
+    """Which plans are meant: of a user, from a time on, before a time, with one of these requests. None: of any.
+
+    Times are beginnings of times in UTC, as 2026-11 or 2026-11-28T10."""
+
+    user: str | None = None
+    since: str | None = None
+    until: str | None = None
+    requests: tuple[str, ...] | None = None
+
+    def tests(self) -> Tests:
+        """Returns the tests of a plan, each with its values."""
+        asked = self.requests or ()
+        return {
+            "user = ?": self.user,
+            "at >= ?": self.since,
+            "at < ?": self.until,
+            f"id IN (SELECT plan FROM step WHERE json_extract(request, '$.do') IN ({marks(asked)}))": asked or None,
+        }
+
+
+EVERYTHING = Filter()
+
+
 class History:
     """Looks up plans that were sent."""
 
@@ -32,33 +70,25 @@ class History:
         self,
         *,
         number: int | None = None,
-        user: str | None = None,
-        since: str | None = None,
-        until: str | None = None,
         before: int | None = None,
         states: tuple[str, ...] = (),
+        which: Filter = EVERYTHING,
         most: int = 50,
     ) -> list[Plan]:
-        """Returns plans, the last first: of a resource, of a user, from a time on, before a time, before a plan.
-
-        Times are beginnings of times in UTC, as 2026-11 or 2026-11-28T10."""
-        tests = {
-            "id IN (SELECT plan FROM concern WHERE number = ?)": number,
-            "user = ?": user,
-            "at >= ?": since,
-            "at < ?": until,
-            "id < ?": before,
-        }
-        where = [test for test, value in tests.items() if value is not None]
-        values = [value for value in tests.values() if value is not None]
-        if states:
-            where.append(f"state IN ({', '.join('?' * len(states))})")
-        condition = f"WHERE {' AND '.join(where)}" if where else ""
-        return self.journal.plans(f"SELECT * FROM plan {condition} ORDER BY id DESC LIMIT ?", *values, *states, most)
+        """Returns plans, the last first: of a resource, before a plan, in states, of a filter."""
+        condition, values = condition_of(
+            {**which.tests(), CONCERNING: number, "id < ?": before, f"state IN ({marks(states)})": states or None}
+        )
+        return self.journal.plans(f"SELECT * FROM plan WHERE {condition} ORDER BY id DESC LIMIT ?", *values, most)
 
     def users(self) -> list[str]:
-        """Returns the users who have sent plans."""
+        """Returns the users who have sent plans; "" is among them if other programs have changed something."""
         return [it["user"] for it in self.journal.all("SELECT DISTINCT user FROM plan ORDER BY user")]
+
+    def resources_changed_by(self, plan: int) -> list[int]:
+        """Returns the resources that have other labels, links or another state by a plan, in order."""
+        found = self.journal.all("SELECT number FROM concern WHERE plan = ? AND changes = 1 ORDER BY number", plan)
+        return [it["number"] for it in found]
 
     def dates(self, number: int) -> Dates:
         """Returns when a resource was made and last changed. What is older than the journal has no date."""
@@ -75,12 +105,18 @@ class History:
 
     def returned_as(self, number: int) -> int | None:
         """Returns the new number of a concept whose merge or taking out of use was taken back."""
+        ending = self.ending(number)
+        back = self.journal.plan(ending.plan.taken_back_by) if ending and ending.plan.taken_back_by else None
+        made = [it for it in back.steps if it.request["do"] in ("split", "concept")] if back else []
+        return int(made[0].answer["ok"]) if len(made) == 1 and made[0].answer else None
+
+    def ending(self, number: int) -> Ending | None:
+        """Returns how a concept ended, or None if the journal doesn't know it."""
         for plan in self.recent(number=number, states=("done",)):
-            is_its_end = any(ended_by(it) == number for it in plan.steps)
-            back = self.journal.plan(plan.taken_back_by) if is_its_end and plan.taken_back_by else None
-            made = [it for it in back.steps if it.request["do"] in ("split", "concept")] if back else []
-            if len(made) == 1 and made[0].answer:
-                return int(made[0].answer["ok"])
+            for step in plan.steps:
+                if ended_by(step) == number:
+                    links = [*(step.kept or {}).get("links", ()), *unlinked_by(plan)]
+                    return Ending(plan, tuple(b for kind, a, b in links if kind in BROADER and a == number))
         return None
 
     def changed_since(self, time: str, most: int = -1) -> list[tuple[int, str]]:
@@ -94,17 +130,38 @@ class History:
         )
         return [(it["number"], it["last"]) for it in found]
 
-    def csv(self) -> Iterator[str]:
-        """Yields the journal as CSV, the earliest first: a line for each request, and one for what others changed."""
+    def csv(self, number: int | None = None, which: Filter = EVERYTHING) -> Iterator[str]:
+        """Yields the plans of a resource and a filter as CSV, the earliest first: a line for each request, and one for
+        what others changed."""
         yield to_csv(COLUMNS)
-        last = 0
-        while plans := self.journal.plans("SELECT * FROM plan WHERE id > ? ORDER BY id LIMIT 500", last):
+        tests: Tests = {CONCERNING: number, **which.tests()}
+        condition, values = condition_of(tests)
+        while plans := self.journal.plans(f"SELECT * FROM plan WHERE {condition} ORDER BY id LIMIT 500", *values):
             for plan in plans:
                 for place, it in enumerate(plan.steps or [Step({}, plan.state)], 1):
                     about = (plan.id, place, plan.at, plan.user, plan.proposer or "", plan.action, it.state)
                     texts = (json.dumps(it.request, ensure_ascii=False), json.dumps(it.answer) if it.answer else "")
                     yield to_csv((*about, *texts, plan.takes_back or ""))
-            last = plans[-1].id
+            condition, values = condition_of({**tests, "id > ?": plans[-1].id})
+
+
+def marks(values: tuple[str, ...]) -> str:
+    """Returns the marks that stand for some values."""
+    return ", ".join("?" * len(values))
+
+
+def condition_of(tests: Tests) -> tuple[str, list[int | str]]:
+    """Returns the condition that all tests hold, and the values of its marks."""
+    values: list[int | str] = []
+    for value in tests.values():
+        values += value if isinstance(value, tuple) else [] if value is None else [value]
+    return " AND ".join(["true", *(test for test, value in tests.items() if value is not None)]), values
+
+
+def unlinked_by(plan: Plan) -> list[tuple[str, int, int]]:
+    """Returns the links that a plan removes one by one: kind and ends."""
+    asked = (it.request for it in plan.steps if it.request["do"] == "unlink")
+    return [(it["kind"], it["a"], it["b"]) for it in asked]
 
 
 def ended_by(step: Step) -> int | None:

@@ -9,7 +9,7 @@ import threading
 from collections.abc import Iterator
 from datetime import datetime, timezone
 from pathlib import Path
-from typing import Any
+from typing import Any, Self
 
 from thesaurus_tools.command_line import ToolError
 from thesaurus_tools.files import give_to_owner
@@ -72,28 +72,38 @@ def open_without_links(path: Path, flags: int) -> int:
 
 
 class Database:
-    """The journal's file, which one desk at a time has open."""
+    """The journal's file, which one desk at a time has open, from `open` to `close`."""
 
     def __init__(self, path: Path) -> None:
         self.path = path
         self.lock, self.reading = threading.RLock(), threading.RLock()
-        self.lock_file = open_without_links(path.with_suffix(".lock"), os.O_RDWR)
+        # No file, while it isn't open.
+        self.lock_file = -1
+
+    def open(self) -> Self:
+        """Opens the file, which is made if there is none, and returns itself. Raises ToolError."""
         try:
-            fcntl.flock(self.lock_file, fcntl.LOCK_EX | fcntl.LOCK_NB)
-        except BlockingIOError:
-            os.close(self.lock_file)
-            raise ToolError(f"{path}: another desk has this journal open") from None
-        os.close(open_without_links(path, os.O_RDWR))
-        try:
-            self.open()
+            self.take_lock()
+            os.close(open_without_links(self.path, os.O_RDWR))
+            self.open_tables()
         except sqlite3.Error as error:
             self.close()
-            raise ToolError(f"{path}: {error}") from None
+            raise ToolError(f"{self.path}: {error}") from None
         except BaseException:
             self.close()
             raise
+        return self
 
-    def open(self) -> None:
+    def take_lock(self) -> None:
+        """Keeps other desks away."""
+        self.lock_file = open_without_links(self.path.with_suffix(".lock"), os.O_RDWR)
+        try:
+            fcntl.flock(self.lock_file, fcntl.LOCK_EX | fcntl.LOCK_NB)
+        except BlockingIOError:
+            raise ToolError(f"{self.path}: another desk has this journal open") from None
+
+    def open_tables(self) -> None:
+        """Opens the tables for writing and for reading, and makes those of a new file."""
         self.rows = sqlite3.connect(self.path, check_same_thread=False, isolation_level=None, timeout=5)
         self.rows.row_factory = sqlite3.Row
         try:

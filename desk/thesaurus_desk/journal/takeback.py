@@ -16,7 +16,7 @@ class Remark:
     """What isn't taken back, as a key of the pages' words, and what it is about."""
 
     # stays (a scheme, a collection or an outside concept), new number (a concept comes back under another one), dead (a
-    # concept that was made ends its life), label taken, end dead, withdrawn, moved on, gone.
+    # concept that was made ends its life), label taken, end dead, has ended, withdrawn, moved on, gone.
     name: str
     number: int | None = None
     text: str = ""
@@ -108,9 +108,20 @@ class Builder:
             if it and not it.is_withdrawn:
                 self.add(*inverses(step))
         else:
-            if do == "concept":
-                self.remark("dead", answer.get("ok"))
-            self.add(*inverses(step))
+            self.take_back_at_once(step)
+
+    def take_back_at_once(self, step: Step) -> None:
+        """Adds the inverse of a step; none at a concept that has ended since, and that doesn't come back."""
+        requests = inverses(step)
+        named = {it[name] for it in requests for name in NAMED if isinstance(it.get(name), int)}
+        ended = sorted(it for it in named - self.back.keys() if not self.mirror.is_live(it))
+        for number in ended:
+            self.remark("has ended", number)
+        if ended:
+            return
+        if step.request["do"] == "concept":
+            self.remark("dead", (step.answer or {}).get("ok"))
+        self.add(*requests)
 
     # --- postings ---
 
@@ -141,11 +152,13 @@ class Builder:
     # --- concepts that come back under another number ---
 
     def first_label(self, kept: dict[str, Any]) -> tuple[str, str]:
-        """Returns the preferred label that a concept comes back with: the one chosen, or one of its own that is
-        free."""
+        """Returns the preferred label that a concept comes back with: the one chosen, or one of its own that is free,
+        in the commonest language."""
         if self.label:
             return self.label
+        places = {tag: place for place, tag in enumerate(self.mirror.languages())}
         preferred = [(tag, text) for kind, tag, text in kept["labels"] if kind == "pref"]
+        preferred.sort(key=lambda it: places.get(it[0], len(places)))
         free = [it for it in preferred if self.is_free(kept["scheme"], *it)]
         self.made.needs_label = not free
         return (free or preferred)[0]

@@ -24,9 +24,8 @@ MATCHES = {
 class Broken:
     """A rule that a request would break, and the resources that break it.
 
-    Of Cycle, `way` is the ring: its first is its last. Of S27, `way` is the chain up from one of two related
-    concepts to
-    the other. Of S46, `way` is the two that would be exact matches, and broader or related matches. In the ways of a
+    Of Cycle, `way` is the ring: its first is its last. Of S27, `way` is the chain up from one of two related concepts
+    to the other. Of S46, `way` is the two that would be exact matches, and broader or related matches. In the ways of a
     merge the target is in the place of the source."""
 
     rule: str
@@ -49,17 +48,15 @@ class Merge:
     links: tuple[Link, ...]
     there: tuple[Link, ...]
     between: tuple[Link, ...]
-    # The number of postings that move, and of those among them whose record the target has already.
-    postings: int
+    # The number of records that move, each counted once, and of those among them that the target has already.
+    records: int
     doubles: int
     broken: Broken | None
 
 
-def count_doubles(mirror: Mirror, source: int, target: int) -> int:
-    """Returns the number of postings assigned to a concept whose record is also indexed with another one."""
-    records = mirror.postings.all
-    known = {records[it - 1].record for it in mirror.postings.numbers_at(target)}
-    return sum(records[it - 1].record in known for it in mirror.postings.numbers_at(source))
+def records_at(mirror: Mirror, concept: int) -> set[str]:
+    """Returns the records indexed with a concept."""
+    return {mirror.postings.all[it - 1].record for it in mirror.postings.numbers_at(concept)}
 
 
 def foresee_merge(mirror: Mirror, source: int, target: int) -> Merge:
@@ -72,6 +69,7 @@ def foresee_merge(mirror: Mirror, source: int, target: int) -> Merge:
         for it in sorted(one.links()):
             sent = Link(it.kind, *(target if end == source else end for end in it[1:]))
             (between if sent.a == sent.b else there if mirror.has_link(sent) else links).append(it)
+        records = records_at(mirror, source)
         has = {it[1:] for it in mirror.resources[target].labels if it[0] != "scope"}
         return Merge(
             source,
@@ -82,8 +80,8 @@ def foresee_merge(mirror: Mirror, source: int, target: int) -> Merge:
             links=tuple(links),
             there=tuple(there),
             between=tuple(between),
-            postings=mirror.postings.count_at(source),
-            doubles=count_doubles(mirror, source, target),
+            records=len(records),
+            doubles=len(records & records_at(mirror, target)),
             broken=rule_broken_by_merge(mirror, source, target),
         )
 

@@ -3,6 +3,7 @@ from __future__ import annotations
 
 from collections.abc import Callable, Iterable, Iterator, Sequence
 from functools import lru_cache
+from itertools import chain
 
 from thesaurus_desk.mirror.resources import Link, Resource, Term, View, alone, view_of
 from thesaurus_desk.mirror.search import MOST_SHOWN, Entry, Hit
@@ -177,6 +178,21 @@ class Mirror(Tables):
     def count_below(self, number: int) -> int:
         """Returns the number of postings assigned to a concept or to one below it."""
         return self.once(("below", number), lambda: self.postings.count_at_all(self.below(number)))
+
+    @alone
+    def count_records(self, number: int) -> int:
+        """Returns the number of records indexed with a concept, each counted once."""
+        numbers = self.postings.numbers_at(number)
+        return self.once(("records", number), lambda: self.postings.count_records(numbers))
+
+    @alone
+    def count_records_below(self, number: int) -> int:
+        """Returns the number of records indexed with a concept or with one below it, each counted once."""
+
+        def count() -> int:
+            return self.postings.count_records(chain.from_iterable(map(self.postings.numbers_at, self.below(number))))
+
+        return self.once(("records below", number), count)
 
     @alone
     def ring(self, low: int, high: int) -> list[int]:

@@ -105,6 +105,11 @@ class Postings:
         return sum(len(self.assigned.get(it, ())) for it in concepts)
 
     @alone
+    def count_records(self, numbers: Iterable[int]) -> int:
+        """Returns the number of records of some postings: less than these where a record is listed more than once."""
+        return len({self.all[it - 1].record for it in numbers})
+
+    @alone
     def numbers_at(self, concept: int) -> list[int]:
         """Returns the numbers of the postings assigned to a concept, in their order."""
         return list(self.assigned.get(concept, ()))

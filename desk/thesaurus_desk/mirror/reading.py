@@ -43,7 +43,7 @@ def read_rows(path: Path) -> tuple[str, Rows]:
 
     Raises ToolError for a store that is in use, damaged or of another version."""
     with open_tables(path) as tables, much_made():
-        store = TableStore(path, tables)
+        store = TableStore(path, tables).read_base()
         return store.base, {name: list(store.rows(query)) for name, query in QUERIES.items()}
 
 

@@ -20,6 +20,7 @@ from thesaurus_desk.skos_reports import Findings
 from thesaurus_desk.tables import Bringer, TableRun, plan_rows, read_sent_table, run_table
 from thesaurus_desk.vocabularies import SkosOptions, SkosRun, StoreBusy, perform_script, read_skos
 from thesaurus_tools.command_line import ToolError
+from thesaurus_tools.headings import ColumnsError
 from thesaurus_tools.row_running import RowPlan
 from thesaurus_tools.table_plans import KINDS, TableOptions
 
@@ -63,8 +64,12 @@ def start_page(state: FormState, status: int) -> Any:
     return page, status
 
 
-def refused(form: str, text: str, field: str = "file") -> Any:
-    """Returns the forms with what is wrong with a file."""
+def refused(form: str, text: str, field: str | None = None) -> Any:
+    """Returns the forms with what is wrong with a file, or with the text typed in its place."""
+    if field is None:
+        sent = request.files.get("file")
+        is_typed = not (sent and sent.filename) and request.form.get("typed", "").strip()
+        field = "typed" if is_typed else "file"
     return start_page(FormState(form, request.form, [Problem(field, text)]), 409)
 
 
@@ -133,12 +138,18 @@ def preview_table() -> Any:
         return refused("table", say("bring_in.no_scheme"))
     scheme = request.form.get("scheme", "")
     kind = request.form.get("kind", "")
-    options = TableOptions(KINDS[kind][0] if kind in KINDS else "", request.form.get("tag", "").strip().lower())
-    options.scheme = int(scheme) if scheme.isascii() and scheme.isdigit() and len(scheme) < 11 else None
-    options.forget = "forget" in request.form
+    options = TableOptions(
+        KINDS[kind][0] if kind in KINDS else "",
+        request.form.get("tag", "").strip().lower(),
+        int(scheme) if scheme.isascii() and scheme.isdigit() and len(scheme) < 11 else None,
+        forget="forget" in request.form,
+    )
     try:
         run = read_sent_table(name, data, request.form.get("columns", ""), options)
         plan_rows(run, the_mirror(), the_bringer())
+    except ColumnsError as error:
+        name = "columns_wrong" if error.roles else "columns_unknown"
+        return refused("table", say(f"bring_in.{name}", roles=error.roles, names=error.names), "columns")
     except ToolError as error:
         return refused("table", str(error))
     return table_page(run, keep(run), 200)

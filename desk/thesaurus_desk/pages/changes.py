@@ -2,17 +2,18 @@
 from __future__ import annotations
 
 import re
+from collections.abc import Mapping
 from typing import Any
 from urllib.parse import urlencode
 
 from flask import Blueprint, Response, abort, render_template, request
 from markupsafe import Markup
 
-from thesaurus_desk.context import go, person, say, the_desk, the_mirror, words
+from thesaurus_desk.context import go, own_path, person, say, the_desk, the_mirror, words
 from thesaurus_desk.entry.guard import role
 from thesaurus_desk.entry.roles import OF_HEADS
 from thesaurus_desk.forms import FormState, Problem
-from thesaurus_desk.journal import Plan
+from thesaurus_desk.journal import Filter, Plan
 from thesaurus_desk.journal.takeback import Remark, TakeBack
 from thesaurus_desk.pages.telling import LINKS, tell_outcome, tell_plan, tell_plans
 from thesaurus_desk.sentences import sentence_of
@@ -24,34 +25,61 @@ PAGE = 50
 MOST_CHANGED = 1000
 TIME = re.compile(r"\d{4}(-\d\d){0,2}")
 FORM = "back"
+# What the address of the journal may ask for.
+ASKED = ("concept", "by", "kind", "since", "until")
+# What stands for other programs among the users. (No user's name is so.)
+OTHERS = " "
+# The kinds of changes that one may ask for, with their requests.
+KINDS = {
+    "new": ("concept", "collection", "scheme", "outside"),
+    "terms": ("addLabel", "dropLabel", "relabel"),
+    "links": ("link", "unlink"),
+    "merge": ("merge",),
+    "split": ("split",),
+    "end": ("deprecate",),
+    "records": ("post", "withdraw", "import"),
+}
+# The requests that nothing takes back.
+STAYING = ("scheme", "collection", "outside")
 
 
 @pages.get("/changes")
 def changes() -> Any:
-    """Shows plans, the last first: of a resource, of a user, from a day on, up to a day."""
-    asked = {name: request.args.get(name, "").strip() for name in ("concept", "by", "since", "until")}
-    number = number_of(asked["concept"])
+    """Shows plans, the last first: of a resource, of a user, of a kind, from a day on, up to a day."""
+    asked = query_fields()
+    number = number_of(asked.get("concept", ""))
     before = number_of(request.args.get("before", ""))
-    days = {name: it for name in ("since", "until") if TIME.fullmatch(it := asked[name])}
-    found = the_desk().history.recent(
-        number=number,
-        user=asked["by"] or None,
-        since=days.get("since"),
-        # (a day is a beginning of times: all of it is meant)
-        until=f"{days['until']}~" if "until" in days else None,
-        before=before,
-        most=PAGE + 1,
-    )
-    kept = {name: it for name, it in asked.items() if it}
+    found = the_desk().history.recent(number=number, before=before, which=filter_of(asked), most=PAGE + 1)
     return render_template(
         "changes/page.html",
         plans=tell_plans(found[:PAGE]),
-        further=f"/changes?{urlencode({**kept, 'before': found[PAGE - 1].id})}" if len(found) > PAGE else "",
+        further=f"/changes?{urlencode({**asked, 'before': found[PAGE - 1].id})}" if len(found) > PAGE else "",
         number=number if number and the_mirror().kind(number) else None,
         asked=asked,
+        table=f"/changes.csv?{urlencode(asked)}" if asked else "/changes.csv",
         users=the_desk().history.users(),
+        others=OTHERS,
+        kinds=KINDS,
         open_plans=tell_plans(the_desk().journal.open_plans()),
-        may_take_back=may_take_back,
+        has_take_back=has_take_back,
+    )
+
+
+def query_fields() -> dict[str, str]:
+    """Returns what the address asks for of the journal."""
+    return {name: it for name in ASKED if (it := request.args.get(name, ""))}
+
+
+def filter_of(asked: Mapping[str, str]) -> Filter:
+    """Returns the filter that is asked for."""
+    user = asked.get("by")
+    days = {name: it for name in ("since", "until") if TIME.fullmatch(it := asked.get(name, "").strip())}
+    return Filter(
+        user="" if user == OTHERS else user,
+        since=days.get("since"),
+        # (a day is a beginning of times: all of it is meant)
+        until=f"{days['until']}~" if "until" in days else None,
+        requests=KINDS.get(asked.get("kind", "")),
     )
 
 
@@ -62,8 +90,9 @@ def number_of(text: str) -> int | None:
 
 @pages.get("/changes.csv")
 def as_csv() -> Response:
-    """Returns the whole journal as a table."""
-    lines = the_desk().history.csv()
+    """Returns the journal as a table: all of it, or what is asked for."""
+    asked = query_fields()
+    lines = the_desk().history.csv(number_of(asked.get("concept", "")), filter_of(asked))
     headers = {"Content-Disposition": 'attachment; filename="changes.csv"'}
     return Response(lines, content_type="text/csv; charset=utf-8", headers=headers)
 
@@ -98,6 +127,11 @@ def may_take_back(plan: Plan) -> bool:
     return bool(is_whole) and person().may(lowest)
 
 
+def has_take_back(plan: Plan) -> bool:
+    """Whether a page offers the reader to take a plan back: nothing removes a scheme, a collection or an address."""
+    return may_take_back(plan) and any(it.request["do"] not in STAYING for it in plan.steps)
+
+
 def plan_or_404(number: int) -> Plan:
     """Returns a plan of the journal."""
     plan = the_desk().journal.plan(number)
@@ -125,6 +159,7 @@ def back_page(plan: Plan, back: TakeBack, state: FormState, status: int) -> Any:
             remarks=[tell_remark(it) for it in back.remarks],
             later=tell_plans(back.later),
             may=may_take_back(plan),
+            next=next_path(),
             state=state,
             form=FORM,
         ),
@@ -151,7 +186,7 @@ def take_back(number: int) -> Any:
 def take_back_now(plan: Plan) -> Any:
     """Takes a plan back, and shows what came of it."""
     if plan.taken_back_by:
-        return go("/changes", plan.taken_back_by)
+        return go(next_path(), plan.taken_back_by)
     if not may_take_back(plan):
         abort(403)
     tag, text = request.form.get("tag", "").strip().lower(), " ".join(request.form.get("text", "").split())
@@ -162,7 +197,12 @@ def take_back_now(plan: Plan) -> Any:
     outcome = the_desk().perform_take_back(person().name, back)
     if not outcome.is_done:
         return back_page(plan, back, FormState(FORM, request.form, [Problem("", tell_outcome(outcome))]), 409)
-    return go(f"/c/{outcome.made}" if makes_concept(back) else "/changes", outcome.plan)
+    return go(f"/c/{outcome.made}" if makes_concept(back) else next_path(), outcome.plan)
+
+
+def next_path() -> str:
+    """Returns the page to which taking back leads: the one from which it was asked for, with its filters."""
+    return own_path(request.values.get("next") or "/changes")
 
 
 def makes_concept(back: TakeBack) -> bool:

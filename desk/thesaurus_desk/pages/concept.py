@@ -8,11 +8,12 @@ from typing import Any
 
 from flask import Blueprint, Response, abort, render_template, request
 
-from thesaurus_desk.context import page_number, person, say, tags, the_desk, the_mirror
+from thesaurus_desk.context import page_number, person, returned_as, say, tags, the_desk, the_mirror
 from thesaurus_desk.entry.guard import public
 from thesaurus_desk.forms import FormState
 from thesaurus_desk.mirror import Posting, View
 from thesaurus_desk.pages.history import history_of
+from thesaurus_desk.pages.telling import tell_plans
 from thesaurus_desk.pages.proposals import the_proposals
 from thesaurus_desk.pages.posting_keys import new_key
 from thesaurus_desk.seeing import PARTS
@@ -25,6 +26,8 @@ PAGE = 100
 # How many neighbours a page shows; the tree shows the others.
 MOST_NEIGHBOURS = 60
 MOST_MEMBERS = 500
+# How many plans the page of a number that nothing has shows.
+MOST_PLANS = 5
 
 
 @dataclass(frozen=True)
@@ -51,7 +54,23 @@ class Near:
 @public
 def show(number: int) -> Any:
     """Shows a resource."""
-    return resource_page(number, FormState())
+    return resource_page(number, FormState()) if the_mirror().kind(number) else missing_page(number)
+
+
+def missing_page(number: int) -> Any:
+    """Returns the page of a number that nothing has: up to where the numbers go, and what the journal has of it."""
+    plans = the_desk().history.recent(number=number, most=MOST_PLANS) if person().name else []
+    was_made = bool(plans) and the_desk().history.dates(number).created is not None
+    return (
+        render_template(
+            "resource/missing.html",
+            n=number,
+            last=the_mirror().counts()["resources"],
+            plans=tell_plans(plans),
+            was_made=was_made,
+        ),
+        404,
+    )
 
 
 def resource_page(number: int, state: FormState, status: int = 200) -> Any:
@@ -75,6 +94,7 @@ def resource_page(number: int, state: FormState, status: int = 200) -> Any:
             new_key=new_key,
             final=the_mirror().final(number),
             returned=None if view.is_live else returned_as(number),
+            ending=the_desk().history.ending(number) if person().name and not view.is_live else None,
             merged=the_mirror().merged_into(number),
             free_collections=free_collections(view),
             records=records_of(view),
@@ -87,12 +107,6 @@ def resource_page(number: int, state: FormState, status: int = 200) -> Any:
         ),
         status,
     )
-
-
-def returned_as(number: int) -> int | None:
-    """Returns the live concept as which one has come back, when its end was taken back."""
-    found = the_desk().history.returned_as(number)
-    return the_mirror().final(found) if found else None
 
 
 def near_tree(view: View) -> Near:
@@ -179,24 +193,54 @@ def collections_of(view: View) -> list[int]:
 class Records:
     """A page of the records of a concept, alone or with those of the concepts below it."""
 
+    # How many records there are, and how many with those of the concepts below it; each counted once.
     count: int
     count_below: int
+    # How many of them the concept has more than once.
+    repeated: int
     with_below: bool
     page: int
+    # How many rows all pages have, and those of this one: a row for each posting.
+    row_count: int
     rows: list[Posting]
+    # The numbers of the rows whose record the same concept has in an earlier row.
+    again: frozenset[int]
 
 
 def records_of(view: View) -> Records | None:
     """Returns the page of records that is asked for; nothing to a visitor, and of no other resource."""
     if view.kind != "concept" or not person().name:
         return None
-    postings, page = the_mirror().postings, page_number()
+    mirror, page = the_mirror(), page_number()
     with_below = request.args.get("with") == "below" and bool(view.narrower)
-    count_below = the_mirror().count_below(view.number) if view.narrower else view.postings
-    if not with_below:
-        return Records(view.postings, count_below, False, page, postings.page_at(view.number, page + 1, PAGE))
-    numbers = numbers_below(view.number)[page * PAGE : (page + 1) * PAGE]
-    return Records(view.postings, count_below, True, page, [it for it in map(postings.get, numbers) if it is not None])
+    numbers = numbers_below(view.number) if with_below else mirror.postings.numbers_at(view.number)
+    rows = [it for it in map(mirror.postings.get, numbers[page * PAGE : (page + 1) * PAGE]) if it is not None]
+    return Records(
+        mirror.count_records(view.number),
+        mirror.count_records_below(view.number) if view.narrower else 0,
+        len(set(repetitions(view.number).values())),
+        with_below,
+        page,
+        len(numbers),
+        rows,
+        frozenset(it.number for it in rows if it.number in repetitions(it.place)),
+    )
+
+
+def repetitions(concept: int) -> dict[int, str]:
+    """Returns the postings at a concept whose record an earlier one of them has, with the record."""
+    mirror = the_mirror()
+
+    def find() -> dict[int, str]:
+        seen, found = set[str](), {}
+        for it in map(mirror.postings.get, mirror.postings.numbers_at(concept)):
+            if it is not None and it.record in seen:
+                found[it.number] = it.record
+            elif it is not None:
+                seen.add(it.record)
+        return found
+
+    return mirror.once(("repetitions", concept), find)
 
 
 def numbers_below(number: int) -> list[int]:

@@ -6,7 +6,7 @@ from typing import Any
 
 from flask import Blueprint, abort, redirect, request
 
-from thesaurus_desk.context import say, the_mirror
+from thesaurus_desk.context import own_path, say, the_mirror
 from thesaurus_desk.entry.guard import role
 from thesaurus_desk.forms import FormState
 from thesaurus_desk.mirror import View
@@ -80,7 +80,8 @@ def add_term(number: int) -> Any:
     if is_slip(tag):
         return show_again(number, problem_in(given("form"), "tag", say("refusals.BadTag.text", tag=tag)), 409)
     label = {"do": "addLabel", "owner": number, "kind": kind, "tag": tag, "text": given_text()}
-    return submit("add_term", [label], then=f"/c/{number}#at-add-term", show=partial(show_again, number))
+    then = own_path(request.form["next"]) if request.form.get("next") else f"/c/{number}#at-add-term"
+    return submit("add_term", [label], then=then, show=partial(show_again, number))
 
 
 @pages.post("/c/<int:number>/terms/change")

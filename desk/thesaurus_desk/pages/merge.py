@@ -2,13 +2,14 @@
 from __future__ import annotations
 
 from collections.abc import Iterable
+from dataclasses import dataclass
 from functools import partial
 from typing import Any
 
 from flask import Blueprint, render_template, request
 from markupsafe import Markup
 
-from thesaurus_desk.context import say, the_desk, the_mirror, words
+from thesaurus_desk.context import say, tags, the_desk, the_mirror, words
 from thesaurus_desk.entry.guard import role
 from thesaurus_desk.forms import FormState, Problem
 from thesaurus_desk.mirror import Link, View
@@ -88,13 +89,39 @@ def merge_page(source: View, target: View | None, state: FormState, status: int)
         source=source,
         target=target,
         plan=foreseen,
+        terms=told_terms(source, target, foreseen) if target and foreseen else [],
         links=told_links(foreseen) if foreseen else [],
         notes=[(place, it) for place, it in enumerate(source.scope) if target is not None and it not in target.scope],
         broken=told_break(foreseen),
         quoted=quoted,
+        count_records=the_mirror().count_records,
         marks=[seen.mark(it.number, "all") for it in (source, target) if it is not None],
     )
     return page, status
+
+
+@dataclass(frozen=True)
+class Terms:
+    """What becomes of the source's terms in a language."""
+
+    tag: str
+    # The labels, each with the key of what is said of it.
+    rows: list[tuple[str, str]]
+    # Whether the source has a preferred term in it, and the target has none.
+    lacks_preferred: bool
+
+
+def told_terms(source: View, target: View, plan: Merge) -> list[Terms]:
+    """Returns what becomes of the source's terms, by their languages, the reader's first."""
+    rows: dict[str, list[tuple[str, str]]] = {}
+    for kind, tag, text in plan.labels:
+        rows.setdefault(tag, []).append((f"becomes_{kind}", text))
+    for _, tag, text in plan.dropped_labels:
+        rows.setdefault(tag, []).append(("label_there", text))
+    lacking = {tag for tag, _ in source.pref} - {tag for tag, _ in target.pref}
+    places = {tag: place for place, tag in enumerate(tags())}
+    order = sorted(rows, key=lambda it: (places.get(it, len(places)), it))
+    return [Terms(tag, rows[tag], tag in lacking) for tag in order]
 
 
 def told_links(plan: Merge) -> list[tuple[str, int, str]]:

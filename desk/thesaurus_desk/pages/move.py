@@ -63,6 +63,9 @@ def move(number: int) -> Any:
     chosen = choose(request.form, scheme=view.scheme)
     if chosen.number is None:
         return again(undecided(FORM, request.form, chosen), 409)
+    if "from" not in request.form:
+        # (a page whose place is gone has none chosen)
+        return again(problem_in(FORM, "", say("move.choose")), 409)
     old, target = given("from"), chosen.number
     if old and (not is_number(old) or int(old) not in view.broader):
         return again(problem_in(FORM, "", say("move.gone")), 409)
@@ -104,6 +107,7 @@ def move_page(view: View, state: FormState, status: int) -> Any:
         view=view,
         n=view.number,
         places=places_of(view),
+        below=len(the_mirror().below(view.number)) - 1,
         seen=the_desk().seen.mark(view.number, "links"),
         kinds=[(AS_BEFORE, say("move.as_before")), *kinds] if view.broader else kinds,
         most=LONGEST_PLAN // 2,

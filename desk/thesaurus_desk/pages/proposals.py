@@ -1,7 +1,7 @@
 """Proposals of terms and changes, which editors accept or decline; and comments at a resource."""
 from __future__ import annotations
 
-from collections.abc import Callable
+from collections.abc import Callable, Sequence
 from functools import partial
 from typing import Any
 
@@ -26,6 +26,8 @@ MOST_COMMENTS = 20
 STATES = ("open", "accepted", "declined", "withdrawn")
 # What can be proposed: a term for a concept, a new concept below one, a link, or a change in words alone.
 KINDS = ("alt", "pref", "scope", "concept", "broader", "related", "words")
+# The fields of a proposal, and the kinds that use each.
+USES = {"text": ("alt", "pref", "scope", "concept"), "other": ("broader", "related")}
 
 
 def the_proposals() -> Proposals:
@@ -66,7 +68,12 @@ def show_proposal(number: int) -> Any:
 def proposal_page(number: int, state: FormState, status: int) -> Any:
     """Returns the page of a proposal."""
     found = proposal_or_404(number)
-    page = render_template("proposals/one.html", it=found, lines=tell_proposal(found), state=state)
+    plan = the_desk().journal.plan(found.plan) if found.plan else None
+    text = text_of(found.requests)
+    is_changed = plan is not None and text_of([it.request for it in plan.steps]) != text
+    page = render_template(
+        "proposals/one.html", it=found, lines=tell_proposal(found), text=text, is_changed=is_changed, state=state
+    )
     return page, status
 
 
@@ -118,7 +125,9 @@ def propose() -> Any:
         return again("reason", say("proposals.no_reason"))
     if len(reason) > LONGEST_TEXT:
         return again("reason", too_long(reason))
-    if kind in ("broader", "related"):
+    if unused := unused_field(kind):
+        return again(unused, say(f"proposals.unused_{unused}"))
+    if kind in USES["other"]:
         chosen = choose(request.form)
         if chosen.number is None:
             return propose_page(undecided(FORM, request.form, chosen), 409)
@@ -130,6 +139,11 @@ def propose() -> Any:
         requests = requests_for(kind, number, tag, text)
     made = the_proposals().propose(person().name, f"proposals.kind.{kind}", requests, reason, number)
     return go(f"/proposals/{made}")
+
+
+def unused_field(kind: str) -> str:
+    """Returns a field that was filled in, and that a proposal of a kind would lose; nothing if there is none."""
+    return next((it for it, kinds in USES.items() if kind not in kinds and request.form.get(it, "").strip()), "")
 
 
 def requests_for(kind: str, number: int | None, tag: str, text: str) -> list[Request]:
@@ -186,13 +200,25 @@ def accept_now(proposal: Proposal) -> Any:
     plan, word = None, request.form.get("word", "").strip()
     if len(word) > LONGEST_TEXT:
         return refused(partial(proposal_page, number), "word", too_long(word), "accept")
-    if proposal.requests:
-        outcome = the_desk().perform(person().name, "accept", proposal.requests, proposer=proposal.user)
+    if requests := accepted_requests(proposal):
+        outcome = the_desk().perform(person().name, "accept", requests, proposer=proposal.user)
         if not outcome.is_done:
             return refused(partial(proposal_page, number), "", tell_outcome(outcome), "accept")
         plan = outcome.plan
     the_proposals().decide(number, "accepted", person().name, word, plan)
     return go(f"/proposals/{number}", plan)
+
+
+def accepted_requests(proposal: Proposal) -> list[Request]:
+    """Returns the requests of a proposal, with the text that the form gives in place of the proposed one."""
+    text = " ".join(request.form.get("text", "").split())
+    first, others = proposal.requests[:1], proposal.requests[1:]
+    return [{**it, "text": text} if text and "text" in it else it for it in first] + others
+
+
+def text_of(requests: Sequence[Request]) -> str:
+    """Returns the text of a term, a note or a new concept among requests; nothing if there is none."""
+    return next((str(it["text"]) for it in requests if "text" in it), "")
 
 
 @pages.post("/proposals/<int:number>/decline")

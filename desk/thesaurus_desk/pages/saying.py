@@ -10,7 +10,7 @@ from thesaurus_desk.context import link, person, say, tags, the_desk, the_mirror
 from thesaurus_desk.journal import Step
 from thesaurus_desk.mirror import View
 from thesaurus_desk.mirror.search import fold
-from thesaurus_desk.pages.changes import may_take_back
+from thesaurus_desk.pages.changes import has_take_back
 from thesaurus_desk.pages.telling import ToldPlan, tell_plan
 from thesaurus_desk.refusals import label_of
 
@@ -41,7 +41,7 @@ def said() -> Said | None:
     plan = the_desk().journal.plan(int(text))
     if plan is None or person().name not in (plan.user, plan.proposer):
         return None
-    path = url_for("changes.take_back", number=plan.id) if may_take_back(plan) else ""
+    path = url_for("changes.take_back", number=plan.id) if has_take_back(plan) else ""
     is_shown_first = any(it.request["do"] in ("merge", "deprecate") for it in plan.steps)
     more = max(0, len(plan.steps) - MOST_STEPS)
     plan.steps = plan.steps[:MOST_STEPS]

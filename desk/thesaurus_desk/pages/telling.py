@@ -1,14 +1,14 @@
 """Puts plans of the journal, refusals and differences into the reader's words."""
 from __future__ import annotations
 
-from collections.abc import Iterable, Mapping
+from collections.abc import Iterable, Mapping, Sequence
 from dataclasses import dataclass, field
 from typing import Any
 
 from markupsafe import Markup, escape
 
 from thesaurus_desk import context
-from thesaurus_desk.context import say, the_mirror, words
+from thesaurus_desk.context import say, the_desk, the_mirror, words
 from thesaurus_desk.journal import Plan, Step
 from thesaurus_desk.journal.entries import Request
 from thesaurus_desk.journal.settling import RESTORED
@@ -37,6 +37,10 @@ class PageLinks:
         """Returns the term of what a reference stands for; nothing if it isn't known."""
         return Markup('<span dir="auto">{}</span>').format(self.made[reference]) if reference in self.made else Markup()
 
+    def returned(self, number: int) -> int | None:
+        """Returns the live concept as which a dead one has come back, if its end was taken back."""
+        return context.returned_as(number)
+
 
 LINKS = PageLinks()
 
@@ -45,13 +49,14 @@ LINKS = PageLinks()
 class ToldPlan:
     """A plan of the journal for a page: a sentence for each step, with the reason if it was refused.
 
-    `restored`: what is said of a store that was restored from a backup."""
+    `restored`: what is said of a store that was restored from a backup. `changed`: what another program changed."""
 
     plan: Plan
     lines: list[tuple[Markup, str, Markup]]
     # How many further steps it has.
     more: int = 0
     restored: str | Markup = ""
+    changed: Sequence[int] = ()
 
 
 def tell_plan(plan: Plan, most: int = MOST_STEPS) -> ToldPlan:
@@ -59,7 +64,8 @@ def tell_plan(plan: Plan, most: int = MOST_STEPS) -> ToldPlan:
     shown = plan.steps[:most]
     refused = [it for it in plan.steps[most:] if it.state in ("refused", "fault")]
     lines = [(tell_step(it), it.state, why_refused(it)) for it in (*shown, *refused)]
-    return ToldPlan(plan, lines, len(plan.steps) - len(lines), tell_restored(plan.note or ""))
+    changed = () if plan.steps else the_desk().history.resources_changed_by(plan.id)
+    return ToldPlan(plan, lines, len(plan.steps) - len(lines), tell_restored(plan.note or ""), changed)
 
 
 def tell_restored(note: str) -> str | Markup:
@@ -72,7 +78,7 @@ def tell_restored(note: str) -> str | Markup:
 
 def tell_step(step: Step) -> Markup:
     """Returns a step as a sentence."""
-    return sentence_of(step.request, step.answer, the_mirror(), words(), LINKS, (step.kept or {}).get("old"))
+    return sentence_of(step.request, step.answer, the_mirror(), words(), LINKS, step.kept)
 
 
 def why_refused(step: Step) -> Markup:

@@ -31,6 +31,8 @@ class TickList:
     # Those that are ticked on other pages, and those on this page, as ranges: what the form carries.
     kept: str
     shown: str
+    # Whether the form asked for no more than another part of the list: then the list has the focus.
+    is_looked_at: bool
 
     @property
     def elsewhere(self) -> int:
@@ -67,6 +69,7 @@ def ticks_of(concept: int) -> TickList:
         len(numbers),
         ranges_of(ticked - set(on_page)),
         ranges_of(on_page),
+        request.method == "POST" and is_looking(),
     )
 
 

@@ -35,6 +35,12 @@ def has_children(number: int) -> int:
     return len(found.narrower) if found else 0
 
 
+def count_concepts(scheme: int) -> int:
+    """Returns the number of the live concepts of a scheme. (The tree begins with the first that has most.)"""
+    mirror = the_mirror()
+    return mirror.once(("concepts of", scheme), lambda: len(mirror.numbers("concept", scheme, True)))
+
+
 TREE_WORDS = {"children": children, "type_words": type_words, "count_children": has_children}
 
 
@@ -49,7 +55,7 @@ def tree() -> Any:
     is_there = found is not None and found.kind == "concept"
     scheme = found.scheme if found and is_there else number_of("scheme")
     if scheme not in schemes:
-        scheme = schemes[0] if schemes else None
+        scheme = max(schemes, key=count_concepts) if schemes else None
     tops = mirror.ordered(mirror.tops(scheme), tags()) if scheme else []
     opened = set(mirror.path_up(at, tags())) if at and is_there else set()
     if len(tops) == 1:
@@ -98,7 +104,7 @@ def schemes() -> Any:
     numbers = mirror.ordered(mirror.numbers("scheme"), tags())
     if request.args.get("format") == "csv":
         return sheet("thesauri", numbers)
-    counts = {it: (len(mirror.numbers("concept", it, True)), len(mirror.tops(it))) for it in numbers}
+    counts = {it: (count_concepts(it), len(mirror.tops(it))) for it in numbers}
     return render_template("schemes.html", numbers=numbers, counts=counts)
 
 

@@ -25,6 +25,9 @@ class Links(Protocol):
     def new(self, reference: str) -> Markup:
         """Returns the term of what a reference stands for; nothing if it isn't known."""
 
+    def returned(self, number: int) -> int | None:
+        """Returns the live concept as which a dead one has come back, if its end was taken back."""
+
 
 @dataclass(frozen=True)
 class Case:

@@ -56,6 +56,9 @@ def explain_not_live(case: Case) -> Markup:
         if it is None or it.is_live:
             continue
         final = case.mirror.final(number)
+        back = case.links.returned(number)
+        if back is not None and back != final:
+            return case.say("returned", dead=case.link(number), again=case.link(back), number=str(back))
         if final is None:
             return case.say("ended", dead=case.link(number))
         return case.say("merged", dead=case.link(number), final=case.link(final))

@@ -20,7 +20,7 @@ def explain_has_postings(case: Case) -> Markup:
         name: Markup('<a href="{}">{}</a>').format(path, case.words(f"refusals.HasPostings.ways.{name}"))
         for name, path in pages.items()
     }
-    return case.say("text", n=max(1, case.mirror.postings.count_at(number)), concept=case.link(number), **ways)
+    return case.say("text", n=max(1, case.mirror.count_records(number)), concept=case.link(number), **ways)
 
 
 def explain_unknown_posting(case: Case) -> Markup:

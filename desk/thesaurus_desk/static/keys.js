@@ -6,7 +6,8 @@
     if (open) {
       open.open = false;
       open.querySelector("summary").focus();
-    } else if (field) {
+    } else if (field && (field.id === "q" || !field.value)) {
+      // (in a field with a text, the next letter is meant for that, and leads to no other page)
       field.blur();
     }
   }

@@ -16,6 +16,16 @@ type FaultCase = (&'static [u8], Status, u32, &'static str);
 // The outcome of a connection, the number of operations performed, and the bytes written.
 type ObservedEnd = (ConnectionEnd, u32, Vec<u8>);
 
+// A request, with the outcome of its connection if nothing fails: the status, the number of
+// operations performed, and the response.
+#[derive(Clone, Copy)]
+struct Whole<'a> {
+    request: &'a [u8],
+    status: Status,
+    performed: u32,
+    answer: &'a [u8],
+}
+
 // Serves a request with a reader and a writer that fail after `reads` and `writes` calls.
 fn serve_with_faults(
     alloc: Global,
@@ -48,16 +58,15 @@ fn bytes_before_write_fault(writes: u32) -> usize {
     (writes as usize).div_ceil(2)
 }
 
-// Returns the expected outcome of a connection for a request of `len` bytes, given its response
-// without failures.
-fn expected_end<'a>(
-    len: usize,
-    whole: (Status, u32, &'a [u8]),
-    reads: u32,
-    writes: u32,
-) -> (ConnectionEnd, u32, &'a [u8]) {
-    let (status, performed, answer) = whole;
-    if bytes_before_read_fault(reads) < len {
+// Returns the expected outcome of a connection.
+fn expected_end(whole: Whole<'_>, reads: u32, writes: u32) -> (ConnectionEnd, u32, &[u8]) {
+    let Whole {
+        request,
+        status,
+        performed,
+        answer,
+    } = whole;
+    if bytes_before_read_fault(reads) < request.len() {
         return (ConnectionEnd::ReadFault, 0, b"");
     }
     match answer.get(..bytes_before_write_fault(writes)) {
@@ -67,15 +76,9 @@ fn expected_end<'a>(
 }
 
 // Compares the outcome of a connection with the expected one, for one reader and one writer.
-fn expect(
-    rt: &impl Abort,
-    alloc: Global,
-    request: &[u8],
-    whole: (Status, u32, &[u8]),
-    reads: u32,
-    writes: u32,
-) {
-    let (end, count, front) = expected_end(request.len(), whole, reads, writes);
+fn expect(rt: &impl Abort, alloc: Global, whole: Whole<'_>, reads: u32, writes: u32) {
+    let request = whole.request;
+    let (end, count, front) = expected_end(whole, reads, writes);
     let (served, performed, written) = serve_with_faults(
         alloc,
         request,
@@ -99,29 +102,16 @@ fn writers(len: usize, reads: u32, most: u32) -> u32 {
 }
 
 // Tests one reader with each writer that fails within `most` calls.
-fn expect_writers(
-    rt: &impl Abort,
-    alloc: Global,
-    request: &[u8],
-    whole: (Status, u32, &[u8]),
-    reads: u32,
-    most: u32,
-) {
-    for writes in 0..writers(request.len(), reads, most) {
-        expect(rt, alloc, request, whole, reads, writes);
+fn expect_writers(rt: &impl Abort, alloc: Global, whole: Whole<'_>, reads: u32, most: u32) {
+    for writes in 0..writers(whole.request.len(), reads, most) {
+        expect(rt, alloc, whole, reads, writes);
     }
 }
 
 // Tests each reader that fails within `most.0` calls, with writers that fail within `most.1` calls.
-fn expect_pairs(
-    rt: &impl Abort,
-    alloc: Global,
-    request: &[u8],
-    whole: (Status, u32, &[u8]),
-    most: (u32, u32),
-) {
+fn expect_pairs(rt: &impl Abort, alloc: Global, whole: Whole<'_>, most: (u32, u32)) {
     for reads in 0..most.0 {
-        expect_writers(rt, alloc, request, whole, reads, most.1);
+        expect_writers(rt, alloc, whole, reads, most.1);
     }
 }
 
@@ -255,8 +245,13 @@ static CALLS: (u32, u32) = (54, 284);
 #[test]
 fn what_breaks_leaves_a_front_of_the_answer(rt: HostRuntime) {
     for (request, status, performed, answer) in &ROWS {
-        let whole = (*status, *performed, answer.as_bytes());
-        expect_pairs(&rt, rt.alloc(), request, whole, CALLS);
+        let whole = Whole {
+            request,
+            status: *status,
+            performed: *performed,
+            answer: answer.as_bytes(),
+        };
+        expect_pairs(&rt, rt.alloc(), whole, CALLS);
     }
 }
 
@@ -276,8 +271,13 @@ fn long_answer(alloc: Global) -> Result<Vec<u8>, AllocError> {
 fn what_breaks_leaves_a_front_of_a_long_answer(rt: HostRuntime) {
     match long_answer(rt.alloc()) {
         Ok(answer) => {
-            let whole = (Status::Fine, 0, answer.as_slice());
-            expect_pairs(&rt, rt.alloc(), LONG, whole, (40, 1_420));
+            let whole = Whole {
+                request: LONG,
+                status: Status::Fine,
+                performed: 0,
+                answer: answer.as_slice(),
+            };
+            expect_pairs(&rt, rt.alloc(), whole, (40, 1_420));
         }
         Err(_) => assert!(&rt; false),
     }

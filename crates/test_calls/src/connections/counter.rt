@@ -5,16 +5,15 @@ ghost use Rattle.thes_base.specs.Pipe.{IsFresh};
 use std::alloc::Global;
 use std::io::{Read, Write};
 use thes_base::fault::{Fault, Refusal};
-use thes_base::number::ResNo;
 use thes_base::pipe::Pipe;
 use thes_base::request::{Answer, Command};
-use thes_base::text::Tag;
 use thes_http::serve::{ConnectionEnd, serve_one};
-use thes_http::service::{DisplayAnswer, ImportAnswer, Page, Service};
+use thes_http::service::Service;
 use thes_http_request::endpoint::Routes;
 use thes_plans::plan::{PlanOutcome, PlanRequest};
-use thes_requests::handler::{QueryAnswer, RequestHandler, ViewLine};
-use thes_requests::request::{Display, Query};
+use thes_requests::handler::{QueryAnswer, RequestHandler};
+use thes_requests::page::Page;
+use thes_requests::request::{DisplayRequest, Query};
 
 /// The text of a display that is too long to be written with its head by one call.
 pub static PAGE: [u8; 600] = [b'x'; 600];
@@ -51,7 +50,7 @@ impl RequestHandler for CountingService {
         match query {
             Query::Totals => {
                 let line = b"{\"accepted\":0,\"standing\":0,\"withdrawn\":0}\n";
-                Ok(QueryAnswer::Line(ViewLine::new(Vec::from_slice(alloc, line)?)))
+                Ok(QueryAnswer::Page(Page::new(Vec::from_slice(alloc, line)?)))
             }
             _ => Ok(QueryAnswer::No(Refusal::UnknownResource)),
         }
@@ -89,12 +88,12 @@ impl Service for CountingService {
       performs_plan = λ _ _ _ _ does. does;
     } };
 
-    fn import(&mut self, alloc: Global, file: &[u8]) -> Result<ImportAnswer, Fault> {
+    fn import(&mut self, alloc: Global, file: &[u8]) -> Result<Option<Page>, Fault> {
         if file.is_empty() {
-            return Ok(ImportAnswer::Malformed);
+            return Ok(None);
         }
         self.performed = self.performed.saturating_add(1);
-        Ok(ImportAnswer::Outcomes(Page::new(Vec::from_slice(alloc, file)?)))
+        Ok(Some(Page::new(Vec::from_slice(alloc, file)?)))
     }
 
     fn export(&mut self, alloc: Global) -> Result<Page, Fault> {
@@ -104,16 +103,14 @@ impl Service for CountingService {
     fn display(
         &mut self,
         alloc: Global,
-        _display: Display,
-        scheme: ResNo,
-        tag: &Tag,
-    ) -> Result<DisplayAnswer, Fault> {
-        let text = match scheme.get() {
-            1 => tag.as_str().as_bytes(),
+        wanted: &DisplayRequest<'_>,
+    ) -> Result<QueryAnswer, Fault> {
+        let text = match wanted.scheme.get() {
+            1 => wanted.tag.as_str().as_bytes(),
             3 => &PAGE,
-            _ => return Ok(DisplayAnswer::No(Refusal::UnknownResource)),
+            _ => return Ok(QueryAnswer::No(Refusal::UnknownResource)),
         };
-        Ok(DisplayAnswer::Lines(Page::new(Vec::from_slice(alloc, text)?)))
+        Ok(QueryAnswer::Page(Page::new(Vec::from_slice(alloc, text)?)))
     }
 }
 

@@ -169,9 +169,7 @@ impl Fixture {
         &mut self,
         change: Change,
         owner: u32,
-        kind: LabelKind,
-        tag: &str,
-        text: &str,
+        (kind, tag, text): (LabelKind, &str, &str),
     ) -> Result<Answer, ReadStop> {
         let label = label(self.alloc, kind, tag, text)?;
         match change {

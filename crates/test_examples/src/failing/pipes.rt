@@ -61,8 +61,7 @@ const HEADING: usize = 19;
 // writer within the heading, the views of the store must be `before`.
 fn check_import_with(
     alloc: Global,
-    requests: &str,
-    file: &str,
+    (requests, file): (&str, &str),
     before: &[u8],
     whole: &StepResult,
     failing: Failing,
@@ -91,7 +90,7 @@ pub fn check_import(alloc: Global, requests: &str, file: &str) -> io::Result<Fau
     let whole = import_with(alloc, requests, file, Writer, u32::MAX)?;
     let mut count = 0u32;
     for failing in [Reader, Writer, FullWriter] {
-        match check_import_with(alloc, requests, file, &before, &whole, failing)? {
+        match check_import_with(alloc, (requests, file), &before, &whole, failing)? {
             FaultResult::Right(calls) => count = count.saturating_add(calls),
             wrong => return Ok(wrong),
         }

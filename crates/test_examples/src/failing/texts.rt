@@ -9,8 +9,7 @@ use test_office::ways::{display_in, export_in};
 use thes_base::fault::{Fault, PipeFault, ReadStop};
 use thes_base::number::ResNo;
 use thes_base::text::Tag;
-use thes_display::writing::DisplayRequest;
-use thes_requests::request::Display;
+use thes_requests::request::{Display, DisplayRequest};
 
 /// Writes texts of a store. If memory runs out for a text, nothing of it may be written.
 pub fn run(alloc: Global, store: &mut Store, input: &str) -> ExampleRun {

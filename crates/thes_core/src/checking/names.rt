@@ -75,7 +75,8 @@ impl Thesaurus {
         })
     }
 
-    // Checks a DropLabel request: its owner, and whether the label is there and isn't the owner's only preferred label.
+    // Checks a DropLabel request: its owner, and whether the label is there and isn't the owner's
+    // only preferred label.
     pub(super) fn check_drop_label(&self, owner: ResNo, label: &Label) -> Option<Refusal>
         ensures { (histories : List History) → AreLegal self.now histories
             → RefusalByParts self.now histories (request.DropLabel owner label.now) result }

@@ -70,8 +70,8 @@ impl Thesaurus {
         self.vocab.resource(concept).unwrap().scheme.unwrap()
     }
 
-    // Checks a Post request with a new key: whether its concept's chain of replacements ends at a live concept, and the
-    // limits.
+    // Checks a Post request with a new key: whether its concept's chain of replacements ends at a
+    // live concept, and the limits.
     pub(super) fn check_post(&self, concept: ResNo) -> Option<Refusal>
         ensures { (histories : List History) → AreLegal self.now histories
             → ArePostingCounts histories self.now.book

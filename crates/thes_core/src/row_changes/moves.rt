@@ -69,7 +69,8 @@ fn push_places(delta: &mut Delta, target: ResNo, postings: &[PostNo]) -> Result<
     Ok(())
 }
 
-// Appends the insertions of the posting's moves from `from` along the concepts of `way`, numbered from `first` on.
+// Appends the insertions of the posting's moves from `from` along the concepts of `way`, numbered
+// from `first` on.
 fn push_way(
     delta: &mut Delta,
     posting: PostNo,

@@ -7,6 +7,7 @@ use std::marker::Model;
 use thes_base::fault::Fault;
 use thes_base::number::{PostNo, ResNo};
 use thes_base::text::Key;
+use thes_sqlite::cause::{Cause, FaultCause};
 use thes_store::keeper::{Keeper, Posting};
 use thes_store::sink::{PostingSink, RowSink};
 use thes_tables::delta::Delta;
@@ -57,6 +58,12 @@ impl<K: Keeper, P: Progress> ReportingKeeper<K, P> {
     }
 }
 
+impl<K: Keeper + FaultCause, P> FaultCause for ReportingKeeper<K, P> {
+    fn cause(&self) -> Cause {
+        self.keeper.cause()
+    }
+}
+
 /// Each call is passed to the inner storage.
 impl<K: Keeper, P: Progress> Keeper for ReportingKeeper<K, P> {
     ghost view = { K.view };
@@ -91,6 +98,8 @@ impl<K: Keeper, P: Progress> Keeper for ReportingKeeper<K, P> {
         self.keeper.commit(delta)
     }
 
+    // (inline, since a post outside a plan would otherwise pay for a call more)
+    #[inline(always)]
     fn find(&mut self, key: &Key) -> Result<Option<PostingRow>, Fault> {
         self.progress.report_lookups(self.lookups);
         self.lookups = self.lookups.saturating_add(1);

@@ -1,4 +1,4 @@
-use Rattle.std.proofs.Common.{◌≡◌, ◌∙◌, ◌+◌, ◌++◌, ◌∷◌, [], length, length-append, false, sym, ap, subst, arith}
+use Rattle.std.proofs.Common.{◌≡◌, ◌∙◌, ◌+◌, ◌++◌, ◌∷◌, [], length, length-append, sym, ap, subst, arith}
 use Rattle.std.specs.Prelude.{Option}
 use Rattle.thes_tables.specs.declared.rows.PostingRow.{PostingRow}
 use Rattle.thes_tables.specs.Tables.{Tables}
@@ -13,7 +13,7 @@ commit_one-requires g c = λ up t same.
     let is = listed_one held.tables t (sym held.raw_is_listed ∙ before) in
     let found = c.in_ok-find.ensures.ok up t before in (
       held.next_is ∙ ap (λ (u : Tables). length u.posting + 1) is,
-      subst (λ (o : Option PostingRow). IsPostingOfKey c.args.key t.posting o) c.in-None.is found,
+      subst (λ (o : Option PostingRow). IsPostingOfKey c.args.row.key t.posting o) c.in-None.is found,
     )
 
 pub returns-in_ok-commit_one-in-None : goal.returns-in_ok-commit_one-in-None
@@ -21,15 +21,7 @@ returns-in_ok-commit_one-in-None g c = λ yes up.
     let mid = c.commit_one.ensures.keeps.was up in
     let held = c.requires (c.find.ensures.asks.was mid) in
     let t = held.tables in
-    let row : PostingRow = record {
-      number = c.args.number;
-      key = c.args.key;
-      rec = c.args.rec;
-      first =
-          c.args.concept;
-      place = c.args.concept;
-      withdrawn = false;
-    } in
+    let row : PostingRow = c.args.row in
     let next = held.next_is in
     let len : length (t.posting ++ row ∷ []) ≡ length t.posting + 1 = length-append t.posting (row ∷ []) in
     record {

@@ -29,6 +29,7 @@ pub returns-in-Err : goal.returns-in-Err
 returns-in-Err g c = (
   inr record {
     fault = c.in-Err.fault;
+    cause = c.cause.result;
     fails_to_open = c.in-Err.ensures.opened;
     input = refl;
     output = refl;

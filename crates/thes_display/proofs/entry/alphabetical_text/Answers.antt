@@ -20,16 +20,27 @@ loop-heading-preserved c =
     ∙ ap (λ z. take i xs ++ z ∷ []) (sym c.heading-item.is))
 
 pub returns : goal.returns
-returns c = grind (arith, common_steps, alphabetical_held, take_all, c.deref-heading-items.ensures.value, c.in_ok-headings.ensures, c.loop-heading.invariant)
+returns c = grind (
+  arith,
+  common_steps,
+  alphabetical_held,
+  take_all,
+  c.deref-heading-items.ensures.value,
+  c.in_ok-headings.ensures,
+  c.loop-heading.invariant,
+)
 
-pub write_entry-requires-clause-index : goal.write_entry-requires-clause-index
-write_entry-requires-clause-index c =
+pub write_entry-requires : goal.write_entry-requires
+write_entry-requires c =
     let same = sym c.in_ok-index.ensures.headings in
     let listed = subst (λ (hs : List Heading). IsListing heading_cmp
     (IsHeading (with_histories [] c.args.core.now) c.args.tag.now c.args.scheme) hs) same c.in_ok-headings.ensures in
     record {
-      rises = listed.rises;
-      texts = λ h i. (listed.sound h i).1;
-      places = subst (λ (hs : List Heading). ArePlaces hs (rank_at c.in_ok-index.index.places.items)) same
-          c.in_ok-index.ensures.places;
+      unspent = c.requires;
+      index = record {
+        rises = listed.rises;
+        texts = λ h i. (listed.sound h i).1;
+        places = subst (λ (hs : List Heading). ArePlaces hs (rank_at c.in_ok-index.index.places.items)) same
+            c.in_ok-index.ensures.places;
+      };
     }

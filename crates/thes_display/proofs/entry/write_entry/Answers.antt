@@ -8,12 +8,14 @@ pub returns-in_ok-write_symbols : goal.returns-in_ok-write_symbols
 returns-in_ok-write_symbols c =
     let shown = c.args.heading.now.term.text in
     let a = c.in_ok-write_symbols.ensures in
+    let s = with_histories [] c.args.source.now.core.now in
+    let tag = c.args.source.now.tag.now in
     record {
       addition = shown ++ (10 ∷ a.addition);
-      one = subst (λ (b : Bool). IsEntryOf (with_histories [] c.args.core.now) c.args.tag.now b
+      one = subst (λ (b : Bool). IsEntryOf s tag b
           c.args.heading.now.term (shown ++ (10 ∷ a.addition))) (sym c.if-heading.false) (
             a.addition,
-            subst (λ n. AreTexts (AreLinesOf (with_histories [] c.args.core.now) c.args.tag.now n) symbols
+            subst (λ n. AreTexts (AreLinesOf s tag n) symbols
                 a.addition) (c.in_ok-sides.ensures.concept ∙ c.concept-n.ensures) a.one,
             λ i. shown ++ (10 ∷ a.addition),
           );

@@ -11,7 +11,8 @@ pub loop-symbol-preserved : goal.loop-symbol-preserved
 loop-symbol-preserved c =
     let xs : List Symbol = c.all-symbols.result in
     let i = c.loop-symbol.symbol-index in
-    subst (λ ys. AppendsText (AreTexts (AreLinesOf (with_histories [] c.args.core.now) c.args.tag.now c.args.sides.now.concept) ys)
-    c.args.text.now.items c.write_symbol.new.text.items) (sym (take_more xs i _ (omega arith)))
-    (added_more (AreLinesOf (with_histories [] c.args.core.now) c.args.tag.now c.args.sides.now.concept) (take i xs) _ _ _ _
-    c.loop-symbol.invariant c.in_ok-write_symbol.ensures)
+    let source = c.args.source.now in
+    let are_lines = AreLinesOf (with_histories [] source.core.now) source.tag.now c.args.sides.now.concept in
+    subst (λ ys. AppendsText (AreTexts are_lines ys) c.args.text.now.items c.write_symbol.new.text.items)
+    (sym (take_more xs i _ (omega arith)))
+    (added_more are_lines (take i xs) _ _ _ _ c.loop-symbol.invariant c.in_ok-write_symbol.ensures)

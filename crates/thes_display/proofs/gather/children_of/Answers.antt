@@ -38,20 +38,22 @@ module _ (links : Links) (terms : List Term) (rank : ℕ) (ranks : ℕ → Optio
   children_are = children_listed links terms rank ranks are n here xs ks listed found_all
 
 pub loop-child-init : goal.loop-child-init
-loop-child-init c = children_none c.args.core.now.links c.args.terms.now c.args.rank _ c.new-children.ensures.items
+loop-child-init c = children_none c.args.core.now.links c.args.ranked.now.terms.now c.args.rank _
+    c.new-children.ensures.items
 
 pub types_at-types-requires-clause-within : goal.types_at-types-requires-clause-within
 types_at-types-requires-clause-within c =
-    let r = narrower_at c.args.core.now.links c.args.terms.now c.args.rank (rank_at c.args.ranks.now)
+    let r = narrower_at c.args.core.now.links c.args.ranked.now.terms.now c.args.rank
+    (rank_at c.args.ranked.now.ranks.now)
     c.requires.links.ranks c.concept-n.ensures c.requires.within c.index-terms-rank.is c.in_ok-narrower.ensures
     c.deref-child-items.ensures.value c.as_slice.ensures.value c.in_ok-found.ensures c.loop-child.child-index
     (omega arith) in
-    (rank_within c.args.terms.now r.lower _ r.lower_rank, c.requires.within)
+    (rank_within c.args.ranked.now.terms.now r.lower _ r.lower_rank, c.requires.within)
 
 -- The concept has only one number.
 pub types_at-types-requires-clause-typed : goal.types_at-types-requires-clause-typed
 types_at-types-requires-clause-typed c = λ f m h.
-    let terms = c.args.terms.now in
+    let terms = c.args.ranked.now.terms.now in
     let here = subst (λ k. HasRank terms k c.args.rank) (sym c.concept-n.ensures)
     (rank_of_term terms c.args.rank c.index-terms-rank.result c.requires.within c.index-terms-rank.is) in
     subst (HasNoTypedLink c.args.core.now.links) (one_concept terms c.concept-n.result m c.args.rank here h)
@@ -61,10 +63,12 @@ pub loop-child-preserved : goal.loop-child-preserved
 loop-child-preserved c =
     let ks : List ℕ = c.deref-child-items.result.now in
     let i = c.loop-child.child-index in
-    let r = narrower_at c.args.core.now.links c.args.terms.now c.args.rank (rank_at c.args.ranks.now)
+    let r = narrower_at c.args.core.now.links c.args.ranked.now.terms.now c.args.rank
+    (rank_at c.args.ranked.now.ranks.now)
     c.requires.links.ranks c.concept-n.ensures c.requires.within c.index-terms-rank.is c.in_ok-narrower.ensures
     c.deref-child-items.ensures.value c.as_slice.ensures.value c.in_ok-found.ensures i (omega arith) in
-    children_more c.args.core.now.links c.args.terms.now c.args.rank c.args.homes.now c.requires.homes (take i ks)
+    children_more c.args.core.now.links c.args.ranked.now.terms.now c.args.rank c.args.homes.now c.requires.homes
+    (take i ks)
     (take (i + 1) ks) _ _ _ c.types_at-types.result c.is_homeless-at_home.result c.loop-child.invariant r
     c.types_at-types.ensures c.is_homeless-at_home.ensures.none c.is_homeless-at_home.ensures.some
     c.in_ok-push.ensures.items
@@ -73,9 +77,10 @@ loop-child-preserved c =
 pub returns : goal.returns
 returns c =
     let ks : List ℕ = c.deref-child-items.result.now in
-    children_are c.args.core.now.links c.args.terms.now c.args.rank (rank_at c.args.ranks.now) c.requires.links.ranks
+    children_are c.args.core.now.links c.args.ranked.now.terms.now c.args.rank (rank_at c.args.ranked.now.ranks.now)
+    c.requires.links.ranks
     c.concept-n.ensures c.requires.within c.index-terms-rank.is c.in_ok-narrower.ensures
     c.deref-child-items.ensures.value c.as_slice.ensures.value c.in_ok-found.ensures c.loop-child.children.items _
-    (subst (λ (xs : List ℕ). AreChildren c.args.core.now.links c.args.terms.now c.args.rank xs
+    (subst (λ (xs : List ℕ). AreChildren c.args.core.now.links c.args.ranked.now.terms.now c.args.rank xs
     c.loop-child.children.items) (take_all c.loop-child.child-index ks (omega arith)) c.loop-child.invariant)
     c.in_ok-sort_children.ensures.same c.in_ok-sort_children.ensures.sorted

@@ -17,7 +17,8 @@ returns-in-Some c = λ tag is.
     ks.items linked
     (subst (λ (ms : List ℕ). AreSortedPlaces (rank_at c.args.index.now.places.items) ms ks.items)
     c.as_slice.ensures.value
-    (subst (λ (ps : List _). AreSortedPlaces (rank_at ps) c.as_slice.result.now ks.items) c.as_slice-places.ensures.value
+    (subst (λ (ps : List _). AreSortedPlaces (rank_at ps) c.as_slice.result.now ks.items)
+    c.as_slice-places.ensures.value
     are))) c.sorted_places.ensures
 
 pub returns-then-is_typed : goal.returns-then-is_typed

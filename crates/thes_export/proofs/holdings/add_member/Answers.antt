@@ -19,7 +19,8 @@ loop-collection-preserved c = members_next c.args.core.now c.args.i c.new-n.resu
 pub returns : goal.returns
 returns c =
     members_done c.args.core.now c.args.i c.new-n.result c.new-n.ensures c.in_ok-collections.collections.items
-    c.deref-collection-items.result.now c.loop-collection.members c.deref-collection-items.ensures.value c.in_ok-collections.ensures
+    c.deref-collection-items.result.now c.loop-collection.members c.deref-collection-items.ensures.value
+    c.in_ok-collections.ensures
     (subst (λ (ks : List ℕ). AreListings nat_cmp (IsMemberBefore c.args.core.now c.args.i c.new-n.result ks)
     c.loop-collection.members) (take_all c.loop-collection.collection-index c.deref-collection-items.result.now
     c.loop-collection-test.false) c.loop-collection.invariant)

@@ -6,5 +6,6 @@ pub loop-i-init : goal.loop-i-init
 loop-i-init c = search (rules, members_none)
 
 pub returns : goal.returns
-returns c = members_all c.args.core.now c.loop-i.i (length c.args.core.now.resources) c.loop-i.members (omega arith) (omega arith)
+returns c = members_all c.args.core.now c.loop-i.i (length c.args.core.now.resources) c.loop-i.members (omega arith)
+    (omega arith)
     c.loop-i.invariant

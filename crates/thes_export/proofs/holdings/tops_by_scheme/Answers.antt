@@ -6,5 +6,6 @@ pub loop-i-init : goal.loop-i-init
 loop-i-init c = search (rules, tops_none)
 
 pub returns : goal.returns
-returns c = tops_all c.args.core.now c.loop-i.i (length c.args.core.now.resources) c.loop-i.tops (omega arith) (omega arith)
+returns c = tops_all c.args.core.now c.loop-i.i (length c.args.core.now.resources) c.loop-i.tops (omega arith)
+    (omega arith)
     c.loop-i.invariant

@@ -9,7 +9,14 @@ pub loop-kind-init : goal.loop-kind-init
 loop-kind-init c = added_no_element (MapsOne c.args.about.now.core.now c.args.about.now.n) _
 
 pub loop-kind-preserved : goal.loop-kind-preserved
-loop-kind-preserved c = grind (arith, common_steps, added_next, c.loop-kind-item.is, c.loop-kind.invariant, c.in_ok-push_mapping.ensures)
+loop-kind-preserved c = grind (
+  arith,
+  common_steps,
+  added_next,
+  c.loop-kind-item.is,
+  c.loop-kind.invariant,
+  c.in_ok-push_mapping.ensures,
+)
 
 pub returns : goal.returns
 returns c =

@@ -21,8 +21,9 @@ returns-in-Err g c = record {
       (subst (λ h. Migrates g.S.Store c.adopt-keeper.result.conn h (Err c.in-Err.fault))
       (sym c.into_connection-conn.ensures.is) c.in-Err.ensures.migrates);
   reports = record {
+    cause = c.cause-cause.result;
     silent = refl;
-    prints_it = c.report_in_file.ensures.reports;
+    prints_it = rw (← c.trouble_of-trouble.ensures) c.report_in_file.ensures.reports;
     status_is =
         c.report_in_file.ensures.status;
   };

@@ -1,4 +1,5 @@
-use Rattle.std.proofs.Common.{refl}
+use Rattle.std.proofs.Common.{refl, sym, ◌∙◌}
+use Rattle.thes_jobs.proofs.StartingLemmas.{makes_in_blank}
 use Rattle.thes_jobs.proofs.starting.prepare_store.Goals as goal
 
 pub returns-in-MakeTables-clause-prepares : goal.returns-in-MakeTables-clause-prepares
@@ -21,3 +22,8 @@ returns-in-Nothing-clause-prepares g c = record {
   blank = c.is_blank.ensures;
   prepares = rw (← c.preparation_of.ensures, c.in-Nothing.is) (refl, refl);
 }
+
+pub returns-in-MakeTables-clause-keeps : goal.returns-in-MakeTables-clause-keeps
+returns-in-MakeTables-clause-keeps g c = c.make_marked_store.ensures.keeps (c.is_blank.ensures.0
+    (makes_in_blank c.args.store.now.opening c.is_blank.result c.args.reads_only
+    (sym c.preparation_of.ensures ∙ c.in-MakeTables.is)))

@@ -14,14 +14,15 @@ returns-in-Ok-record_changes-clause-decides g c =
       λ up t now s is rows holds are.
           let was = c.in-Ok-record_changes.ensures.asks.was up in
           let first = d.2 was t now s is rows holds are in
-          let part = c.changes_from-changes.ensures ∙ drop_front c.args.progress.now.decided.delta first.changes
-          c.decide_command.new.progress.decided.delta c.change_count-before.result first.more
+          let part = c.changes_from-changes.ensures ∙ drop_front c.args.progress.now.decided.delta
+          first.decided.changes c.decide_command.new.progress.decided.delta c.change_count-before.result
+          first.decided.more
           c.change_count-before.ensures in
           let recorded = c.in-Ok-record_changes.ensures.in_plan up t now (c.in-Ok.ensures.asks.same was ∙ is)
-          (subst (λ (l : List Change). DeltaFits l now) (sym part) (first.leads.fit now rows))
+          (subst (λ (l : List Change). DeltaFits l now) (sym part) (first.decided.leads.fit now rows))
           (subst (λ (p : PlanPostings). ArePlanRows t.posting now.posting p) (sym c.in-Ok.ensures.kept) are) in
           record {
-            decided = first;
+            decision = record { decided = first.decided; steps = first.steps };
             postings_are = subst (λ (l : List Change). ArePlanRows t.posting (tables_after_delta l now).posting
                 c.record_changes.new.self) part recorded;
           },

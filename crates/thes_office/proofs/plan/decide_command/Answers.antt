@@ -6,7 +6,7 @@ use Rattle.thes_office.proofs.plan.decide_command.Goals as goal
 
 pub returns-clause-decides : goal.returns-clause-decides
 returns-clause-decides g c =
-    let decides = c.in_ok-decide_with_facts.ensures.decides in (
+    let decides = c.in_ok-decide_and_log.ensures.decides in (
       decides.0,
       decides.1,
       λ up t now s is rows holds are. decides.2 s holds (c.in-Ok.ensures.in_plan up t

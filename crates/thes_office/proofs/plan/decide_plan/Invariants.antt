@@ -1,5 +1,6 @@
 use Rattle.std.proofs.Common.{◌≡◌, false, take, length}
 use Rattle.thes_store.specs.Storage.{KeepsStorage}
+use Rattle.thes_core.specs.UndoLogs.{IsLogOf}
 use Rattle.thes_office.specs.PlanDecisions.{PlanDecidedSoFar}
 use Rattle.thes_office.proofs.plan.decide_plan.Given as goal
 
@@ -8,6 +9,7 @@ invariant-loop-asked g l = record {
   keeps : KeepsStorage (g.K.Keeper.view l.fn.keeper) (g.K.Keeper.view l.keeper);
   unspent : l.core.spent ≡ false;
   setting : l.core.setting ≡ l.fn.core.setting;
+  logged : IsLogOf l.progress.log l.core;
   each : length l.progress.decided.answers.items ≡ l.asked-index;
   decides : (g.K.Keeper.view l.keeper).is_up → PlanDecidedSoFar (g.K.Keeper.view l.fn.keeper).rows l.fn.core.setting
       (take l.asked-index l.plan) l.progress l.core;

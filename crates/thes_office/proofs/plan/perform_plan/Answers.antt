@@ -1,9 +1,7 @@
 use Rattle.std.proofs.Common.{refl, subst, sym, ◌∙◌}
-use Rattle.thes_core.specs.CoreView.{CoreView}
 use Rattle.thes_plans.specs.declared.plan.PlanOutcome.TheVariants.{Done}
 use Rattle.thes_office.specs.declared.plan.PlanDecision.{PlanDecision}
-use Rattle.thes_office.specs.Office.{IsCopy}
-use Rattle.thes_office.specs.PlanDecisions.{IsPlanDecision}
+use Rattle.thes_office.specs.PlanDecisions.{IsPlanDecision, IsUsableAfter}
 use Rattle.thes_office.proofs.PlanDecisionLemmas.{copy_after_plan, copy_after_refusal, plan_is_done, plan_is_refused}
 use Rattle.thes_office.proofs.StateTableLemmas.{changes_fit}
 use Rattle.thes_office.proofs.plan.perform_plan.Goals as goal
@@ -22,9 +20,11 @@ returns-in_default-clause-ok g c up =
     let d = subst (λ (x : PlanDecision). IsPlanDecision (g.K.Keeper.view c.args.keeper.now).rows
     c.args.core.now.setting c.args.plan.now x c.decide_plan.new.core) c.in-Ok-Accepted.field-0-is
     (c.in-Ok-Accepted.ensures.decides was) in
+    let usable = subst (λ (x : PlanDecision). IsUsableAfter c.args.core.now c.decide_plan.new.core x)
+    c.in-Ok-Accepted.field-0-is c.in-Ok-Accepted.ensures.usable in
     plan_is_done (g.K.Keeper.view c.args.keeper.now).rows (g.K.Keeper.view c.commit_changes.new.keeper).rows
     c.args.core.now.setting c.args.plan.now c.in-Ok-Accepted.answers.items c.in-Ok-Accepted.delta
-    c.decide_plan.new.core d c.in-Ok-Accepted.ensures.usable.1
+    c.decide_plan.new.core d usable.1
     (λ t is. c.in_default.ensures.ok up t (c.decide_plan.ensures.asks.same was ∙ is)) (Done c.in-Ok-Accepted.answers)
     refl
 
@@ -34,9 +34,11 @@ returns-in_default-clause-copies g c unspent up =
     let d = subst (λ (x : PlanDecision). IsPlanDecision (g.K.Keeper.view c.args.keeper.now).rows
     c.args.core.now.setting c.args.plan.now x c.decide_plan.new.core) c.in-Ok-Accepted.field-0-is
     (c.in-Ok-Accepted.ensures.decides was) in
+    let usable = subst (λ (x : PlanDecision). IsUsableAfter c.args.core.now c.decide_plan.new.core x)
+    c.in-Ok-Accepted.field-0-is c.in-Ok-Accepted.ensures.usable in
     copy_after_plan (g.K.Keeper.view c.args.keeper.now).rows (g.K.Keeper.view c.commit_changes.new.keeper).rows
     c.args.core.now.setting c.args.plan.now c.in-Ok-Accepted.answers.items c.in-Ok-Accepted.delta
-    c.decide_plan.new.core d c.in-Ok-Accepted.ensures.usable.1
+    c.decide_plan.new.core d usable.1
     (λ t is. c.in_default.ensures.ok up t (c.decide_plan.ensures.asks.same was ∙ is))
 
 pub returns-in-Ok-Refused-clause-ok : goal.returns-in-Ok-Refused-clause-ok
@@ -45,17 +47,16 @@ returns-in-Ok-Refused-clause-ok g c up =
     c.args.core.now.setting c.args.plan.now x c.decide_plan.new.core) c.in-Ok-Refused.field-0-is
     (c.in-Ok-Refused.ensures.decides up) in
     plan_is_refused (g.K.Keeper.view c.args.keeper.now).rows (g.K.Keeper.view c.decide_plan.new.keeper).rows
-    c.args.core.now.setting c.args.plan.now c.in-Ok-Refused.place c.in-Ok-Refused.refusal c.in-Ok-Refused.changed
-    c.decide_plan.new.core d (c.decide_plan.ensures.asks.same up)
+    c.args.core.now.setting c.args.plan.now c.in-Ok-Refused.place c.in-Ok-Refused.refusal c.decide_plan.new.core d
+    (c.decide_plan.ensures.asks.same up)
 
 pub returns-in-Ok-Refused-clause-copies : goal.returns-in-Ok-Refused-clause-copies
 returns-in-Ok-Refused-clause-copies g c unspent up =
     let d = subst (λ (x : PlanDecision). IsPlanDecision (g.K.Keeper.view c.args.keeper.now).rows
     c.args.core.now.setting c.args.plan.now x c.decide_plan.new.core) c.in-Ok-Refused.field-0-is
     (c.in-Ok-Refused.ensures.decides up) in
-    let kept = c.mark_if_changed.ensures unspent in
-    subst (λ (k : CoreView). IsCopy (g.K.Keeper.view c.decide_plan.new.keeper).rows c.args.core.now.setting.limits k)
-    (sym kept.1)
-    (copy_after_refusal (g.K.Keeper.view c.args.keeper.now).rows (g.K.Keeper.view c.decide_plan.new.keeper).rows
-    c.args.core.now.setting c.args.plan.now c.in-Ok-Refused.place c.in-Ok-Refused.refusal c.in-Ok-Refused.changed
-    c.decide_plan.new.core d (c.decide_plan.ensures.asks.same up) c.in-Ok-Refused.ensures.usable.1 kept.0)
+    let usable = subst (λ (x : PlanDecision). IsUsableAfter c.args.core.now c.decide_plan.new.core x)
+    c.in-Ok-Refused.field-0-is c.in-Ok-Refused.ensures.usable in
+    copy_after_refusal (g.K.Keeper.view c.args.keeper.now).rows (g.K.Keeper.view c.decide_plan.new.keeper).rows
+    c.args.core.now.setting c.args.plan.now c.in-Ok-Refused.place c.in-Ok-Refused.refusal c.decide_plan.new.core d
+    (c.decide_plan.ensures.asks.same up) unspent (usable unspent)

@@ -3,6 +3,7 @@ use Rattle.std.proofs.lemmas.Slice.Zip.{all_zipped_more}
 use Rattle.csv.specs.Records.{fields_of}
 use Rattle.thes_posting_files.specs.PostingFile.{IsCsvRow, header}
 use Rattle.thes_posting_files.proofs.RecordReadingLemmas.{most_at_start}
+use Rattle.thes_posting_files.proofs.RowLemmas.{each_has_row}
 use Rattle.thes_posting_files.proofs.reading.count_rows.Goals as goal
 
 pub loop-record-init : goal.loop-record-init
@@ -31,7 +32,7 @@ loop-record-preserved c =
     let i = c.loop-record.invariant in
     let found : c.in_ok-next_record.field-0 ≡ true = search rules in
     let m = c.in_ok-next_record.ensures.record.more found c.args.bytes.now (header ∷ i.found) i.read in
-    let row = c.in_ok-try_row.ensures in
+    let row = each_has_row (fields_of c.next_record.new.entry) in
     let n = length-append i.rows (row.0 ∷ []) in
     record {
       found = i.found ++ fields_of c.next_record.new.entry ∷ [];

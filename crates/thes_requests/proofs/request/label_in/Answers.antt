@@ -9,10 +9,12 @@ pub returns-in_err-owner : goal.returns-in_err-owner
 returns-in_err-owner c =
     gives_label _ c.both.result _
     (rw c.both.ensures (reads_pair (number_at (codes "owner")) (pair_of a_tag a_label_value) _ _ _ c.number_at.ensures
-    (rw c.both-label.ensures (reads_pair _ _ _ _ _ c.text_at.ensures c.label_value_at.ensures)))) (search rules)
+    (rw c.both-label.ensures (reads_pair _ _ _ _ _ c.read_text_member.ensures c.label_value_at.ensures))))
+    (search rules)
 
 pub returns : goal.returns
 returns c =
     gives_label _ c.both.result _
     (rw c.both.ensures (reads_pair (number_at (codes "owner")) (pair_of a_tag a_label_value) _ _ _ c.number_at.ensures
-    (rw c.both-label.ensures (reads_pair _ _ _ _ _ c.text_at.ensures c.label_value_at.ensures)))) (search rules)
+    (rw c.both-label.ensures (reads_pair _ _ _ _ _ c.read_text_member.ensures c.label_value_at.ensures))))
+    (search rules)

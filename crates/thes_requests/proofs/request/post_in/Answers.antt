@@ -8,11 +8,13 @@ use Rattle.thes_requests.proofs.request.post_in.Goals as goal
 pub returns-in_err-key : goal.returns-in_err-key
 returns-in_err-key c =
     gives_line3 _ _ _ _ _ c.both.result _
-    (rw c.both.ensures (reads_pair a_key (pair_of a_record (number_at (codes "concept"))) _ _ _ c.text_at-2.ensures
-    (rw c.both-place.ensures (reads_pair _ _ _ _ _ c.text_at.ensures c.number_at.ensures)))) (search rules)
+    (rw c.both.ensures (reads_pair a_key (pair_of a_record (number_at (codes "concept"))) _ _ _
+    c.read_text_member-2.ensures
+    (rw c.both-place.ensures (reads_pair _ _ _ _ _ c.read_text_member.ensures c.number_at.ensures)))) (search rules)
 
 pub returns : goal.returns
 returns c =
     gives_line3 _ _ _ _ _ c.both.result _
-    (rw c.both.ensures (reads_pair a_key (pair_of a_record (number_at (codes "concept"))) _ _ _ c.text_at-2.ensures
-    (rw c.both-place.ensures (reads_pair _ _ _ _ _ c.text_at.ensures c.number_at.ensures)))) (search rules)
+    (rw c.both.ensures (reads_pair a_key (pair_of a_record (number_at (codes "concept"))) _ _ _
+    c.read_text_member-2.ensures
+    (rw c.both-place.ensures (reads_pair _ _ _ _ _ c.read_text_member.ensures c.number_at.ensures)))) (search rules)

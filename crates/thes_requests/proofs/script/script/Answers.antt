@@ -90,7 +90,8 @@ returns-in_err-write_outcome-clause-ends g c =
     let taken = c.in-Ok.ensures.finds.found.line some in
     let count = c.in-Ok.ensures.finds.count some in
     let few : c.loop-ended.lines.count < lines_limit = omega (arith, count.0, count.1) in
-    let p = err_from_is_err_and c.from_residual-in_err-write_outcome.result c.from_residual-in_err-write_outcome.ensures.1 in
+    let p = err_from_is_err_and c.from_residual-in_err-write_outcome.result
+    c.from_residual-in_err-write_outcome.ensures.1 in
     rw (p.1, p.2) (stops_at_line g.R.Read.remaining g.W.Write.contents
     (Serves g.D.RequestHandler.requests) g.D.RequestHandler.is_open
     c.loop-ended.invariant.served c.next_line.new.reader c.write_outcome.new.writer c.serve_line-outcome.new.handler

@@ -7,4 +7,8 @@ pub returns-clause-does : goal.returns-clause-does
 returns-clause-does g c = grind (arith, common_steps, newer_empty)
 
 pub returns-clause-renews : goal.returns-clause-renews
-returns-clause-renews g c = grind (arith, common_steps, newer_enlarged)
+returns-clause-renews g c clean inside =
+    let second = c.in_ok-define_indexes.ensures in
+    let doubt = second.stays.1.clean in
+    let first = c.in_ok-define_hier.ensures.does (omega (arith, doubt, clean)) inside in
+    newer_enlarged _ _ _ first (second.does clean first.inside)

@@ -35,6 +35,6 @@ returns-in-Err g c =
     let done = c.if-not-branch.false in
     let own = c.in-Err.ensures.own in
     migration_failed g.S.Store c.args.conn.now c.judge.new.conn c.migrate_tables.new.conn c.requires e.frame.effect e.frame.database
-    (rw done at e.judged) c.migrate_tables.ensures.clean c.migrate_tables.ensures.crash own c.fault_of.result
-    c.fault_of.ensures.kind (migrate_fault_of_keeper c.fault_of.result c.fault_of.ensures.kind)
+    (rw done at e.judged) c.migrate_tables.ensures.clean c.migrate_tables.ensures.crash own c.fault_with_cause.result
+    c.fault_with_cause.ensures.kind (migrate_fault_of_keeper c.fault_with_cause.result c.fault_with_cause.ensures.kind)
     (λ up. own.none up.0 up.1)

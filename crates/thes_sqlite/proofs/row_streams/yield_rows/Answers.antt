@@ -45,14 +45,14 @@ returns-in-Err g c =
     let h = rw (c.in-Err.is, c.table_query.ensures) at c.query.follows.holds-at-none in
     record {
       yields = record {
-        rows = λ clean is. none_accepted g.R.RowSink.gives _ c.fault_of.result c.args.sink.now;
+        rows = λ clean is. none_accepted g.R.RowSink.gives _ c.fault_with_cause.result c.args.sink.now;
         content = λ clean. tt;
       };
       frame = record {
         tables = (leaves_alone g.S.Store (read_text c.args.name) [] c.args.conn.now c.query.follows.lender-at-none
             {V = List Row} (Err c.in-Err.error) (λ rows. rows) (table_is_query c.args.name).0 (λ clean. tt) h.mode
             h.err h.survives).tables;
-        fault = c.fault_of.ensures.kind;
+        fault = c.fault_with_cause.ensures.kind;
       };
     }
 

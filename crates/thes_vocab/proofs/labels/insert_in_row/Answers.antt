@@ -20,5 +20,15 @@ returns-in-Some c =
           c.get.ensures.value within)
           (λ q. each q ∙ ap (λ row. eq_by_cmp data_cmp q c.args.label || has_own row q) (sym was)))
           c.insert.ensures.ok;
-      err = grind (arith, common_steps, on_err_weaker, row_at, row_kept, row_set, c.get.ensures.value, c.in-Some.ensures.value, c.insert.ensures.err);
+      err = grind (
+        arith,
+        common_steps,
+        on_err_weaker,
+        row_at,
+        row_kept,
+        row_set,
+        c.get.ensures.value,
+        c.in-Some.ensures.value,
+        c.insert.ensures.err,
+      );
     }

@@ -14,4 +14,8 @@ returns-in-Ok-clause-gain c =
     }
 
 pub returns-in-Err-clause-gain : goal.returns-in-Err-clause-gain
-returns-in-Err-clause-gain c = record { order = grind (arith, sorted_insert); labels = λ q. grind (arith, has_inserted) }
+returns-in-Err-clause-gain c = record {
+  order = grind (arith, sorted_insert);
+  labels =
+      λ q. grind (arith, has_inserted);
+}

@@ -19,15 +19,17 @@ returns-then-branch-clause-continues g c from to before are =
 pub turns-smaller : goal.turns-smaller
 turns-smaller g c =
     paired_turn_smaller c.turns.limit c.saturating_add-limit.result c.turns.invariant.limit
-    c.saturating_add-limit.ensures (length c.turns.first.nodes) (length c.turns.second.nodes) c.turns.first.next
-    c.turns.second.next (length c.take_paired_turns.new.first.nodes) (length c.take_paired_turns.new.second.nodes)
-    c.take_paired_turns.new.first.next c.take_paired_turns.new.second.next c.turns-test.ensures.done
+    c.saturating_add-limit.ensures (length c.turns.paired.first.nodes) (length c.turns.paired.second.nodes)
+    c.turns.paired.first.next
+    c.turns.paired.second.next (length c.take_paired_turns.new.paired.first.nodes)
+    (length c.take_paired_turns.new.paired.second.nodes)
+    c.take_paired_turns.new.paired.first.next c.take_paired_turns.new.paired.second.next c.turns-test.ensures.done
     c.if-not-is_done.ensures.done (c.in_ok-take_paired_turns.ensures.done c.if-branch.false)
 
 pub returns-else-not-is_done-clause-continues : goal.returns-else-not-is_done-clause-continues
 returns-else-not-is_done-clause-continues g c from to before are =
-    (c.turns.allowance, c.turns.invariant.continues from to before are)
+    c.turns.invariant.continues from to before are
 
 pub returns-after-turns-clause-continues : goal.returns-after-turns-clause-continues
 returns-after-turns-clause-continues g c from to before are =
-    (c.turns.allowance, c.turns.invariant.continues from to before are)
+    c.turns.invariant.continues from to before are

@@ -7,13 +7,14 @@ invariant-turns g l = record {
   limit : l.limit < 2 ^ 64;
   net : g.L.Links.net l.links ≡ g.L.Links.net l.fn.links;
   continues : (from to before : ℕ)
-      → ArePairedSearches (g.L.Links.net l.fn.links).links l.relation from to l.fn.first l.fn.second 0
-      before (g.L.Links.count l.fn.links)
-      → ArePairedSearches (g.L.Links.net l.fn.links).links l.relation from to l.first l.second l.allowance
+      → ArePairedSearches (g.L.Links.net l.fn.links).links l.relation from to l.fn.paired.first l.fn.paired.second
+      l.fn.paired.allowance before (g.L.Links.count l.fn.links)
+      → ArePairedSearches (g.L.Links.net l.fn.links).links l.relation from to l.paired.first l.paired.second
+      l.paired.allowance
       before (g.L.Links.count l.links);
 }
 
 -- Without a limit one of the searches ends in its turn.
 abbrev pub decreases-turns : goal.decreases-turns
-decreases-turns g l = 3 * (2 ^ 64 - l.limit) + min 1 (length l.first.nodes - l.first.next)
-    + min 1 (length l.second.nodes - l.second.next)
+decreases-turns g l = 3 * (2 ^ 64 - l.limit) + min 1 (length l.paired.first.nodes - l.paired.first.next)
+    + min 1 (length l.paired.second.nodes - l.paired.second.next)

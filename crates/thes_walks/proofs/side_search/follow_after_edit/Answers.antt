@@ -1,11 +1,12 @@
-use Rattle.std.proofs.Common.{◌≡◌, ◌≢◌, ℕ, List, Some, arith, inl, inr, subst, sym, ◌∙◌}
+use Rattle.std.proofs.Common.{◌≡◌, ◌≢◌, ◌≤◌, ◌+◌, ℕ, List, Some, arith, inl, inr, refl, subst, sum_by, sym, ◌∙◌}
 use Rattle.thes_base.specs.declared.data.Link.{Link}
 use Rattle.thes_links.specs.declared.edit.LinkEdit.TheVariants.{NoEdit, WithLink, AfterMerge}
 use Rattle.thes_links.specs.Side.{side_in}
 use Rattle.thes_links.specs.LinkEdit.{HeldAfter}
 use Rattle.thes_links.specs.Steps.{Steps}
-use Rattle.thes_walks.specs.SideSearch.{LeadsFrom, IsPartAt}
+use Rattle.thes_walks.specs.SideSearch.{LeadsFrom, IsPartAt, one_on_side}
 use Rattle.thes_links.proofs.NumberLemmas.{eq_same, eq_other}
+use Rattle.thes_links.proofs.ReadLemmas.{node_after-stays}
 use Rattle.thes_walks.proofs.SideSearchLemmas.{IsSearchResult-same, IsSearchResult-then, Steps-sound, Steps-held}
 use Rattle.thes_walks.proofs.SideSearchLemmas.{Steps-with, Steps-with_new}
 use Rattle.thes_walks.proofs.MergeStepLemmas.{Steps-other, CoversSide-other, other_cost}
@@ -18,48 +19,57 @@ follow_merged-requires g c = record {
   ready =
       let rows : ℕ → List Link = g.L.Links.links_of (g.L.Links.net c.args.links.now) in
       let P : ℕ → Type 0 = λ n. IsPartAt (g.L.Links.net c.args.links.now).links (rows n) n
-      (side_in c.args.relation) c.args.part in
+      (side_in c.args.along.now.relation) c.args.part in
       subst P (eq_same _ _ _ c.eq-in-AfterMerge.ensures c.if-eq-2.true) c.requires.ready;
 }
 
 pub returns-in_ok-found-in-NoEdit-clause-finds : goal.returns-in_ok-found-in-NoEdit-clause-finds
 returns-in_ok-found-in-NoEdit-clause-finds g c = rw c.in-NoEdit.is (
     IsSearchResult-same c.args.nodes.now c.follow.new.nodes c.args.goals.now
-    (LeadsFrom NoEdit (g.L.Links.net c.args.links.now).links c.args.relation c.args.x c.args.x)
-    (Steps c.args.relation (HeldAfter NoEdit (g.L.Links.net c.args.links.now).links) c.args.x)
-    (Steps-sound (g.L.Links.net c.args.links.now).links c.args.relation NoEdit c.args.x c.args.x)
-    (Steps-held (g.L.Links.net c.args.links.now).links c.args.relation c.requires.one_side
+    (LeadsFrom NoEdit (g.L.Links.net c.args.links.now).links c.args.along.now.relation c.args.x c.args.x)
+    (Steps c.args.along.now.relation (HeldAfter NoEdit (g.L.Links.net c.args.links.now).links) c.args.x)
+    (Steps-sound (g.L.Links.net c.args.links.now).links c.args.along.now.relation NoEdit c.args.x c.args.x)
+    (Steps-held (g.L.Links.net c.args.links.now).links c.args.along.now.relation c.requires.one_side
     c.requires.ready.two_ends c.args.x)
-    c.in_ok-found-in-NoEdit.found (rw c.in-NoEdit.is at c.in_ok-found-in-NoEdit.ensures.finds))
+    c.in_ok-found-in-NoEdit.found ((rw c.in-NoEdit.is at c.in_ok-found-in-NoEdit.ensures.finds)
+    c.args.along.now.relation
+    (record { one_side = c.requires.one_side; replaces = refl; ready = c.requires.ready })))
 
 pub returns-in_ok-found-in-NoEdit-clause-count : goal.returns-in_ok-found-in-NoEdit-clause-count
 returns-in_ok-found-in-NoEdit-clause-count g c =
-    rw c.in-NoEdit.is (λ ns covers. c.in_ok-found-in-NoEdit.ensures.count ns (λ l has ends _. covers l has ends))
+    rw c.in-NoEdit.is (λ ns covers. c.in_ok-found-in-NoEdit.ensures.count (side_in c.args.along.now.relation)
+    c.requires.ready ns (λ l has ends _. covers l has ends))
 
 pub returns-then-branch-clause-count : goal.returns-then-branch-clause-count
 returns-then-branch-clause-count g c =
-    rw c.in-WithLink.is (λ ns covers. c.in_ok-follow-in-WithLink.ensures.count ns (λ l has ends _. covers l has ends))
+    rw c.in-WithLink.is (λ ns covers. c.in_ok-follow-in-WithLink.ensures.count (side_in c.args.along.now.relation)
+    c.requires.ready ns (λ l has ends _. covers l has ends))
 
 pub returns-in_ok-found-in-WithLink-clause-finds : goal.returns-in_ok-found-in-WithLink-clause-finds
 returns-in_ok-found-in-WithLink-clause-finds g c = rw c.in-WithLink.is (
     IsSearchResult-then c.args.nodes.now c.follow-in-WithLink.new.nodes c.take.new.nodes c.args.goals.now
-    (LeadsFrom (WithLink c.in-WithLink.new) (g.L.Links.net c.args.links.now).links c.args.relation c.args.x c.args.x)
+    (LeadsFrom (WithLink c.in-WithLink.new) (g.L.Links.net c.args.links.now).links c.args.along.now.relation c.args.x
+    c.args.x)
     (λ y. c.step.result ≡ Some y)
-    (Steps c.args.relation (HeldAfter (WithLink c.in-WithLink.new) (g.L.Links.net c.args.links.now).links) c.args.x)
-    (λ y steps. elim (Steps-with (g.L.Links.net c.args.links.now).links c.args.relation c.requires.one_side
+    (Steps c.args.along.now.relation (HeldAfter (WithLink c.in-WithLink.new) (g.L.Links.net c.args.links.now).links)
+    c.args.x)
+    (λ y steps. elim (Steps-with (g.L.Links.net c.args.links.now).links c.args.along.now.relation c.requires.one_side
     c.requires.ready.two_ends c.in-WithLink.new c.args.x y steps) [
       | inl held ↦ inl held
       | inr new ↦ inr (c.step.ensures ∙ new)
     ])
-    (Steps-sound (g.L.Links.net c.args.links.now).links c.args.relation (WithLink c.in-WithLink.new) c.args.x c.args.x)
-    (λ y is. Steps-with_new (g.L.Links.net c.args.links.now).links c.args.relation c.requires.one_side
+    (Steps-sound (g.L.Links.net c.args.links.now).links c.args.along.now.relation (WithLink c.in-WithLink.new) c.args.x
+    c.args.x)
+    (λ y is. Steps-with_new (g.L.Links.net c.args.links.now).links c.args.along.now.relation c.requires.one_side
     c.requires.ready.two_ends c.in-WithLink.new c.args.x y (sym c.step.ensures ∙ is))
-    (rw (c.if-branch.false, c.in-WithLink.is) at c.in_ok-follow-in-WithLink.ensures.finds)
+    ((rw (c.if-branch.false, c.in-WithLink.is) at c.in_ok-follow-in-WithLink.ensures.finds) c.args.along.now.relation
+    (record { one_side = c.requires.one_side; replaces = refl; ready = c.requires.ready }))
     c.in_ok-found-in-WithLink.found c.in_ok-found-in-WithLink.ensures)
 
 pub returns-in_ok-found-in-WithLink-clause-count : goal.returns-in_ok-found-in-WithLink-clause-count
 returns-in_ok-found-in-WithLink-clause-count g c =
-    rw c.in-WithLink.is (λ ns covers. c.in_ok-follow-in-WithLink.ensures.count ns (λ l has ends _. covers l has ends))
+    rw c.in-WithLink.is (λ ns covers. c.in_ok-follow-in-WithLink.ensures.count (side_in c.args.along.now.relation)
+    c.requires.ready ns (λ l has ends _. covers l has ends))
 
 pub returns-then-eq-2-clause-finds : goal.returns-then-eq-2-clause-finds
 returns-then-eq-2-clause-finds g c = rw (c.in-AfterMerge.is, eq_same _ _ _ c.eq-in-AfterMerge.ensures c.if-eq-2.true)
@@ -71,24 +81,36 @@ returns-in_ok-found-in-AfterMerge-2-clause-finds g c =
     rw c.in-AfterMerge.is (
     IsSearchResult-same c.args.nodes.now c.follow-in-AfterMerge.new.nodes c.args.goals.now
     (LeadsFrom (AfterMerge c.in-AfterMerge.source c.in-AfterMerge.target) (g.L.Links.net c.args.links.now).links
-    c.args.relation c.args.x c.args.x)
-    (Steps c.args.relation (HeldAfter (AfterMerge c.in-AfterMerge.source c.in-AfterMerge.target)
+    c.args.along.now.relation c.args.x c.args.x)
+    (Steps c.args.along.now.relation (HeldAfter (AfterMerge c.in-AfterMerge.source c.in-AfterMerge.target)
     (g.L.Links.net c.args.links.now).links) c.args.x)
-    (Steps-sound (g.L.Links.net c.args.links.now).links c.args.relation
+    (Steps-sound (g.L.Links.net c.args.links.now).links c.args.along.now.relation
     (AfterMerge c.in-AfterMerge.source c.in-AfterMerge.target) c.args.x c.args.x)
     (λ y. Steps-other (g.L.Links.net c.args.links.now).links c.in-AfterMerge.source c.in-AfterMerge.target two
-    c.args.relation c.requires.one_side c.requires.ready.two_ends c.args.x y
+    c.args.along.now.relation c.requires.one_side c.requires.ready.two_ends c.args.x y
     (eq_other _ _ _ c.eq-in-AfterMerge.ensures c.if-eq-2.false))
-    c.in_ok-found-in-AfterMerge-2.found (rw c.in-AfterMerge.is at c.in_ok-found-in-AfterMerge-2.ensures.finds))
+    c.in_ok-found-in-AfterMerge-2.found
+    ((rw c.in-AfterMerge.is at c.in_ok-found-in-AfterMerge-2.ensures.finds) c.args.along.now.relation (record {
+      one_side = c.requires.one_side;
+      replaces = node_after-stays c.in-AfterMerge.source c.in-AfterMerge.target two c.args.x c.args.x
+          (eq_other _ _ _ c.eq.ensures c.if-eq.false) refl;
+      ready = c.requires.ready;
+    })))
 
 pub returns-in_ok-found-in-AfterMerge-2-clause-count : goal.returns-in_ok-found-in-AfterMerge-2-clause-count
 returns-in_ok-found-in-AfterMerge-2-clause-count g c =
     let two : c.in-AfterMerge.source ≢ c.in-AfterMerge.target = rw c.in-AfterMerge.is at c.requires.fit in
     let off : c.args.x ≢ c.in-AfterMerge.source = eq_other _ _ _ c.eq.ensures c.if-eq.false in
-    rw c.in-AfterMerge.is (λ ns covers. omega (
+    rw c.in-AfterMerge.is (λ ns covers.
+    let one : g.L.Links.count c.follow-in-AfterMerge.new.links ≤ g.L.Links.count c.args.links.now
+    + sum_by (one_on_side c.args.x (side_in c.args.along.now.relation)) ns =
+    c.in_ok-found-in-AfterMerge-2.ensures.count (side_in c.args.along.now.relation) c.requires.ready ns
+    (CoversSide-other (g.L.Links.net c.args.links.now).links
+    c.in-AfterMerge.source c.in-AfterMerge.target two (side_in c.args.along.now.relation) ns c.args.x off covers) in
+    omega (
       arith,
-      c.in_ok-found-in-AfterMerge-2.ensures.count ns (CoversSide-other (g.L.Links.net c.args.links.now).links
-          c.in-AfterMerge.source c.in-AfterMerge.target two (side_in c.args.relation) ns c.args.x off covers),
+      one,
       other_cost (g.L.Links.net c.args.links.now).links c.in-AfterMerge.source c.in-AfterMerge.target two
-          (side_in c.args.relation) ns c.args.x off (eq_other _ _ _ c.eq-in-AfterMerge.ensures c.if-eq-2.false),
+          (side_in c.args.along.now.relation) ns c.args.x off
+          (eq_other _ _ _ c.eq-in-AfterMerge.ensures c.if-eq-2.false),
     ))

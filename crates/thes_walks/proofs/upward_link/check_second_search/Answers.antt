@@ -11,41 +11,51 @@ use Rattle.thes_walks.proofs.upward_link.check_second_search.Goals.{Then-branch,
 
 -- If the search found a goal, a chain leads to it.
 led : (g : Over) (c : Then-branch g) (kept : List ℕ) → AreAmong kept c.args.ended.now → (start read : ℕ)
-    → IsSideSearch c.args.edit.now (g.L.Links.net c.args.links.now).links c.args.relation kept start c.args.other.now
+    → IsSideSearch c.args.along.now.edit (g.L.Links.net c.args.links.now).links c.args.along.now.relation kept start
+    c.args.other.now
     read
-    → LeadsTo c.args.edit.now (g.L.Links.net c.args.links.now).links c.args.relation c.args.ended.now start
-    × IsReadBounded c.args.edit.now (g.L.Links.net c.args.links.now).links c.args.relation start
+    → LeadsTo c.args.along.now.edit (g.L.Links.net c.args.links.now).links c.args.along.now.relation c.args.ended.now
+    start
+    × IsReadBounded c.args.along.now.edit (g.L.Links.net c.args.links.now).links c.args.along.now.relation start
     (read + (g.L.Links.count c.finish.new.links - g.L.Links.count c.args.links.now))
 led g c = rw c.if-branch.true at c.in_ok-finish.ensures.continues
 
 -- If the search found no goal, IsSideSearch describes its state.
 on : (g : Over) (c : Else-branch g) (kept : List ℕ) → AreAmong kept c.args.ended.now → (start read : ℕ)
-    → IsSideSearch c.args.edit.now (g.L.Links.net c.args.links.now).links c.args.relation kept start c.args.other.now
+    → IsSideSearch c.args.along.now.edit (g.L.Links.net c.args.links.now).links c.args.along.now.relation kept start
+    c.args.other.now
     read
-    → IsSideSearch c.args.edit.now (g.L.Links.net c.args.links.now).links c.args.relation kept start
+    → IsSideSearch c.args.along.now.edit (g.L.Links.net c.args.links.now).links c.args.along.now.relation kept start
     c.finish.new.self (read + (g.L.Links.count c.finish.new.links - g.L.Links.count c.args.links.now))
 on g c = rw c.if-branch.false at c.in_ok-finish.ensures.continues
 
 -- The search and the reading of related links together make a bounded number of visits.
 cost : (g : Over) (c : In_ok-are_tied g) (kept : List ℕ) (start read : ℕ) (ns : List Link)
     → AreAmong kept c.args.ended.now
-    → IsSideSearch c.args.edit.now (g.L.Links.net c.args.links.now).links c.args.relation kept start c.args.other.now
+    → IsSideSearch c.args.along.now.edit (g.L.Links.net c.args.links.now).links c.args.along.now.relation kept start
+    c.args.other.now
     read
-    → ((n : ℕ) → Reaches (Steps c.args.relation (HeldAfter c.args.edit.now (g.L.Links.net c.args.links.now).links))
-    start n → CoversAt c.args.edit.now (g.L.Links.net c.args.links.now).links n ns)
-    → ((n : ℕ) → Contains c.args.ended.now n → CoversAt c.args.edit.now (g.L.Links.net c.args.links.now).links n ns)
+    → ((n : ℕ) → Reaches (Steps c.args.along.now.relation
+    (HeldAfter c.args.along.now.edit (g.L.Links.net c.args.links.now).links))
+    start n → CoversAt c.args.along.now.edit (g.L.Links.net c.args.links.now).links n ns)
+    → ((n : ℕ) → Contains c.args.ended.now n
+    → CoversAt c.args.along.now.edit (g.L.Links.net c.args.links.now).links n ns)
     → read + g.L.Links.count c.are_tied.new.links ≤ g.L.Links.count c.args.links.now + 2 * length ns
-    + read_cost c.args.edit.now Sideways c.args.ended.now ns
+    + read_cost c.args.along.now.edit Sideways c.args.ended.now ns
 cost g c kept start read ns among is covers there =
-    let side_search : IsSideSearch c.args.edit.now (g.L.Links.net c.args.links.now).links c.args.relation kept start
+    let side_search : IsSideSearch c.args.along.now.edit (g.L.Links.net c.args.links.now).links
+    c.args.along.now.relation kept start
     c.finish.new.self (read + (g.L.Links.count c.finish.new.links - g.L.Links.count c.args.links.now)) =
     (rw c.if-branch.false at c.in_ok-finish.ensures.continues) kept among start read is in
-    let more : g.L.Links.count c.are_tied.new.links ≤ g.L.Links.count c.finish.new.links + read_cost c.args.edit.now
+    let more : g.L.Links.count c.are_tied.new.links ≤ g.L.Links.count c.finish.new.links + read_cost
+    c.args.along.now.edit
     Sideways c.args.ended.now ns = c.in_ok-are_tied.ensures.count ns (rw c.in_ok-finish.ensures.net there) in
     omega (
       arith,
       more,
-      IsSideSearch-paid c.args.edit.now (g.L.Links.net c.args.links.now).links c.args.relation kept start c.requires.hierarchy c.finish.new.self _ side_search ns covers,
+      IsSideSearch-paid c.args.along.now.edit (g.L.Links.net c.args.links.now).links c.args.along.now.relation kept
+          start
+          c.requires.hierarchy c.finish.new.self _ side_search ns covers,
     )
 
 pub returns-then-have_none-clause-rest : goal.returns-then-have_none-clause-rest
@@ -56,7 +66,9 @@ pub returns-then-have_none-clause-count : goal.returns-then-have_none-clause-cou
 returns-then-have_none-clause-count g c kept start read ns among is covers _ =
     omega (
       arith,
-      IsSideSearch-paid c.args.edit.now (g.L.Links.net c.args.links.now).links c.args.relation kept start c.requires.hierarchy c.args.other.now read is ns covers,
+      IsSideSearch-paid c.args.along.now.edit (g.L.Links.net c.args.links.now).links c.args.along.now.relation kept
+          start
+          c.requires.hierarchy c.args.other.now read is ns covers,
     )
 
 pub returns-then-branch-clause-rest : goal.returns-then-branch-clause-rest
@@ -72,12 +84,14 @@ returns-then-branch-clause-count g c kept start read ns among is covers _ =
 
 pub returns-then-branch-2-clause-rest : goal.returns-then-branch-2-clause-rest
 returns-then-branch-2-clause-rest g c kept start read among is =
-    let tied : AreTied c.args.edit.now (g.L.Links.net c.args.links.now).links c.args.ended.now c.finish.new.self.nodes =
+    let tied : AreTied c.args.along.now.edit (g.L.Links.net c.args.links.now).links c.args.ended.now
+    c.finish.new.self.nodes =
     rw (c.if-branch-2.true, c.in_ok-finish.ensures.net) at c.in_ok-are_tied.ensures.tied in (
       tied.0,
       tied.1,
       tied.2,
-      (on g (goal.at.returns-then-branch-2-clause-rest g c).Else-branch kept among start read is).closed.sound tied.1 tied.3,
+      (on g (goal.at.returns-then-branch-2-clause-rest g c).Else-branch kept among start read is).closed.sound tied.1
+          tied.3,
       tied.4,
     )
 
@@ -86,14 +100,16 @@ returns-then-branch-2-clause-count g c = cost g (goal.at.returns-then-branch-2-c
 
 pub returns-clause-rest : goal.returns-clause-rest
 returns-clause-rest g c kept start read among is =
-    let untied : AreTied c.args.edit.now (g.L.Links.net c.args.links.now).links c.args.ended.now c.finish.new.self.nodes
+    let untied : AreTied c.args.along.now.edit (g.L.Links.net c.args.links.now).links c.args.ended.now
+    c.finish.new.self.nodes
     → ⊥ = rw (c.if-branch-2.false, c.in_ok-finish.ensures.net) at c.in_ok-are_tied.ensures.tied in
     λ x y has reach steps.
     untied (
       x,
       y,
       has,
-      (IsSideSearch-reach c.args.edit.now (g.L.Links.net c.args.links.now).links c.args.relation kept start
+      (IsSideSearch-reach c.args.along.now.edit (g.L.Links.net c.args.links.now).links c.args.along.now.relation kept
+          start
           c.finish.new.self _ (c.in_ok-finish.ensures.done c.if-branch.false)
           (on g (goal.at.returns-clause-rest g c).Else-branch kept among start read is)).complete y reach,
       steps,

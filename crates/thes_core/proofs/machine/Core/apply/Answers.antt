@@ -1,5 +1,7 @@
-use Rattle.std.proofs.Common.{ap, ◌∙◌, arith}
-use Rattle.thes_core.specs.CoreView.{CoreView}
+use Rattle.std.proofs.Common.{[], refl, ap, ◌∙◌, subst, arith}
+use Rattle.thes_base.specs.Legal.{IsLegalState}
+use Rattle.thes_base.specs.Machine.{next_state}
+use Rattle.thes_core.specs.CoreView.{CoreView, with_histories, without_postings}
 use Rattle.thes_core.proofs.ApplyLemmas.{held_meant, parts_may_change, fit_new, makes_new}
 use Rattle.thes_core.proofs.machine.Core.apply.Goals as goal
 
@@ -23,3 +25,15 @@ returns-clause-made c = λ s holds told accepts.
     c.learn_forms.ensures c.in_ok-change.ensures.becomes
     (c.in_ok-change.ensures.counts s.histories (held_meant t spent k is s fit holds c.args.command.now accepts
     c.args.facts.now told))
+
+pub returns-clause-parts : goal.returns-clause-parts
+returns-clause-parts c =
+    let is = c.self.view_is in
+    let fit = c.self.invariant (ap (λ (x : CoreView). x.spent) is ∙ c.requires.unspent) in
+    record {
+      bare = refl;
+      legal = subst (λ (x : CoreView). IsLegalState x.setting.base (with_histories [] x)) is fit.legal;
+      may = c.requires.may;
+      after = c.in_ok-change.ensures.becomes.state
+          ∙ ap (λ (x : CoreView). without_postings (next_state c.args.command.now (with_histories [] x))) is;
+    }

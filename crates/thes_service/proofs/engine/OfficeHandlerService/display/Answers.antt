@@ -5,7 +5,9 @@ use Rattle.thes_service.proofs.engine.OfficeHandlerService.display.Goals as goal
 
 pub returns : goal.returns
 returns g c =
-    rw (sym c.self.view_is) (result_ready g.K.Keeper.view (λ base. IsDisplayed c.args.display c.args.scheme
-    c.args.tag.now) c.self.inside.office c.ready.follows.lender-at-none c.ready.result c.in_ok-core.core
+    let wanted = c.args.wanted.now in
+    rw (sym c.self.view_is)
+    (result_ready g.K.Keeper.view (λ base. IsDisplayed wanted.kind wanted.scheme wanted.tag.now)
+    c.self.inside.office c.ready.follows.lender-at-none c.ready.result c.in_ok-core.core
     c.in_ok-display_of_core.field-0
     c.ready.follows.holds-at-none c.in_ok-core.was (λ s holds legal. c.in_ok-display_of_core.ensures s holds))

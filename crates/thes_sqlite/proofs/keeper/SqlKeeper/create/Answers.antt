@@ -11,10 +11,11 @@ returns-in-Ok-clause-made g c = λ empty.
     let done = own.begins c.requires.idle in
     subst (IsNewKeeper g.S.Store c.args.base.now) (sym c.adopt.ensures.is) (record {
       rows = λ up. raw_of (state g.S.Store c.create_tables.new.conn).now.trees (empty_tables c.args.base.now)
-          (c.in-Ok.ensures.all up.0 done empty).1.hold;
+          (c.in-Ok.ensures.all up.0 done empty).1.keeps.hold;
       store = λ up. record {
         settled = own.settled up.0 up.1 c.requires.idle;
-        keeps = (empty_tables c.args.base.now, (c.in-Ok.ensures.all up.0 done empty).1);
+        keeps = (empty_tables c.args.base.now, (c.in-Ok.ensures.all up.0 done empty).1.keeps);
       };
+      schema = λ up. (c.in-Ok.ensures.all up.0 done empty).1.schema_is;
       failures = refl;
     })

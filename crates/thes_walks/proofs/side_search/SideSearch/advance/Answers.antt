@@ -18,10 +18,11 @@ is_next g c =
 pub follow_after_edit-requires : goal.follow_after_edit-requires
 follow_after_edit-requires g c = record {
   fit = c.requires.fit;
-  one_side = hierarchy_is_one_sided c.args.relation c.requires.hierarchy;
+  one_side = hierarchy_is_one_sided c.args.along.now.relation c.requires.hierarchy;
   ready =
       let rows : ℕ → List Link = g.L.Links.links_of (g.L.Links.net c.args.links.now) in
-      let P : ℕ → Type 0 = λ n. IsPartAt (g.L.Links.net c.args.links.now).links (rows n) n (side_in c.args.relation)
+      let P : ℕ → Type 0 = λ n. IsPartAt (g.L.Links.net c.args.links.now).links (rows n) n
+      (side_in c.args.along.now.relation)
       c.args.part in
       subst P (sym (is_next g (goal.at.follow_after_edit-requires g c).After-index-as_slice-self))
       (c.requires.ready c.requires.more);
@@ -31,7 +32,7 @@ pub returns-clause-advances : goal.returns-clause-advances
 returns-clause-advances g c = record {
   next = refl;
   continues = λ kept among start read is.
-      IsAdvanceResult-more c.args.edit.now (g.L.Links.net c.args.links.now).links c.args.relation kept
+      IsAdvanceResult-more c.args.along.now.edit (g.L.Links.net c.args.links.now).links c.args.along.now.relation kept
       start c.requires.hierarchy
       c.args.self.now (record { nodes = c.follow_after_edit.new.nodes; next = c.args.self.now.next + 1 })
       c.index-as_slice-self.result
@@ -39,6 +40,7 @@ returns-clause-advances g c = record {
       (read + (g.L.Links.count c.follow_after_edit.new.links - g.L.Links.count c.args.links.now))
       c.requires.more
       (is_next g (goal.at.returns-clause-advances g c).After-index-as_slice-self)
-      refl (omega arith) (λ ns covers. omega (arith, c.in_ok-found.ensures.count ns covers)) is c.args.goals.now among c.in_ok-found.found
+      refl (omega arith) (λ ns covers. omega (arith, c.in_ok-found.ensures.count ns covers)) is c.args.goals.now among
+      c.in_ok-found.found
       c.in_ok-found.ensures.finds;
 }

@@ -6,8 +6,8 @@ abbrev pub invariant-reading : goal.invariant-reading
 invariant-reading g l = record {
   net : g.L.Links.net l.links ≡ g.L.Links.net l.fn.links;
   continues : (kept : List ℕ) → AreAmong kept l.goals → (start read : ℕ)
-      → IsSideSearch l.edit (g.L.Links.net l.fn.links).links l.relation kept start l.fn.self read
-      → IsSideSearch l.edit (g.L.Links.net l.fn.links).links l.relation kept start l.self
+      → IsSideSearch l.along.edit (g.L.Links.net l.fn.links).links l.along.relation kept start l.fn.self read
+      → IsSideSearch l.along.edit (g.L.Links.net l.fn.links).links l.along.relation kept start l.self
       (read + (g.L.Links.count l.links - g.L.Links.count l.fn.links));
 }
 

@@ -1,0 +1,8 @@
+use Rattle.std.proofs.Common.{sym, ap, ◌∙◌}
+use Rattle.std.specs.Option.{option_copied}
+use Rattle.thes_core.proofs.UndoLogLemmas.{place_lost}
+use Rattle.thes_core.proofs.losses.lost_place.Goals as goal
+
+pub returns-in-Some : goal.returns-in-Some
+returns-in-Some c = λ posting s are. place_lost posting s c.args.facts.now c.in-Some.row.now are
+    (sym c.first.ensures ∙ ap option_copied c.in-Some.is)

@@ -1,0 +1,38 @@
+-- The schemas of stores to which a user added tables, indexes and views.
+use Rattle.std.specs.Prelude.{◌≡◌, ◌≢◌, ◌++◌, ℕ, List, true}
+use Rattle.std.specs.List.{AllByRecursion}
+use Rattle.sqlite_schema.specs.declared.schema.Index.{Index}
+use Rattle.sqlite_schema.specs.declared.schema.View.{View}
+use Rattle.sqlite.specs.Schema.{Schema}
+use Rattle.sqlite.specs.Table.{Table as StoredTable}
+use Rattle.thes_base.specs.declared.fault.Table.{Table}
+use Rattle.thes_sql.specs.Declarations.{declares}
+use Rattle.thes_sql.specs.Schema.{store_schema}
+
+-- What a schema has besides the eight tables of a store: further tables after them, all indexes, and all views.
+pub record Additions : Type 0 where
+  pub tables : List StoredTable
+  pub indexes : List Index
+  pub views : List View
+
+-- The eight tables of a store, as the program makes them, in their order.
+abbrev pub store_tables : List StoredTable
+store_tables = store_schema.tables
+
+-- The schema that begins with the tables of a store, and has these additions.
+abbrev pub schema_with : Additions → Schema
+schema_with added =
+    record { tables = store_tables ++ added.tables; indexes = added.indexes; views = added.views }
+
+-- The rows of the table are in another tree than those of each table of a store.
+abbrev pub IsApart : StoredTable → Type 0
+IsApart t = AllByRecursion (λ (own : StoredTable). own.tree ≢ t.tree) store_tables
+
+-- The schema is that of a store: it begins with the eight tables as the program makes them, and the check of a load
+-- finds them declared so. After them it may have any tables, with foreign keys or without; it may have any views, and
+-- any indexes that don't make columns of the eight tables a key, whether those of the program or others.
+pub record IsStoreSchema (schema : Schema) : Type 0 where
+  pub added : Additions
+  pub is : schema ≡ schema_with added
+  pub apart : AllByRecursion IsApart added.tables
+  pub declared : (p : Table) → declares schema p ≡ true
