@@ -634,7 +634,7 @@ def test_a_gigabyte_of_nothing(store: Path, tmp_path: Path, name: str) -> None:
     }
     ended, use = tool_with_use(name, *words[name])
     assert (ended.status, ended.out) == (2, b"") and b"more than 64 megabytes" in ended.err
-    assert ended.err.count(b"\n") == 1 and use.seconds < 5 and use.memory < 500 << 20
+    assert ended.err.count(b"\n") == 1 and use.seconds < 20 and use.memory < 500 << 20
 
 
 @pytest.mark.needs("openpyxl")

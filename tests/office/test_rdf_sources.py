@@ -120,7 +120,7 @@ def test_a_bomb_of_entities_is_given_up_soon(tmp_path: Path) -> None:
     path = tmp_path / "a.rdf"
     path.write_text(bomb(7), encoding="utf-8")
     ran, use = tool_with_use("from-skos", path, "--lang", "en")
-    assert use.seconds < 30
+    assert use.seconds < 60
     assert (ran.status, ran.out) == (REFUSED, b"")
     assert "more than 10 seconds" in ran.err.decode() and "N-Triples" in ran.err.decode()
 

@@ -294,7 +294,7 @@ def test_client_that_is_slow_to_send_holds_up_nobody(front: Fronted) -> None:
         slow.sendall(head.encode())
         began = time.monotonic()
         assert front.site.ask("GET", "/totals", user=READER)[0] == 200
-        assert time.monotonic() - began <= 25
+        assert time.monotonic() - began <= 40
 
 
 def large_store(path: Path) -> Path:
@@ -333,7 +333,7 @@ def test_client_that_is_slow_to_read_holds_up_nobody(tmp_path: Path) -> None:
                 assert slow.recv(1) == b"H"
                 began = time.monotonic()
                 assert site.ask("GET", "/totals", user=READER)[0] == 200
-                assert time.monotonic() - began <= 25
+                assert time.monotonic() - began <= 40
 
 
 @contextlib.contextmanager

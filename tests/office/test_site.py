@@ -1,5 +1,5 @@
 """tools/site: each page is checked as HTML, its links lead somewhere, its terms are those of the program; and the site
-is used in Chromium. The site of 10,000 concepts in three languages takes at most 30 seconds of a processor."""
+is used in Chromium. The site of 10,000 concepts in three languages takes at most two minutes of a processor."""
 from __future__ import annotations
 
 import functools
@@ -48,7 +48,8 @@ MORE: list[Request] = [
     {"do": "concept", "scheme": 44, "tag": "de-at", "text": "Saiten"},
     {"do": "link", "kind": "relMatch", "a": 45, "b": 3},
 ]
-MOST_SECONDS, CONCEPTS = 30, 10_000
+# Idle, a machine takes a tenth of it; busy, up to thrice that. Pages that each looked at all others would take an hour.
+MOST_SECONDS, CONCEPTS = 120, 10_000
 EMPTY = {"meta", "link", "input", "br", "hr", "img"}
 TYPES: dict[str, str] = {"Generic": "G", "Partitive": "P", "Instantial": "I"}
 

@@ -24,7 +24,7 @@ PATIENCE = 120
 # The seconds between bytes that drip, after an answer and within a request; how long a client may take, and what may be
 # measured beyond it.
 PAUSES = (0.001, 0.0035, 0.01)
-SEEN_OFF, ALLOWED, SLACK = 2, 30, 8
+SEEN_OFF, ALLOWED, SLACK = 2, 30, 15
 # Bounds on the growth of the peak memory, in KiB: without a body, and with a body of 16 MiB.
 LITTLE, BODY = 2_000, 64_000
 ANNOUNCED = 16_777_216

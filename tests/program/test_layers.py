@@ -16,7 +16,7 @@ from program import Ended, built, lines_of, over, values_of
 
 CONCEPTS = range(2, 20_002)
 # How long a check may take, on a machine that does other things too; and the edits with the store's opening.
-CHECK_SECONDS, EDIT_SECONDS = 10, 20
+CHECK_SECONDS, EDIT_SECONDS = 30, 60
 # The memory of the related links, in KiB.
 MOST_MEMORY = 65_536
 

@@ -30,7 +30,7 @@ SIZES = b"ok resources=5 labels=6 links=3 accepted=2 withdrawn=0 moves=0\n"
 
 def ask(port: int, method: str, path: str, body: bytes | None = None) -> Answer:
     """The status and the body that a request is answered with."""
-    connection = http.client.HTTPConnection("127.0.0.1", port, timeout=20)
+    connection = http.client.HTTPConnection("127.0.0.1", port, timeout=60)
     connection.request(method, path, body)
     answer = connection.getresponse()
     read = answer.status, answer.read()
@@ -68,7 +68,7 @@ def test_connections_are_served_up_to_the_count(tmp_path: Path) -> None:
         assert run(["serve", "--port", str(port)]) == (3, b"", b"thesaurus: fault Net\n")
         assert over(path, "check") == fault(path, "Store", "in use by another program")
         exported = ask(port, "GET", "/export")
-        out, err = server.communicate(timeout=20)
+        out, err = server.communicate(timeout=60)
         assert (server.returncode, out, err) == (0, b"", b"")
     assert over(path, "export") == (0, exported[1], b"")
     assert over(path, "check") == (0, SIZES, b"")
@@ -90,7 +90,7 @@ def serve_with(path: Path, most: int) -> tuple[Answer | str, int, bytes]:
                 answer = ask(port, "GET", "/totals")
             except (OSError, http.client.HTTPException) as why:
                 answer = repr(why)
-        _, err = server.communicate(timeout=20)
+        _, err = server.communicate(timeout=60)
     return answer, server.returncode, err
 
 
