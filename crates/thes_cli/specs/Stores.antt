@@ -50,7 +50,7 @@ abbrev pub RunsIfOpened : {A B : Type 0} → A ⊎ B → Limits → Tables → T
 RunsIfOpened (inl opened) limits t t' = RunLeads limits t t'
 RunsIfOpened (inr unopened) limits t t' = t' ≡ t
 
--- A fault of opening a store is printed with the reason that its cause gives, and the status is 3.
+-- A fault of opening a store is printed with the reason that some cause gives, and the status is 3.
 pub record PrintsUnopened {E : Type 0} (err : E → Option (List ℕ)) (old new : Pipe E) (status : ℕ) : Type 0 where
   pub file : Option (List ℕ)
   pub fault : Fault

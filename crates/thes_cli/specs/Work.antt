@@ -66,7 +66,7 @@ module _ {K F R W E : Type 0} (view : K → StorageView)
     pub does : DoesWork work old_office old status new_office new
     pub back_is : back ≡ new_office.keeper
 
-  -- The store couldn't be opened, the fault is printed with the reason that its cause gives, and the status is 3.
+  -- The store couldn't be opened, the fault is printed with the reason that some cause gives, and the status is 3.
   pub record ReportsUnopened (file : Option (List ℕ)) (keeper : K) (old : Streams R W E) (status : ℕ)
       (back : K) (new : Streams R W E) : Type 0 where
     pub fault : Fault
