@@ -12,6 +12,7 @@ from pathlib import Path
 from typing import Any
 
 import pytest
+from ports import free_port
 from thesaurus_desk.journal import Draft, Journal, Step, journal_of
 from thesaurus_desk.journal.checking import check
 from thesaurus_desk.journal.history import Filter
@@ -19,7 +20,6 @@ from thesaurus_desk.journal.tables import now
 from thesaurus_desk.mirror import read_mirror
 from thesaurus_desk.mirror.changes import apply
 from thesaurus_desk.performing import Desk
-from thesaurus_desk.program import free_port
 from thesaurus_tools.command_line import ToolError
 
 
