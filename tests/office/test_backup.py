@@ -35,7 +35,7 @@ SOON = 20
 START = [{"do": "scheme", "tag": "en", "text": "Animals"}, {"do": "concept", "scheme": 1, "tag": "en", "text": "Cats"}]
 OTHER_BASE = "https://other.example/id/"
 # Runs the tool, and kills it before it executes the line of a number of its own code; or says how many lines it
-# executed.
+# executed. A line counts once: how often loops repeat that wait or search depends on the machine.
 STEPPING = """
 import os, runpy, signal, sys
 tool, last = sys.argv[1], int(sys.argv[2])
@@ -43,14 +43,13 @@ sys.argv = sys.argv[1:2] + sys.argv[3:]
 sys.path.insert(0, os.path.dirname(tool))
 from thesaurus_tools import backups, holding
 own = tool, backups.__file__, holding.__file__
-count = 0
+executed = set()
 def step(frame, event, _):
-    global count
     if frame.f_code.co_filename not in own:
         return None
     if event == "line":
-        count += 1
-        if count == last:
+        executed.add((frame.f_code.co_filename, frame.f_lineno))
+        if len(executed) == last:
             os.kill(os.getpid(), signal.SIGKILL)
     return step
 sys.settrace(step)
@@ -58,7 +57,7 @@ try:
     runpy.run_path(tool, run_name="__main__")
 finally:
     sys.settrace(None)
-    print("lines", count)
+    print("lines", len(executed))
 """
 # Runs the tool as a user who may not see the files of processes.
 BLIND = """
@@ -248,11 +247,12 @@ def kill_folder(shared_room: Path) -> Path:
 @pytest.fixture(scope="module")
 def killed(served: Served, kill_folder: Path) -> list[Killed]:
     """Runs the tool to its end, and kills it at lines from its first to its last."""
-    lines = int(back_up_until(0, served.path, kill_folder, "--port", served.port).stdout.split()[-1])
+    words = (served.path, kill_folder, "--port", served.port, "--keep", 2)
+    lines = int(back_up_until(0, *words).stdout.split()[-1])
     found = []
     for number in range(KILLS):
         line = 1 + number * lines // KILLS
-        ran = back_up_until(line, served.path, kill_folder, "--port", served.port, "--keep", 2)
+        ran = back_up_until(line, *words)
         began = time.monotonic()
         post(served.port, f"kill-{number}")
         seconds = time.monotonic() - began
