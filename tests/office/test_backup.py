@@ -59,13 +59,14 @@ finally:
     sys.settrace(None)
     print("lines", len(executed))
 """
-# Runs the tool as a user who may not see the files of processes.
+# Runs the tool as a user who may not see the files of processes, with more time for another server to answer.
 BLIND = """
 import os, runpy, sys
 del sys.argv[0]
 sys.path.insert(0, os.path.dirname(sys.argv[0]))
 from thesaurus_tools import holding
 holding.files_of = lambda process: {}
+holding.SECONDS_TO_ANSWER = 5
 runpy.run_path(sys.argv[0], run_name="__main__")
 """
 

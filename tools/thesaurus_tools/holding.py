@@ -15,7 +15,7 @@ from thesaurus_tools.command_line import REFUSED, ToolError
 # The program waits 30 seconds for a client that sends nothing.
 SECONDS_OF_SILENCE = 5
 # A program that is not held answers a second client within this time, in seconds.
-SECONDS_TO_ANSWER = 0.5
+SECONDS_TO_ANSWER = 2
 TOTALS = {"accepted", "standing", "withdrawn"}
 LONGEST_LINE = 1 << 16
 
