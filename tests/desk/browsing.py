@@ -104,15 +104,14 @@ class Browser:
         return list(self.run(f"{script}.map((it) => it.textContent)"))
 
     def suggested(self, text: str) -> list[str]:
-        """Waits for the answer to a whole text, and returns its suggestions: one for its beginning may come before."""
-        answered = "return performance.getEntriesByType('resource').some((it) => it.name.includes(arguments[0]))"
-        self.wait(lambda: self.run(answered, f"q={text}&"))
+        """Waits for the suggestions for a whole text, and returns them: those for its beginning may come before."""
+        self.wait(lambda: self.all(f'[role=listbox][data-query="{text}"]'))
         return list(self.wait(self.options))
 
     def pick(self, field: WebElement, text: str) -> None:
         """Types into a field with suggestions, and takes the first of those for the whole text."""
         field.send_keys(text)
-        self.wait(lambda: self.all("[role=option][aria-selected=true]"))
+        self.suggested(text)
         field.send_keys("\ue007")
 
     def use_scheme(self, scheme: str) -> None:

@@ -31,6 +31,11 @@ PRESSED = "a[href], button, summary"
 FIELDS = "input:not([type=hidden], [type=checkbox], [type=radio]), textarea, select"
 BOXES = "input[type=checkbox], input[type=radio]"
 OPTIONS = "return [...document.querySelectorAll('.suggestions:not([hidden]) li')]"
+# Whether there are suggestions for the whole text of the field that has the focus.
+ARE_SHOWN = """
+const field = document.activeElement, list = document.getElementById(field.getAttribute("aria-controls"));
+return Boolean(list) && !list.hidden && list.dataset.query === field.value.trim();
+"""
 
 
 def start_browser() -> WebDriver:
@@ -110,9 +115,14 @@ class Hand(ABC):
     def tick(self, name: str) -> None:
         """Ticks a box, or makes a choice."""
 
-    @abstractmethod
     def take(self, text: str) -> None:
-        """Takes the suggestion that begins with a text."""
+        """Takes the suggestion that begins with a text, once those for the whole of what was typed are shown."""
+        self.wait(lambda: self.driver.execute_script(ARE_SHOWN), f"suggestions as {text}")
+        self.take_shown(text)
+
+    @abstractmethod
+    def take_shown(self, text: str) -> None:
+        """Takes the suggestion that begins with a text, of those that are shown."""
 
     def fill(self, name: str, text: str) -> None:
         """Writes a text into a field, in place of what it held."""
@@ -140,12 +150,7 @@ class Hand(ABC):
     def pick(self, name: str, typed: str, term: str = "") -> None:
         """Types the beginning of a term into a field, and takes the suggestion."""
         self.fill(name, typed)
-        self.wait(self.chosen, f"a suggestion for {typed}")
         self.take(term or typed)
-
-    def chosen(self) -> list[WebElement]:
-        """Returns the suggestion that Enter takes: there is one once those for the whole text are there."""
-        return [it for it in self.driver.execute_script(OPTIONS) if it.get_attribute("aria-selected") == "true"]
 
     def picture(self, path: Path, height: int, part: str = "body") -> None:
         """Writes a picture of the page, from a part of it on."""
@@ -174,7 +179,7 @@ class Mouse(Hand):
         wanted = next(it for it in Select(field).options if it.text.startswith(option))
         wanted.click()
 
-    def take(self, text: str) -> None:
+    def take_shown(self, text: str) -> None:
         found = self.wait(lambda: [it for it in self.driver.execute_script(OPTIONS) if it.text.startswith(text)], text)
         ActionChains(self.driver).move_to_element(found[0]).click().perform()
 
@@ -212,9 +217,10 @@ class Keyboard(Hand):
         self.reach(field)
         self.type_keys(option)
 
-    def take(self, text: str) -> None:
+    def take_shown(self, text: str) -> None:
         for _ in range(MOST_TABS):
-            chosen = self.chosen()
+            options = self.driver.execute_script(OPTIONS)
+            chosen = [it for it in options if it.get_attribute("aria-selected") == "true"]
             if chosen and chosen[0].text.startswith(text):
                 self.type_keys(Keys.ENTER)
                 return

@@ -228,6 +228,32 @@ def test_suggestions_by_keyboard(anna: Browser) -> None:
     assert anna.driver.current_url.endswith("/c/5")
 
 
+# Types one text, and another one while the suggestions for the first are read; notes the texts whose suggestions are
+# shown.
+TYPING_ON = """
+const field = document.activeElement, list = document.getElementById(field.getAttribute('aria-controls'));
+const type = (text) => { field.value = text; field.dispatchEvent(new Event('input')); };
+const send = window.fetch;
+window.shown = [];
+new MutationObserver(() => window.shown.push(list.dataset.query)).observe(list, {attributeFilter: ['data-query']});
+window.fetch = async (...words) => {
+  window.fetch = send;
+  const answer = await send(...words), read = await answer.json();
+  answer.json = async () => { type('violi'); return read; };
+  return answer;
+};
+type('viol');"""
+
+
+def test_suggestions_for_an_earlier_text_are_not_shown(anna: Browser) -> None:
+    """Enter would take the first of them."""
+    anna.go("/")
+    anna.press_letter("/")
+    anna.run(TYPING_ON)
+    assert anna.suggested("violi")
+    assert anna.run("return window.shown") == ["violi"]
+
+
 def test_the_tree_by_keyboard(anna: Browser) -> None:
     anna.go("/tree")
     anna.run("document.querySelectorAll('#tree summary')[3].focus()")

@@ -62,8 +62,9 @@
       close();
     }
 
-    function show(answer) {
+    function show(query, answer) {
       found = answer;
+      list.dataset.query = query;
       list.replaceChildren(...found.map((it, index) => option(it, `${list.id}-${index}`)));
       [...list.children].forEach((line, index) => line.addEventListener("mousedown", (event) => { event.preventDefault(); take(found[index]); }));
       list.hidden = found.length === 0;
@@ -82,8 +83,9 @@
       if (input.dataset.scheme) wanted.set("scheme", input.dataset.scheme);
       if (!goes) wanted.set("live", "1");
       const answer = await fetch(`/suggest?${wanted}`, { headers: { Accept: "application/json" } }).catch(() => null);
-      if (!answer || !answer.ok || answer.redirected || mine !== asked || document.activeElement !== input) return;
-      show(await answer.json());
+      if (!answer || !answer.ok || answer.redirected) return;
+      const read = await answer.json();
+      if (mine === asked && document.activeElement === input) show(query, read);
     }
 
     function step(by) {
@@ -93,8 +95,9 @@
 
     input.addEventListener("input", () => {
       if (into) into.value = "";
-      // (what is suggested for an earlier text isn't taken by Enter for this one)
+      // (what is suggested for an earlier text isn't taken by Enter for this one, also if it is still on its way)
       mark(-1);
+      asked++;
       clearTimeout(timer);
       timer = setTimeout(ask, WAIT);
     });
