@@ -203,7 +203,7 @@ def unread(room: Path) -> Iterator[str]:
 def late_and_unread(room: Path) -> Iterator[str]:
     """A client that takes its time for its request, and then doesn't read its answer, holds the next one up for both
     times and a second for each 100,000 bytes that the system took, and no longer."""
-    path, late = room / "late.db", ALLOWED - 2
+    path, late = room / "late.db", ALLOWED - 10
     over(path, "script", lines_of([START[0], *({**START[1], "text": f"Concept {n}"} for n in range(CONCEPTS))]))
     with serving(path, 2) as served, socket.socket() as client, ThreadPoolExecutor(1) as pool:
         client.setsockopt(socket.SOL_SOCKET, socket.SO_RCVBUF, 4096)

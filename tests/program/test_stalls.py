@@ -45,8 +45,10 @@ CLIENTS = (
 
 
 class Stalled(NamedTuple):
-    """How a server fared with a client that stalls: the seconds that the next one waited, its answer, and the end."""
+    """How a server fared with a client that stalls: the seconds from before that client came to the answer of the next
+    one, those of them for which the next one waited, its answer, and the end."""
 
+    held: float
     waited: float
     told: bytes
     ended: Ended
@@ -60,21 +62,21 @@ def hold(client: Client, link: socket.socket, over: threading.Event) -> None:
 
 
 def stall(client: Client) -> Stalled:
-    with tempfile.TemporaryDirectory(dir=MEMORY) as room, serving(Path(room) / "stalls.db", 2) as served, connected(
-        served
-    ) as link:
-        link.sendall(client.sent)
-        if client.answer and link.recv(65536) != client.answer:
-            raise ConnectionError("another answer")
-        over = threading.Event()
-        holding = threading.Thread(target=hold, args=(client, link, over))
-        holding.start()
-        began = time.monotonic()
-        told = served.answer(get("/totals"), patience=PATIENCE)
-        waited = time.monotonic() - began
-        over.set()
-        holding.join()
-        return Stalled(waited, told, served.end())
+    with tempfile.TemporaryDirectory(dir=MEMORY) as room, serving(Path(room) / "stalls.db", 2) as served:
+        came = time.monotonic()
+        with connected(served) as link:
+            link.sendall(client.sent)
+            if client.answer and link.recv(65536) != client.answer:
+                raise ConnectionError("another answer")
+            over = threading.Event()
+            holding = threading.Thread(target=hold, args=(client, link, over))
+            holding.start()
+            began = time.monotonic()
+            told = served.answer(get("/totals"), patience=PATIENCE)
+            answered = time.monotonic()
+            over.set()
+            holding.join()
+            return Stalled(answered - came, answered - began, told, served.end())
 
 
 class AllStalled(NamedTuple):
@@ -95,7 +97,8 @@ def stalled(shared_room: Path) -> AllStalled:
 @pytest.mark.parametrize("client", CLIENTS, ids=[it.what for it in CLIENTS])
 def test_client_holds_up_the_next_one_until_the_deadline(client: Client, stalled: AllStalled) -> None:
     found = stalled.clients[client.what]
-    assert client.bound - 1 <= found.waited < client.bound + SLACK
+    assert client.bound - 1 <= found.held
+    assert found.waited < client.bound + SLACK
     assert (found.told, found.ended) == (TOTAL, (0, b"", b""))
 
 
