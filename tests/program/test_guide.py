@@ -32,8 +32,9 @@ def make_room(room: Path) -> Path:
     return room
 
 
-def output_of(commands: str, room: Path, port: int, path: str = "") -> str:
+def output_of(commands: str, room: Path, path: str = "") -> str:
     """What a block of commands prints, with these folders of programs or the usual ones."""
+    port = free_port()
     words = ["sh", "-c", re.sub(rf"(:|--port )({PORT}|{PUBLISHED})\b", rf"\g<1>{port}", commands)]
     environment = {**os.environ, "PATH": f"{room}:{path or os.environ['PATH']}"}
     ran = subprocess.run(
@@ -57,8 +58,7 @@ def room() -> Iterator[Path]:
 @pytest.fixture(scope="module")
 def outputs(request: pytest.FixtureRequest, room: Path) -> list[str]:
     """What the blocks of the guide print."""
-    port = free_port()
-    found = [output_of(commands, room, port) for commands, _ in BLOCKS]
+    found = [output_of(commands, room) for commands, _ in BLOCKS]
     if request.config.getoption("--write"):
         left = iter(found)
         page = PAGE.read_text(encoding="utf-8")
@@ -93,7 +93,7 @@ def test_guide_hides_no_program_that_is_missing(name: str, outputs: list[str], r
     """Who follows it without a program sees that it isn't there."""
     (commands,) = [it for it, _ in BLOCKS if name in it]
     (room / "museum.tex").unlink(missing_ok=True)
-    printed = output_of(commands, room, int(PORT), path_without(name, tmp_path))
+    printed = output_of(commands, room, path_without(name, tmp_path))
     assert re.search(f"{name}: .*not found|museum.tex: No such file", printed)
 
 
@@ -105,7 +105,7 @@ def test_first_command_of_readme(tmp_path: Path) -> None:
     (commands, printed), *_ = READ_ME
     first, second = commands.splitlines()
     *answers, last = printed.splitlines(keepends=True)
-    assert output_of(first, make_room(tmp_path), int(PORT)) == "".join(answers)
+    assert output_of(first, make_room(tmp_path)) == "".join(answers)
     assert second == "rt ci" and re.fullmatch(r"[0-9]+ passed, 0 failed\n", last)
 
 
@@ -113,7 +113,7 @@ def test_tree_of_readme(tmp_path: Path) -> None:
     """It is the beginning of what the commands above it print, also of a second run over the same store."""
     commands, tree = READ_ME[1]
     make_room(tmp_path)
-    runs = [output_of(f"{commands}./thesaurus --db sample.db check", tmp_path, int(PORT)) for _ in range(2)]
+    runs = [output_of(f"{commands}./thesaurus --db sample.db check", tmp_path) for _ in range(2)]
     assert tree and runs[0].startswith(tree)
     assert runs[0] == runs[1]
 
@@ -127,5 +127,5 @@ def operating_room(tmp_path_factory: pytest.TempPathFactory) -> Path:
 def test_block_of_operating_succeeds(commands: str, operating_room: Path) -> None:
     # (what is installed is the program that is tested, and not another build)
     given = commands.replace("tools/install ", f'tools/install --program "{built()}" ')
-    printed = output_of(f"set -e\n{given}echo succeeded", operating_room, int(PORT))
+    printed = output_of(f"set -e\n{given}echo succeeded", operating_room)
     assert printed.endswith("succeeded\n")
