@@ -316,8 +316,8 @@ INTERRUPTED: dict[str, tuple[list[str], int, bytes]] = {
 
 
 def wait_for_reading(pid: int) -> None:
-    """Waits until a program reads standard input, or for ten seconds."""
-    end = time.monotonic() + 10
+    """Waits until a program reads standard input, or for two minutes."""
+    end = time.monotonic() + 120
     while time.monotonic() < end:
         state = Path(f"/proc/{pid}/wchan").read_text(encoding="ascii")
         if "pipe" in state and "read" in state:

@@ -17,7 +17,7 @@ from office import SKOS, TOOLS, TYPE
 
 FAULT, USAGE = 3, 2
 # How many seconds a tool may take.
-SOON = 20
+SOON = 120
 SECRET = "geheim"
 TOTALS, REFUSAL = {"accepted": 1, "standing": 1, "withdrawn": 0}, {"no": "UnknownResource"}
 EXPORT = f"<http://a.example/1> <{TYPE}> <{SKOS}ConceptScheme> .\n<http://a.example/2> <{TYPE}> <{SKOS}Concept> .\n"

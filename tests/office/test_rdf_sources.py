@@ -152,4 +152,4 @@ def test_a_gigabyte_of_nothing(tmp_path: Path, ending: str) -> None:
     ran, use = tool_with_use("from-skos", path, "--lang", "en", "--drop", "-o", tmp_path / "script")
     assert (ran.status, ran.out) == (USAGE, b"") and ran.err.count(b"\n") == 1, ran.err
     assert b"a megabyte without the end of a line" in ran.err or b"more than 256 megabytes" in ran.err
-    assert use.seconds < 5 and use.memory < 500 << 20 and not (tmp_path / "script").exists()
+    assert use.seconds < 20 and use.memory < 500 << 20 and not (tmp_path / "script").exists()
