@@ -3,26 +3,25 @@ them, is checked in seconds; the related links take little memory, and edits lit
 from __future__ import annotations
 
 import contextlib
-import re
 import sqlite3
-import subprocess
+import tempfile
 import time
 from collections.abc import Iterator
 from pathlib import Path
 from typing import NamedTuple
 
 import pytest
-from program import Ended, built, lines_of, over, values_of
+from program import Ended, built, lines_of, measured, over, values_of
 
 CONCEPTS = range(2, 20_002)
 # How long a check may take, on a machine that does other things too; and the edits with the store's opening.
 CHECK_SECONDS, EDIT_SECONDS = 30, 60
-# The memory of the related links, in KiB.
-MOST_MEMORY = 65_536
+# The memory of the related links, in bytes.
+MOST_MEMORY = 64 << 20
 
 
 class Measured(NamedTuple):
-    """How the check of a store ended, after how many seconds, and its peak memory in KiB."""
+    """How the check of a store ended, after how many seconds, and its peak memory in bytes."""
 
     ended: Ended
     seconds: float
@@ -44,17 +43,13 @@ def related_links() -> Iterator[tuple[int, int, int]]:
 
 
 def measure_check(path: Path) -> Measured:
-    began, peak = time.monotonic(), 0
-    with subprocess.Popen([built(), "--db", path, "check"], stdout=subprocess.PIPE, stderr=subprocess.PIPE) as program:
-        while program.poll() is None:
-            with contextlib.suppress(OSError):
-                held = re.search(r"VmHWM:\s*(\d+) kB", Path(f"/proc/{program.pid}/status").read_text(encoding="ascii"))
-                peak = max(peak, int(held[1])) if held else peak
-            if time.monotonic() - began > 10 * CHECK_SECONDS:
-                program.kill()
-            time.sleep(0.01)
-        out, err = program.communicate()
-    return Measured(Ended(program.returncode, out, err), time.monotonic() - began, peak)
+    with tempfile.TemporaryFile() as out, tempfile.TemporaryFile() as err:
+        began = time.monotonic()
+        status, use = measured([built(), "--db", path, "check"], stdout=out, stderr=err)
+        seconds = time.monotonic() - began
+        for it in (out, err):
+            it.seek(0)
+        return Measured(Ended(status, out.read(), err.read()), seconds, use.memory)
 
 
 @pytest.fixture(scope="module")
@@ -75,11 +70,11 @@ def layers(tmp_path_factory: pytest.TempPathFactory) -> tuple[Path, Measured, Me
 
 @pytest.mark.parametrize(("place", "links"), [(1, 99_000), (2, 199_000)], ids=["broader links", "all links"])
 def test_layers_are_checked_in_seconds(place: int, links: int, layers: tuple[Path, Measured, Measured]) -> None:
-    measured = layers[place]
-    assert isinstance(measured, Measured)
+    found = layers[place]
+    assert isinstance(found, Measured)
     sizes = b"ok resources=20001 labels=20001 links=%d accepted=0 withdrawn=0 moves=0\n" % links
-    assert measured.ended == (0, sizes, b"")
-    assert measured.seconds <= CHECK_SECONDS
+    assert found.ended == (0, sizes, b"")
+    assert found.seconds <= CHECK_SECONDS
 
 
 def test_related_links_take_little_memory(layers: tuple[Path, Measured, Measured]) -> None:
