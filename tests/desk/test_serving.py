@@ -255,7 +255,8 @@ def test_users_by_the_command_line(tmp_path: Path) -> None:
 def test_without_flask(tmp_path: Path) -> None:
     def run_bare(*words: object) -> subprocess.CompletedProcess[str]:
         line = [sys.executable, "-S", str(DESK), *map(str, words)]
-        return subprocess.run(line, capture_output=True, text=True, check=False, env={"PATH": os.environ["PATH"]})
+        environment = {"PATH": os.environ["PATH"], "PYTHONDONTWRITEBYTECODE": "1"}
+        return subprocess.run(line, capture_output=True, text=True, check=False, env=environment)
 
     assert run_bare("--help").returncode == 0
     ran = run_bare("--db", tmp_path / "x.db", "--alone", "anna")

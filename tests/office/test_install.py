@@ -48,10 +48,11 @@ def copy_tree(tree: Path) -> None:
     tree.mkdir()
     for part in PARTS:
         if (ROOT / part).is_dir():
-            shutil.copytree(ROOT / part, tree / part)
+            # (other tests write there meanwhile)
+            shutil.copytree(ROOT / part, tree / part, ignore=shutil.ignore_patterns("__pycache__"))
         else:
             shutil.copy(ROOT / part, tree / part)
-    (tree / "tools" / "__pycache__").mkdir(exist_ok=True)
+    (tree / "tools" / "__pycache__").mkdir()
     (tree / "tools" / "__pycache__" / "left.pyc").touch()
 
 
