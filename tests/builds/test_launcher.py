@@ -22,7 +22,7 @@ NUMBER = """//! A number.
 ghost use Rattle.std.specs.Prelude.{◌≡◌};
 
 /// Returns the number.
-pub fn number() -> u8
+pub fn number() -> u64
     ensures { result ≡ 5 }
 {
     5
@@ -161,8 +161,8 @@ def story(tmp_path_factory: pytest.TempPathFactory) -> Story:
         calls["a body that its contract forbids"] = it.call(elsewhere)
         it.set_number(OTHER, 6)
         calls["after a change"] = it.call(elsewhere)
-        # (a number that no earlier run has proved, most likely)
-        number = random.randrange(10, 256)
+        # (a number that no earlier run has proved)
+        number = random.randrange(10, 1 << 40)
         it.set_number(NUMBER.replace("5", str(number)), number)
         interrupted = it.interrupt()
         calls["after an interruption"] = it.call(elsewhere)
