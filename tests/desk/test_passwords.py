@@ -2,6 +2,7 @@
 from __future__ import annotations
 
 import json
+import re
 import threading
 from pathlib import Path
 
@@ -91,7 +92,9 @@ def test_forged_cookies_of_known_browsers(site: Site) -> None:
     assert devices.find(good, "ben") and not devices.find(good, "ina")
     for cookie in (None, "", good[:-1], f"{good}x", site.cookie_of("ben"), "e30.x", "é"):
         assert devices.find(cookie, "ben") == ""
-    assert "ben" not in good
+    named, device = devices.serializer.loads(good)
+    # (the random part may have any letters)
+    assert "ben" not in named and re.fullmatch(r"[\w-]{16}", device)
 
 
 def test_many_names_from_one_address(site: Site) -> None:
