@@ -78,7 +78,10 @@ def pages_of(site: Site, numbers: list[int]) -> list[str]:
                 "/login?next=/",
                 "/languages?next=",
                 "/users?was=add&name=",
-                "/changes?user=",
+                "/changes?by=",
+                "/changes?kind=",
+                "/changes?concept=",
+                "/changes.csv?by=",
                 "/changes/1/back?next=/",
                 "/",
             )
