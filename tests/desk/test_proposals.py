@@ -135,7 +135,8 @@ def test_a_proposal_that_is_refused_stays_open(site: Site, rita: Client) -> None
     made = propose(rita, concept=str(number(site, "Harps")), kind="pref", text="Violins")
     answer = site.client("ben").post(f"/proposals/{made}/accept", {"form": "accept"})
     assert answer.status_code == 409 and "Violins" in text_of(answer)
-    assert "open" in text_of(rita.get(f"/proposals/{made}"))
+    proposal = site.desk.proposals.get(made)
+    assert proposal and proposal.state == "open"
 
 
 def test_withdrawn_by_its_author_alone(site: Site, rita: Client) -> None:
