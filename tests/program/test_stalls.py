@@ -1,8 +1,8 @@
 """Measures how long a client that stalls holds up the next one: if it is silent, if its head or its body drips, and if
 it stays or drips after its answer. The server must give it up at the deadline that docs/HTTP.md names, neither later
 nor sooner, and end with 0 after the count of connections. One more client is late with its request and doesn't read its
-answer. Each client has a server of its own, and all stall at the same time, for half a minute, the last one for a
-minute and a half."""
+answer. Each client has a server of its own, and all stall at the same time, for half a minute, the last one for more
+than a minute."""
 from __future__ import annotations
 
 import contextlib
