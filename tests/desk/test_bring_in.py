@@ -98,8 +98,24 @@ def test_typed_rows_are_corrected_below_what_they_would_do(anna: Client) -> None
     assert {("kind", ""), ("tag", "de"), ("columns", "term=alt@de")} <= set(
         re.findall(r'type="hidden" name="(\w+)" value="([^"]*)"', again)
     )
-    sent = send(anna, "/bring-in/table", rows.encode(), kind="", tag="de", columns=asked["columns"], typed=rows)
+    sent = send(anna, "/bring-in/table", rows.encode(), kind="", tag="de", columns=asked["columns"], typed="\n ")
     assert "1 row was refused" in text_of(sent) and "</textarea>" not in sent.text
+
+
+@pytest.mark.parametrize("form", ["postings", "table"])
+def test_a_file_and_typed_rows_together(site: Site, anna: Client, form: str) -> None:
+    """Neither is read, and the rows stay, so that they can be sent alone."""
+    harps = number(site, "Harps")
+    rows, file = (f"key,record,concept\r\n{key},Pedal harp {key},{harps}" for key in ("t1", "t2"))
+    page = send(anna, f"/bring-in/{form}", file.encode(), tag="en", typed=rows)
+    assert (
+        page.status_code == 409 and f'id="{form}-typed-why"' in page.text and f'id="{form}-file-why"' not in page.text
+    )
+    assert "A file and typed rows came together, so neither was read." in text_of(page)
+    assert f"{rows}</textarea>" in page.text and '<details class="more" open>' in page.text
+    assert not site.desk.history.recent() and not site.desk.mirror.postings.of_record("Pedal harp t2")
+    alone = anna.post(f"/bring-in/{form}", {"form": form, "tag": "en", "typed": rows})
+    assert alone.status_code == 200 and "Pedal harp t2" not in alone.text
 
 
 def test_an_indexer_brings_postings_and_no_tables(site: Site) -> None:

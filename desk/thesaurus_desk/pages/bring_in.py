@@ -41,6 +41,12 @@ def keep(what: object) -> str:
     return the_shelf().keep(person().name, what)
 
 
+def has_two() -> bool:
+    """Whether a form has a file and typed rows: nobody knows which of them is meant."""
+    sent = request.files.get("file")
+    return bool(sent and sent.filename and request.form.get("typed", "").strip())
+
+
 def file_of_form() -> tuple[str, bytes]:
     """Returns the name and the bytes of the file that a form has, or of the text typed in its place."""
     sent = request.files.get("file")
@@ -80,6 +86,8 @@ def refused(form: str, text: str, field: str | None = None) -> Any:
 @role("indexer", LARGEST)
 def bring_postings() -> Any:
     """Imports a posting file, and shows what came of its rows."""
+    if has_two():
+        return refused("postings", say("bring_in.two"), "typed")
     name, data = file_of_form()
     data = data.removeprefix(b"\xef\xbb\xbf")
     heading = data.partition(b"\n")[0].strip().replace(b'"', b"")
@@ -133,6 +141,8 @@ def plain(reason: str) -> str:
 @role("editor", LARGEST)
 def preview_table() -> Any:
     """Shows row by row what a table would do."""
+    if has_two():
+        return refused("table", say("bring_in.two"), "typed")
     name, data = file_of_form()
     if not the_mirror().numbers("scheme"):
         return refused("table", say("bring_in.no_scheme"))
