@@ -46,7 +46,7 @@ class Ending:
 class Filter:
     """Which plans are meant: of a user, from a time on, before a time, with one of these requests. None: of any.
 
-    Times are beginnings of times in UTC, as 2026-11 or 2026-11-28T10."""
+    Times are as the journal writes them, or beginnings of such: 2026-11 or 2026-11-28T10, in UTC."""
 
     user: str | None = None
     since: str | None = None
