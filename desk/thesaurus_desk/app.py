@@ -6,9 +6,9 @@ from importlib import import_module
 from typing import Any
 
 from flask import Flask, current_app, g, request
-from markupsafe import Markup
 from werkzeug.exceptions import HTTPException
 
+from thesaurus_desk.clock import distance_now, time_element
 from thesaurus_desk.context import link, page_number, person, say, tags, term, the_desk, the_mirror, the_settings
 from thesaurus_desk.entry.checks import form_token, install_checks, refusal
 from thesaurus_desk.entry.guard import DeskApp
@@ -86,7 +86,7 @@ def install_words(app: Flask) -> None:
     app.jinja_env.globals.update(
         _=say, term=term, link=link, time=time_element, token=form_token, language_name=language_name, said=said
     )
-    app.jinja_env.globals["posting_name"] = posting_name
+    app.jinja_env.globals.update(posting_name=posting_name, distance_now=distance_now)
 
     @app.context_processor
     def context() -> dict[str, Any]:
@@ -131,11 +131,6 @@ def site_name() -> str:
     if not person().name and not the_settings().is_public:
         return say("shell.site")
     return " · ".join(term(it) for it in the_mirror().numbers("scheme")[:3]) or say("shell.site")
-
-
-def time_element(at: str) -> Markup:
-    """Returns a time of the journal as an element: in UTC, as it says; a script shows it in the reader's zone."""
-    return Markup('<time datetime="{}">{} UTC</time>').format(at, at[:16].replace("T", " "))
 
 
 def install_errors(app: Flask) -> None:

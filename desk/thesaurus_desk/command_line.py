@@ -11,7 +11,8 @@
   tools/desk check --db museum.db
         compares the desk's journal with the store
 
-The journal is museum-desk.sqlite beside museum.db. No other program may have the store open meanwhile.
+The journal is museum-desk.sqlite beside museum.db. No other program may have the store open meanwhile. Days and times
+on pages are in this machine's time zone, or in that of the environment's TZ, as TZ=Europe/Vienna.
 
 Exit status: 0 done, 1 refused or something differs, 2 usage, 3 a fault: the store is in use or of another version, say.
 """

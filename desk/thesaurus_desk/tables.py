@@ -13,7 +13,7 @@ from thesaurus_desk.named import LONGEST_PLAN, NamedRun
 from thesaurus_desk.performing import Desk, Outcome
 from thesaurus_desk.row_checks import RowChecks
 from thesaurus_desk.words import Words
-from thesaurus_tools.command_line import ToolError
+from thesaurus_tools.files import TableError
 from thesaurus_tools.finding import RowError
 from thesaurus_tools.headings import Column, find_columns, read_choices
 from thesaurus_tools.row_running import RowPlan, with_others
@@ -53,22 +53,25 @@ class TableRun:
 
 
 def read_sent_table(name: str, data: bytes, columns: str, options: TableOptions) -> TableRun:
-    """Returns a table, before its rows are looked at. Raises ToolError for what is no table, with its line."""
+    """Returns a table, before its rows are looked at. Raises TableError for what is no table, and ColumnsError."""
     with tempfile.TemporaryDirectory() as folder:
         path = Path(folder, "table" + (Path(name).suffix.lower() if Path(name).suffix.isascii() else ""))
         path.write_bytes(data)
-        try:
-            heading, *rows = read_table(path)
-        except ToolError as error:
-            raise ToolError(str(error).replace(str(path), name), error.status) from None
+        heading, *rows = read_table(path)
     # (a text without = would be taken for a file's name)
     choices = read_choices(columns if "=" in columns else f"{columns}=") if columns.strip() else {}
     found = find_columns(heading.cells, options.lang, choices)
     return TableRun(name, heading.cells, found, rows, options)
 
 
+def table_error_in_words(error: TableError, name: str, words: Words) -> str:
+    """Returns why a file isn't read as a table in the reader's language."""
+    where = words("tables.row", name=name, row=error.line) if error.line else name
+    return words(f"tables.{error.key}", where=where, **error.values)
+
+
 def plan_rows(run: TableRun, mirror: Mirror, bringer: Bringer) -> None:
-    """Notes what the rows ask for, by the store as it is now, and why some can't be done."""
+    """Notes what the rows ask for, by the store as it is now, and why some can't be done. Raises NewConceptsError."""
     _, plans = plan_table(MirrorStore(mirror), run.columns, run.rows, run.options)
     checks = RowChecks(mirror)
     run.plans = with_reasons(plans, lambda it: reason_of(it, bringer, checks))

@@ -13,12 +13,19 @@ from typing import Any
 from thesaurus_desk.named import NamedRun
 from thesaurus_desk.performing import Desk, Outcome
 from thesaurus_desk.skos_reports import Findings, by_rules, refused_lines
-from thesaurus_tools.command_line import REFUSED, ToolError
 
 TOOLS = Path(__file__).resolve().parents[2] / "tools"
 # The seconds that a conversion may take, and the lines of its report that are shown.
 LONGEST, SHOWN = 120, 200
 FORMS = {".nt": "nt", ".ttl": "turtle", ".rdf": "xml", ".xml": "xml", ".jsonld": "json-ld", ".json": "json-ld"}
+
+
+class SkosError(Exception):
+    """Why a file isn't read as a vocabulary: the key of its text, its values, and what the converter said."""
+
+    def __init__(self, key: str, said: str = "", **values: object) -> None:
+        super().__init__(f"{key} {said}")
+        self.key, self.said, self.values = key, said, values
 
 
 class StoreBusy(Exception):
@@ -62,18 +69,18 @@ class SkosRun:
 
 
 def read_skos(desk: Desk, name: str, data: bytes, options: SkosOptions) -> SkosRun:
-    """Converts a vocabulary, and tries it on a copy. Raises ToolError with the report of a conversion that fails, and
+    """Converts a vocabulary, and tries it on a copy. Raises SkosError, with the report of a conversion that fails, and
     StoreBusy."""
     suffix = Path(name).suffix.lower()
     if suffix not in FORMS:
-        raise ToolError(f"{name}: the name of a vocabulary ends with {', '.join(FORMS)}", REFUSED)
+        raise SkosError("name", name=name, ends=", ".join(FORMS))
     with tempfile.TemporaryDirectory() as folder:
         path = Path(folder, f"vocabulary{suffix}")
         path.write_bytes(data)
         ran = run_tool("from-skos", str(path), *options.words())
         report = [it.removeprefix("from-skos: ") for it in ran.stderr.replace(str(path), name).splitlines()]
         if ran.returncode or not ran.stdout:
-            raise ToolError("\n".join(report[-SHOWN:]) or "the converter failed", REFUSED)
+            raise SkosError("failed", "\n".join(report[-SHOWN:]), name=name)
         script = Path(folder, "script.jsonl")
         script.write_text(ran.stdout, encoding="utf-8")
         run = SkosRun(name, [json.loads(it) for it in ran.stdout.splitlines()], by_rules(report))
@@ -82,17 +89,17 @@ def read_skos(desk: Desk, name: str, data: bytes, options: SkosOptions) -> SkosR
 
 
 def run_tool(tool: str, *words: str) -> subprocess.CompletedProcess[str]:
-    """Runs a tool, at most for some time."""
+    """Runs a tool, at most for some time. Raises SkosError."""
     try:
         return subprocess.run(
             [sys.executable, TOOLS / tool, *words], capture_output=True, encoding="utf-8", timeout=LONGEST, check=False
         )
     except subprocess.TimeoutExpired:
-        raise ToolError(f"it took more than {LONGEST} seconds: use tools/{tool} on the command line", REFUSED) from None
+        raise SkosError("slow", seconds=LONGEST, tool=f"tools/{tool}") from None
 
 
 def try_on_copy(desk: Desk, folder: Path, script: Path) -> list[str]:
-    """Returns what a copy of the store refuses of a script. Raises StoreBusy."""
+    """Returns what a copy of the store refuses of a script. Raises StoreBusy and SkosError."""
     copy = folder / "copy.db"
     with desk.alone() as is_free:
         if not is_free:

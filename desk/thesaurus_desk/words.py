@@ -14,7 +14,7 @@ FOLDER = Path(__file__).parent / "words"
 GROUPING = {"en": ",", "de": ".", "fr": "\u202f"}
 SINGULAR = {"en": (1,), "de": (1,), "fr": (0, 1)}
 # The placeholders that hold counts: their digits are grouped, and `n` chooses between `one` and `other`.
-COUNTS = ("n", "of", "more")
+COUNTS = ("n", "of", "more", "rows", "columns")
 PLURAL = {"one", "other"}
 
 Text = str | dict[str, str]

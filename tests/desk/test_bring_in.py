@@ -4,12 +4,15 @@ from __future__ import annotations
 import csv
 import io
 import re
+import sys
+import zipfile
 from concurrent.futures import ThreadPoolExecutor
 from typing import Any
 
 import pytest
 from clients import Client, Site, text_of
 from test_changes import number
+from thesaurus_desk.words import LANGUAGES, Words
 
 
 @pytest.fixture
@@ -98,8 +101,24 @@ def test_typed_rows_are_corrected_below_what_they_would_do(anna: Client) -> None
     assert {("kind", ""), ("tag", "de"), ("columns", "term=alt@de")} <= set(
         re.findall(r'type="hidden" name="(\w+)" value="([^"]*)"', again)
     )
-    sent = send(anna, "/bring-in/table", rows.encode(), kind="", tag="de", columns=asked["columns"], typed=rows)
+    sent = send(anna, "/bring-in/table", rows.encode(), kind="", tag="de", columns=asked["columns"], typed="\n ")
     assert "1 row was refused" in text_of(sent) and "</textarea>" not in sent.text
+
+
+@pytest.mark.parametrize("form", ["postings", "table"])
+def test_a_file_and_typed_rows_together(site: Site, anna: Client, form: str) -> None:
+    """Neither is read, and the rows stay, so that they can be sent alone."""
+    harps = number(site, "Harps")
+    rows, file = (f"key,record,concept\r\n{key},Pedal harp {key},{harps}" for key in ("t1", "t2"))
+    page = send(anna, f"/bring-in/{form}", file.encode(), tag="en", typed=rows)
+    assert (
+        page.status_code == 409 and f'id="{form}-typed-why"' in page.text and f'id="{form}-file-why"' not in page.text
+    )
+    assert "A file and typed rows came together, so neither was read." in text_of(page)
+    assert f"{rows}</textarea>" in page.text and '<details class="more" open>' in page.text
+    assert not site.desk.history.recent() and not site.desk.mirror.postings.of_record("Pedal harp t2")
+    alone = anna.post(f"/bring-in/{form}", {"form": form, "tag": "en", "typed": rows})
+    assert alone.status_code == 200 and "Pedal harp t2" not in alone.text
 
 
 def test_an_indexer_brings_postings_and_no_tables(site: Site) -> None:
@@ -268,7 +287,69 @@ def test_a_table_in_the_readers_language(site: Site, anna: Client) -> None:
     page = text_of(send(anna, "/bring-in/table", b"concept,alt@en\nHarps,Arched harps\nNone,x\n"))
     assert "hinzugefügt" in page and "Nichts von dieser Art (Begriff) heißt „None“" in page
     refused = text_of(send(anna, "/bring-in/table", b"concept,alt@en\nHarps,a,b\n", "liste.csv"))
-    assert "liste.csv:2: more values than columns" in refused and "/tmp" not in refused
+    assert "liste.csv, Zeile 2: Hier sind mehr Werte als Spalten mit einer Überschrift." in refused
+
+
+def archive(name: str, data: bytes = b"") -> bytes:
+    """Returns an archive with one part."""
+    out = io.BytesIO()
+    with zipfile.ZipFile(out, "w", zipfile.ZIP_DEFLATED) as parts:
+        parts.writestr(name, data)
+    return out.getvalue()
+
+
+# Files that aren't read as tables, with the line of each, and the values that its text has.
+NO_TABLES: dict[str, tuple[bytes, int, dict[str, object]]] = {
+    "no_text": (b"term\nKotos\n\xff\n", 3, {"encoding": "UTF-8"}),
+    "nul": (b"term\na\0b\n", 2, {}),
+    "csv": (b'term\n"open\n', 2, {}),
+    "empty": (b"\n", 0, {}),
+    "many": (b"," * 1001, 1, {"rows": 200_000, "columns": 1_000}),
+    "wide": (b"term\nKotos,x\n", 2, {}),
+    "failed_formula": (b"term\n#REF!\n", 2, {"cell": "#REF!"}),
+    "unpacks": (archive("xl/workbook.xml", bytes(2 << 20)), 0, {"megabytes": 2}),
+    "declares": (archive("content.xml", b"<!DOCTYPE a><a/>"), 0, {"part": "content.xml"}),
+    "damaged": (b"PK\x03\x04x", 0, {}),
+    "other_archive": (archive("other"), 0, {}),
+}
+
+
+@pytest.mark.parametrize("language", LANGUAGES)
+@pytest.mark.parametrize("key", NO_TABLES)
+def test_why_a_file_is_no_table_in_the_readers_language(
+    anna: Client, monkeypatch: pytest.MonkeyPatch, key: str, language: str
+) -> None:
+    monkeypatch.setattr("thesaurus_tools.spreadsheets.MOST_UNPACKED", 1 << 20)
+    anna.http.set_cookie("localhost", "pages", language)
+    data, line, values = NO_TABLES[key]
+    words = Words(language)
+    where = words("tables.row", name="list.csv", row=line) if line else "list.csv"
+    page = send(anna, "/bring-in/table", data, "list.csv", tag="en")
+    assert page.status_code == 409 and 'id="table-file-why"' in page.text
+    assert words(f"tables.{key}", where=where, **values) in text_of(page)
+
+
+@pytest.mark.parametrize(
+    ("form", "module", "part"), [("ODS", "odf", "content.xml"), ("XLSX", "openpyxl", "xl/workbook.xml")]
+)
+def test_a_form_that_this_machine_lacks(
+    anna: Client, monkeypatch: pytest.MonkeyPatch, form: str, module: str, part: str
+) -> None:
+    modules: dict[str, Any] = sys.modules
+    monkeypatch.setitem(modules, module, None)
+    page = text_of(send(anna, "/bring-in/table", archive(part, b"<a/>"), "list.ods", tag="en"))
+    assert f"list.ods: {form} can’t be read here, since python3-{module} isn’t installed." in page
+    assert "Save the table as CSV." in page
+
+
+@pytest.mark.parametrize(
+    ("language", "part"), [("en", "New concepts need a language"), ("de", "Neue Begriffe brauchen")]
+)
+def test_new_concepts_without_a_language(anna: Client, language: str, part: str) -> None:
+    anna.http.set_cookie("localhost", "pages", language)
+    page = send(anna, "/bring-in/table", b"Begriff\nKotos\n", kind="new", tag=" ")
+    assert page.status_code == 409 and 'id="table-tag-why"' in page.text
+    assert part in text_of(page) and "--" not in text_of(page)
 
 
 @pytest.mark.parametrize(
@@ -343,10 +424,26 @@ def text_of_part(markup: str) -> str:
     return re.sub("<[^>]*>", "", markup)
 
 
-@pytest.mark.parametrize(("name", "data"), [("a.ttl", b"no turtle <"), ("a.nt", b""), ("a.docx", b"x")])
-def test_no_vocabulary(anna: Client, name: str, data: bytes) -> None:
+@pytest.mark.parametrize(
+    ("name", "data", "part"),
+    [
+        ("a.ttl", b"no turtle <", "a.ttl lässt sich nicht umwandeln."),
+        ("a.nt", b"", "a.nt lässt sich nicht umwandeln."),
+        ("a.docx", b"x", "a.docx: Der Name eines Vokabulars endet auf .nt, .ttl,"),
+    ],
+)
+def test_no_vocabulary(anna: Client, name: str, data: bytes, part: str) -> None:
+    """What the converter says besides is in English, and marked so."""
+    anna.http.set_cookie("localhost", "pages", "de")
     page = send(anna, "/bring-in/skos", data, name, tag="en")
-    assert page.status_code == 409 and 'role="alert"' in page.text
+    assert page.status_code == 409 and 'role="alert"' in page.text and part in text_of(page)
+    assert ('<span lang="en" dir="ltr">' in page.text) is not name.endswith(".docx")
+
+
+def test_a_conversion_that_takes_too_long(anna: Client, monkeypatch: pytest.MonkeyPatch) -> None:
+    monkeypatch.setattr("thesaurus_desk.vocabularies.LONGEST", 0.001)
+    page = send(anna, "/bring-in/skos", SKOS.encode(), "places.ttl", tag="en")
+    assert page.status_code == 409 and "Use tools/from-skos on the command line." in text_of(page)
 
 
 @pytest.mark.needs("rdflib")

@@ -364,3 +364,20 @@ def test_what_was_taken_back_is_found(site: Site, anna: Client) -> None:
     anna.post(f"/changes/{plan}/back", {"form": "back"})
     shown = re.search(r'<a href="([^"]*)">takes an earlier change back', anna.get("/changes?by=anna").text)
     assert shown and f'<li id="plan-{plan}">' in anna.get(shown[1].partition("#")[0]).text
+
+
+def test_the_first_page_shows_what_has_changed(site: Site, anna: Client) -> None:
+    """A refused attempt, a posting that was there and a posting file without a new row are in the journal alone."""
+    harps, heading = number(site, "Harps"), "key,record,concept\n"
+    post = {"do": "post", "key": "h-1", "record": "Pedal harp 7", "concept": harps}
+    perform(site, label(site, "Fine violins"))
+    perform(site, post)
+    assert site.desk.bring_in("ben", f"{heading}h-2,Pedal harp 8,{harps}\n".encode(), "some.csv").plan
+    assert site.desk.perform("ben", "add_term", [label(site, "Fine violins")]).state == "refused"
+    perform(site, post)
+    assert site.desk.bring_in("ben", f"{heading}h-3,Pedal harp 9,99999\n".encode(), "none.csv").plan
+    parts = ("Fine violins", "Pedal harp 7", "some.csv", "none.csv", "refused")
+    home, journal = (text_of(anna.get(path)) for path in ("/", "/changes"))
+    assert [it in home for it in parts] == [True, True, True, False, False], home
+    assert (home.count("Fine violins"), home.count("Pedal harp 7")) == (1, 1) and "already indexed" not in home
+    assert all(it in journal for it in (*parts, "already indexed")), journal

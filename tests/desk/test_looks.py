@@ -4,7 +4,7 @@ from __future__ import annotations
 import base64
 import json
 from collections.abc import Iterator
-from datetime import datetime, timedelta, timezone
+from datetime import datetime, timedelta
 from pathlib import Path
 from urllib.parse import urlencode
 
@@ -70,8 +70,10 @@ def served(
     store, users = room / "museum.db", room / "users.json"
     store.write_bytes(instruments_store.read_bytes())
     users.write_bytes(users_file.read_bytes())
-    with running("--db", store, "--users", users, "--program", program) as desk:
-        yield desk
+    with pytest.MonkeyPatch.context() as patch:
+        patch.setenv("TZ", "CET-1CEST,M3.5.0,M10.5.0/3")
+        with running("--db", store, "--users", users, "--program", program) as desk:
+            yield desk
 
 
 def root_of(desk: Running) -> str:
@@ -288,16 +290,18 @@ def test_on_paper(anna: Browser) -> None:
     assert base64.b64decode(printed).startswith(b"%PDF-")
 
 
-def test_times_in_the_reader_s_zone(served: Running) -> None:
+@pytest.mark.parametrize(("zone", "is_said"), [("Europe/Vienna", False), ("Asia/Tokyo", True)])
+def test_times_are_those_of_the_office(served: Running, zone: str, is_said: bool) -> None:
+    """As the page's language writes them; with the zone, where the reader's clock shows another time."""
     with browsing(root_of(served), words=("--lang=en-GB",)) as browser:
-        browser.driver.execute_cdp_cmd("Emulation.setTimezoneOverride", {"timezoneId": "Asia/Tokyo"})
+        browser.driver.execute_cdp_cmd("Emulation.setTimezoneOverride", {"timezoneId": zone})
         come_in(browser, "anna")
         browser.go("/users")
         time = browser.find("time")
-        assert time.get_attribute("datetime").endswith("Z")
-        utc = datetime.fromisoformat(str(time.get_attribute("datetime")))
-        there = utc.astimezone(timezone(timedelta(hours=9)))
+        there = datetime.fromisoformat(str(time.get_attribute("datetime")))
+        assert there.utcoffset() in (timedelta(hours=1), timedelta(hours=2))
         assert f"{there:%M}" in time.text and f"{there:%d}" in time.text and f"{there.hour % 12 or 12:02}" in time.text
+        assert f"{there:%b}" in time.text and ("UTC+" in time.text) is is_said
 
 
 def test_the_scripts_find_what_they_look_for(anna: Browser) -> None:

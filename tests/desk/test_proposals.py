@@ -114,7 +114,7 @@ def test_a_decision_has_the_name_of_who_decided(site: Site, rita: Client) -> Non
     site.client("ben").post(f"/proposals/{made}/decline", {"form": "decline", "word": "We have it."})
     for path in (f"/proposals/{made}", "/proposals?state=declined"):
         page = " ".join(text_of(rita.get(path)).split())
-        assert re.search(r"declined [-0-9: ]+UTC ben: We have it\.", page), path
+        assert re.search(r"declined [-0-9: ]+ UTC\S* ben: We have it\.", page), path
     assert re.search(r"rita</span></p>", rita.get(f"/proposals/{made}").text), "she hasn't declined it"
 
 

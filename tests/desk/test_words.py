@@ -7,9 +7,10 @@ from pathlib import Path
 
 import pytest
 import thesaurus_desk
+import thesaurus_tools
 from markupsafe import Markup
 from thesaurus_desk.words import FOLDER, LANGUAGES, PLURAL, Words, best_language, texts_of
-from thesaurus_tools.sentences import ROWS
+from thesaurus_tools.sentences import ROWS, TABLES
 
 PACKAGE = Path(thesaurus_desk.__file__).parent
 # A key as the whole first argument of the call: those that are put together are tried by the pages' own tests.
@@ -72,6 +73,19 @@ def test_why_a_row_of_a_table_cant_be_done() -> None:
     its = {key.removeprefix("rows."): str(text) for key, text in texts_of("en").items() if key.startswith("rows.")}
     assert its.keys() == ROWS.keys()
     assert {key: placeholders(it) for key, it in its.items()} == {key: placeholders(it) for key, it in ROWS.items()}
+
+
+def test_why_a_file_is_no_table() -> None:
+    """The tools have the same reasons as the desk, which has its own advice, and says none of others' errors."""
+    its = {key.removeprefix("tables."): str(text) for key, text in texts_of("en").items() if key.startswith("tables.")}
+    assert its.keys() == {"row", *TABLES}
+    assert placeholders(its.pop("row")) == {"name", "row"}
+    unsaid = {"no_text": {"advice"}, "csv": {"error"}, "damaged": {"error", "form"}, "no_sheet": {"sheet", "sheets"}}
+    given = {key: placeholders(it) - unsaid.get(key, set()) for key, it in TABLES.items()}
+    assert {key: placeholders(it) for key, it in its.items()} == {key: it | {"where"} for key, it in given.items()}
+    tools = Path(thesaurus_tools.__file__).parent
+    raised = {key for it in tools.glob("*.py") for key in re.findall(r'TableError\(\s*"(\w+)"', it.read_text("utf-8"))}
+    assert raised == TABLES.keys()
 
 
 def files() -> list[Path]:

@@ -566,6 +566,7 @@ MANIFEST = {
 }
 FORMULA = '<table:table-cell table:formula="of:=1+1"/>'
 CELL = '<table:table-cell table:number-columns-repeated="{}"><text:p>x</text:p></table:table-cell>'
+SAVE_AS_UTF_8 = "save the table as UTF-8, or name its encoding by --encoding, as latin-1"
 BOMB = b'<?xml version="1.0"?><!DOCTYPE a [<!ENTITY b "x"><!ENTITY c "&b;&b;">]><a>&c;</a>'
 
 
@@ -602,12 +603,12 @@ def test_hostile_archives(store: Path, tmp_path: Path, parts: dict[str, bytes], 
 @pytest.mark.parametrize(
     ("data", "says"),
     [
-        (b"", "no row"),
-        (b"number,pref@fr\n3,\xff\n", ":2: no UTF-8"),
-        (b"number,pref@fr\n3,a\0b\n", ":2: a NUL"),
-        (b'number,pref@fr\n3,"open\n', "unexpected end of data"),
+        (b"", ": no row: the first one names the columns"),
+        (b"number,pref@fr\n3,\xff\n", f":2: no UTF-8; {SAVE_AS_UTF_8}"),
+        (b"number,pref@fr\n3,a\0b\n", ":2: a NUL: no table of texts"),
+        (b'number,pref@fr\n3,"open\n', ":2: unexpected end of data"),
         (b"number,pref@fr\n3,a,b\n", ":2: more values than columns"),
-        (b"PK\x03\x04broken", "damaged ODS or XLSX"),
+        (b"PK\x03\x04broken", ": a damaged ODS or XLSX file: File is not a zip file"),
         (b"number,pref@fr\n3,#REF!\n", ":2: #REF!: a formula that failed"),
     ],
     ids=["empty", "no UTF-8", "NUL", "open quote", "too many cells", "cut archive", "formula"],
@@ -617,7 +618,7 @@ def test_hostile_texts(store: Path, tmp_path: Path, data: bytes, says: str) -> N
     path.write_bytes(data)
     ended = from_table(path, store)
     assert (ended.status, ended.out) == (2, b"")
-    assert says in ended.err.decode() and ended.err.count(b"\n") == 1
+    assert ended.err.decode() == f"from-table: {path}{says}\n"
 
 
 @pytest.mark.parametrize("name", ["from-table", "from-csv", "number-postings", "repost"])

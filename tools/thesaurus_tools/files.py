@@ -11,6 +11,7 @@ from collections.abc import Iterable, Iterator
 from pathlib import Path
 
 from thesaurus_tools.command_line import REFUSED, USAGE, ToolError
+from thesaurus_tools.sentences import TABLES
 
 # The most bytes of a table.
 MOST_BYTES = 64 << 20
@@ -18,6 +19,16 @@ BYTE_ORDER_MARKS = ((codecs.BOM_UTF8, "utf-8-sig"), (codecs.BOM_UTF16_LE, "utf-1
 SEPARATORS = ",;\t"
 # What an ODS or XLSX file begins with.
 ARCHIVE = b"PK\x03\x04"
+
+
+class TableError(ToolError):
+    """Why a file isn't read as a table: the key of its text in TABLES, by which others translate it, with its values,
+    and the line, or 0."""
+
+    def __init__(self, key: str, path: Path | str, line: int = 0, status: int = REFUSED, **values: object) -> None:
+        place = f"{path}:{line}" if line else f"{path}"
+        super().__init__(f"{place}: {TABLES[key].format(**values)}", status)
+        self.key, self.line, self.values = key, line, values
 
 
 def read_file(path: Path | str) -> bytes:
@@ -29,10 +40,10 @@ def read_file(path: Path | str) -> bytes:
 
 
 def read_table_file(path: Path | str) -> bytes:
-    """Returns the bytes of a table. Raises ToolError for a file that is too large for one."""
+    """Returns the bytes of a table. Raises TableError for a file that is too large for one."""
     with contextlib.suppress(OSError):
         if os.stat(path).st_size > MOST_BYTES:
-            raise ToolError(f"{path}: more than {MOST_BYTES >> 20} megabytes; cut the table into parts", USAGE)
+            raise TableError("large", path, status=USAGE, most=MOST_BYTES >> 20)
     return read_file(path)
 
 
@@ -45,14 +56,14 @@ def decode(path: Path | str, data: bytes, encoding: str = "", advice: str = "sav
         raise ToolError(f"no encoding is called {encoding}: latin-1, cp1252 and utf-16 are some", USAGE) from None
     except UnicodeDecodeError as error:
         line = data[: error.start].count(b"\n") + 1
-        raise ToolError(f"{path}:{line}: no {found.upper()}; {advice}", REFUSED) from None
+        raise TableError("no_text", path, line, encoding=found.upper(), advice=advice) from None
 
 
 def rows_of_text(path: Path | str, text: str) -> Iterator[tuple[int, list[str]]]:
     """Yields the line and the cells of each row of CSV: the first row shows whether commas, semicolons or tabs part
-    them. Raises ToolError with `FILE:LINE` for what is no table."""
+    them. Raises TableError with `FILE:LINE` for what is no table."""
     if "\0" in text:
-        raise ToolError(f"{path}:{text[: text.index(chr(0))].count(chr(10)) + 1}: a NUL: no table of texts", REFUSED)
+        raise TableError("nul", path, text[: text.index("\0")].count("\n") + 1)
     first = text.partition("\n")[0]
     reader = csv.reader(io.StringIO(text, newline=""), delimiter=max(SEPARATORS, key=first.count), strict=True)
     line = 1
@@ -61,12 +72,12 @@ def rows_of_text(path: Path | str, text: str) -> Iterator[tuple[int, list[str]]]
             yield line, cells
             line = reader.line_num + 1
     except csv.Error as error:
-        raise ToolError(f"{path}:{reader.line_num}: {error}", REFUSED) from None
+        raise TableError("csv", path, reader.line_num, error=error) from None
 
 
 def read_cells(path: Path | str) -> Iterator[tuple[int, list[str]]]:
     """Yields the line and the cells of each row of a table that isn't blank: of CSV, or of the first sheet of an ODS or
-    XLSX file. Raises ToolError with `FILE:LINE` for what is no table."""
+    XLSX file. Raises TableError with `FILE:LINE` for what is no table."""
     data, columns = read_table_file(path), 0
     if data.startswith(ARCHIVE):
         from thesaurus_tools.spreadsheets import read_workbook  # (few tables are no CSV)
@@ -78,7 +89,7 @@ def read_cells(path: Path | str) -> Iterator[tuple[int, list[str]]]:
         if any(it.strip() for it in cells):
             columns = columns or len(cells)
             if any(it.strip() for it in cells[columns:]):
-                raise ToolError(f"{path}:{line}: more values than columns", REFUSED)
+                raise TableError("wide", path, line)
             yield line, cells
 
 

@@ -46,6 +46,25 @@ REASONS = {
     "BadShape": "a member is missing, is one too many, or has another type",
 }
 
+# Why a file isn't read as a table. The desk has the same in its languages.
+TABLES = {
+    "large": "more than {most} megabytes; cut the table into parts",
+    "no_text": "no {encoding}; {advice}",
+    "nul": "a NUL: no table of texts",
+    "csv": "{error}",
+    "empty": "no row: the first one names the columns",
+    "many": "more than {rows} rows or {columns} columns",
+    "wide": "more values than columns",
+    "failed_formula": "{cell}: a formula that failed",
+    "no_value": "a formula without its value: save the table in a spreadsheet first",
+    "unpacks": "unpacks to {megabytes} megabytes: refused",
+    "declares": "{part} declares a document type: refused",
+    "damaged": "a damaged {form} file: {error}",
+    "other_archive": "an archive that is neither ODS nor XLSX",
+    "needs": "{form} needs Debian's {package}; or save the table as CSV",
+    "no_sheet": "no sheet {sheet!r}; it has {sheets}",
+}
+
 # Why a row of a table can't be done. The desk has the same in its languages.
 ROWS = {
     "no_deed": "nothing is called {cell}; there are new, change, translate, rename, move, merge, deprecate, post, "

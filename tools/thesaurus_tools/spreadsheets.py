@@ -8,8 +8,8 @@ from collections.abc import Iterable, Iterator
 from pathlib import Path
 from typing import Any, NamedTuple
 
-from thesaurus_tools.command_line import REFUSED, USAGE, ToolError
-from thesaurus_tools.files import ARCHIVE, decode, read_table_file, rows_of_text
+from thesaurus_tools.command_line import USAGE, ToolError
+from thesaurus_tools.files import ARCHIVE, TableError, decode, read_table_file, rows_of_text
 
 # The most bytes that a compressed file unpacks to, and the most rows and columns that are read.
 MOST_UNPACKED, MOST_ROWS, MOST_COLUMNS = 256 << 20, 200_000, 1_000
@@ -26,11 +26,12 @@ class Row(NamedTuple):
 
 
 def read_table(path: Path, encoding: str = "", sheet: str = "") -> list[Row]:
-    """Returns the rows of a table that aren't blank, the heading first. Raises ToolError for what is no table."""
+    """Returns the rows of a table that aren't blank, the heading first. Raises TableError for what is no table."""
     try:
         return rows_of_table(path, encoding, sheet)
-    except ToolError as error:
-        raise ToolError(str(error), USAGE if error.status == REFUSED else error.status) from None
+    except TableError as error:
+        error.status = USAGE
+        raise
 
 
 def rows_of_table(path: Path, encoding: str, sheet: str) -> list[Row]:
@@ -50,9 +51,9 @@ def rows_of_table(path: Path, encoding: str, sheet: str) -> list[Row]:
             rows.append(Row(line, row))
             check_row(path, rows[-1], len(rows[0].cells))
         if len(rows) > MOST_ROWS or len(row) > MOST_COLUMNS:
-            raise ToolError(f"{path}:{line}: more than {MOST_ROWS} rows or {MOST_COLUMNS} columns", REFUSED)
+            raise TableError("many", path, line, rows=MOST_ROWS, columns=MOST_COLUMNS)
     if not rows:
-        raise ToolError(f"{path}: no row: the first one names the columns", REFUSED)
+        raise TableError("empty", path)
     width = len(rows[0].cells)
     return [Row(it.line, (it.cells + [""] * width)[:width]) for it in rows]
 
@@ -60,9 +61,9 @@ def rows_of_table(path: Path, encoding: str, sheet: str) -> list[Row]:
 def check_row(path: Path, row: Row, width: int) -> None:
     """Refuses a row with more cells than columns, or with a formula that failed."""
     if any(row.cells[width:]):
-        raise ToolError(f"{path}:{row.line}: more values than columns", REFUSED)
+        raise TableError("wide", path, row.line)
     if failed := next((it for it in row.cells if it in FAILED), ""):
-        raise ToolError(f"{path}:{row.line}: {failed}: a formula that failed", REFUSED)
+        raise TableError("failed_formula", path, row.line, cell=failed)
 
 
 def without_guard(text: str) -> str:
@@ -77,16 +78,16 @@ def read_workbook(path: Path, data: bytes, sheet: str) -> Iterable[tuple[int, li
             names = set(archive.namelist())
             unpacked = sum(it.file_size for it in archive.infolist())
             if unpacked > MOST_UNPACKED:
-                raise ToolError(f"{path}: unpacks to {unpacked >> 20} megabytes: refused", REFUSED)
+                raise TableError("unpacks", path, megabytes=unpacked >> 20)
             for it in archive.infolist():
                 check_entry(path, archive, it)
     except (zipfile.BadZipFile, NotImplementedError, RuntimeError, EOFError, ValueError) as error:
-        raise ToolError(f"{path}: a damaged ODS or XLSX file: {error}", REFUSED) from None
+        raise TableError("damaged", path, form="ODS or XLSX", error=error) from None
     if "xl/workbook.xml" in names:
         return read_xlsx(path, data, sheet)
     if "content.xml" in names:
         return read_ods(path, data, sheet)
-    raise ToolError(f"{path}: an archive that is neither ODS nor XLSX", REFUSED)
+    raise TableError("other_archive", path)
 
 
 def check_entry(path: Path, archive: zipfile.ZipFile, entry: zipfile.ZipInfo) -> None:
@@ -95,7 +96,7 @@ def check_entry(path: Path, archive: zipfile.ZipFile, entry: zipfile.ZipInfo) ->
         with archive.open(entry) as part:
             # (in UTF-16 there are zeros between; and it may come after any number of comments)
             if b"<!DOCTYPE" in part.read().replace(b"\0", b""):
-                raise ToolError(f"{path}: {entry.filename} declares a document type: refused", REFUSED)
+                raise TableError("declares", path, part=entry.filename)
 
 
 def read_xlsx(path: Path, data: bytes, sheet: str) -> Iterator[tuple[int, list[str]]]:
@@ -103,7 +104,7 @@ def read_xlsx(path: Path, data: bytes, sheet: str) -> Iterator[tuple[int, list[s
     try:
         import openpyxl  # (Debian's python3-openpyxl; only these files need it)
     except ImportError:
-        raise ToolError(f"{path}: XLSX needs Debian's python3-openpyxl; or save the table as CSV", USAGE) from None
+        raise TableError("needs", path, status=USAGE, form="XLSX", package="python3-openpyxl") from None
     try:
         # (once for the values, and once for the formulas, which may lack their values)
         books = [openpyxl.load_workbook(io.BytesIO(data), read_only=True, data_only=it) for it in (True, False)]
@@ -111,12 +112,12 @@ def read_xlsx(path: Path, data: bytes, sheet: str) -> Iterator[tuple[int, list[s
         rows = zip(*(it[name].iter_rows(values_only=True) for it in books))
         for line, (values, written) in enumerate(rows, 1):
             if any(value is None and it is not None for value, it in zip(values, written)):
-                raise no_value(path, line)
+                raise TableError("no_value", path, line)
             yield line, [cell_text(it) for it in values]
-    except ToolError:
+    except TableError:
         raise
     except Exception as error:  # (openpyxl has no class of its own for damaged files)
-        raise ToolError(f"{path}: a damaged XLSX file: {type(error).__name__}: {error}", REFUSED) from None
+        raise TableError("damaged", path, form="XLSX", error=f"{type(error).__name__}: {error}") from None
 
 
 def read_ods(path: Path, data: bytes, sheet: str) -> Iterator[tuple[int, list[str]]]:
@@ -124,21 +125,21 @@ def read_ods(path: Path, data: bytes, sheet: str) -> Iterator[tuple[int, list[st
     try:
         from odf import opendocument, table, teletype  # (Debian's python3-odf; only these files need it)
     except ImportError:
-        raise ToolError(f"{path}: ODS needs Debian's python3-odf; or save the table as CSV", USAGE) from None
+        raise TableError("needs", path, status=USAGE, form="ODS", package="python3-odf") from None
     try:
         pages = {
             it.getAttribute("name"): it
             for it in opendocument.load(io.BytesIO(data)).spreadsheet.getElementsByType(table.Table)
         }
     except Exception as error:  # (odf passes on what its XML reader raises)
-        raise ToolError(f"{path}: a damaged ODS file: {type(error).__name__}: {error}", REFUSED) from None
+        raise TableError("damaged", path, form="ODS", error=f"{type(error).__name__}: {error}") from None
     line = 1
     for row in pages[choose_sheet(path, sheet, list(pages))].getElementsByType(table.TableRow):
         cells: list[str] = []
         for cell in row.getElementsByType(table.TableCell):
             text = " ".join(teletype.extractText(it) for it in cell.childNodes if it.qname[1] == "p").strip()
             if not text and cell.getAttribute("formula") and not cell.getAttribute("valuetype"):
-                raise no_value(path, line)
+                raise TableError("no_value", path, line)
             room = MOST_COLUMNS + bool(text) - len(cells)
             cells += [text] * min(repeats(path, cell, "numbercolumnsrepeated"), max(0, room))
         while cells and not cells[-1]:
@@ -149,23 +150,18 @@ def read_ods(path: Path, data: bytes, sheet: str) -> Iterator[tuple[int, list[st
         line += times
 
 
-def no_value(path: Path, line: int) -> ToolError:
-    """Returns the error of a formula without a value: no spreadsheet has worked it out."""
-    return ToolError(f"{path}:{line}: a formula without its value: save the table in a spreadsheet first", REFUSED)
-
-
 def repeats(path: Path, element: Any, name: str) -> int:
     """Returns how often a cell or a row of an OpenDocument file stands there."""
     text = element.getAttribute(name) or "1"
     if not (text.isascii() and text.isdigit() and len(text) < 16):
-        raise ToolError(f"{path}: a damaged ODS file: {name} is {text!r}", REFUSED)
+        raise TableError("damaged", path, form="ODS", error=f"{name} is {text!r}")
     return int(text)
 
 
 def choose_sheet(path: Path, sheet: str, names: list[str]) -> str:
-    """Returns the name of the sheet to read. Raises ToolError if there is none of the name that the caller wants."""
+    """Returns the name of the sheet to read. Raises TableError if there is none of the name that the caller wants."""
     if not names or sheet and sheet not in names:
-        raise ToolError(f"{path}: no sheet {sheet!r}; it has {', '.join(map(repr, names)) or 'none'}", REFUSED)
+        raise TableError("no_sheet", path, sheet=sheet, sheets=", ".join(map(repr, names)) or "none")
     return sheet or names[0]
 
 

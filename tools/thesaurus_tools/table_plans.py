@@ -39,6 +39,13 @@ class TableOptions:
     replace: bool = False
 
 
+class NewConceptsError(ToolError):
+    """New concepts of which it isn't said in which scheme they are, or in which language their terms."""
+
+    def __init__(self) -> None:
+        super().__init__("new concepts need --scheme N and --lang TAG", USAGE)
+
+
 def plan_table(
     store: Store, columns: list[Column], rows: list[Row], options: TableOptions
 ) -> tuple[Draft, list[RowPlan]]:
@@ -98,11 +105,11 @@ class TableReader:
                     yield from self.reader.renames(place, deed, row.cells)
 
     def requests_of(self, place: int) -> list[dict]:
-        """Returns the requests of a row. Raises RowError if it can't be done."""
+        """Returns the requests of a row. Raises RowError if it can't be done, and NewConceptsError."""
         row = self.rows[place]
         deed = deed_of(self.reader.columns, row.cells, self.options)
         if deed == "new" and not (self.options.scheme and self.options.lang):
-            raise ToolError("new concepts need --scheme N and --lang TAG", USAGE)
+            raise NewConceptsError
         return self.reader.read(row.line, deed, row.cells)
 
     def read_row(self, place: int) -> None:

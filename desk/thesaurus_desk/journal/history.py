@@ -15,6 +15,13 @@ from thesaurus_tools.kinds import BROADER
 Tests = dict[str, int | str | tuple[str, ...] | None]
 # The test whether a plan concerns a resource.
 CONCERNING = "id IN (SELECT plan FROM concern WHERE number = ?)"
+# The test whether a plan has changed something: what other programs did has no steps, the record of a posting may have
+# been sent before, and an import may have no new row.
+CHANGING = (
+    "state = 'done' AND (NOT EXISTS (SELECT 1 FROM step WHERE plan = id) OR EXISTS (SELECT 1 FROM step WHERE plan = id"
+    " AND step.state = 'done' AND json_extract(answer, '$.again') IS NULL"
+    " AND (json_extract(request, '$.do') <> 'import' OR json_extract(answer, '$.last') IS NOT NULL)))"
+)
 NEEDS_GUARD = re.compile(r"'?[=+\-@\t\r]")
 COLUMNS = ("plan", "step", "time", "user", "proposed by", "action", "state", "request", "answer", "takes back")
 
@@ -39,7 +46,7 @@ class Ending:
 class Filter:
     """Which plans are meant: of a user, from a time on, before a time, with one of these requests. None: of any.
 
-    Times are beginnings of times in UTC, as 2026-11 or 2026-11-28T10."""
+    Times are as the journal writes them, or beginnings of such: 2026-11 or 2026-11-28T10, in UTC."""
 
     user: str | None = None
     since: str | None = None
@@ -80,6 +87,10 @@ class History:
             {**which.tests(), CONCERNING: number, "id < ?": before, f"state IN ({marks(states)})": states or None}
         )
         return self.journal.plans(f"SELECT * FROM plan WHERE {condition} ORDER BY id DESC LIMIT ?", *values, most)
+
+    def changes(self, most: int) -> list[Plan]:
+        """Returns the plans that have changed something, the last first."""
+        return self.journal.plans(f"SELECT * FROM plan WHERE {CHANGING} ORDER BY id DESC LIMIT ?", most)
 
     def users(self) -> list[str]:
         """Returns the users who have sent plans; "" is among them if other programs have changed something."""

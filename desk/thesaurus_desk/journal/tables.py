@@ -7,7 +7,7 @@ import os
 import sqlite3
 import threading
 from collections.abc import Iterator
-from datetime import datetime, timezone
+from datetime import UTC, datetime
 from pathlib import Path
 from typing import Any, Self
 
@@ -56,7 +56,12 @@ def journal_of(store: Path) -> Path:
 
 def now() -> str:
     """Returns the time in UTC, as the journal writes it."""
-    return datetime.now(timezone.utc).isoformat(timespec="milliseconds").replace("+00:00", "Z")
+    return written(datetime.now(UTC))
+
+
+def written(time: datetime) -> str:
+    """Returns a time in UTC as the journal writes it: texts of times have the order of the times."""
+    return time.isoformat(timespec="milliseconds").replace("+00:00", "Z")
 
 
 def open_without_links(path: Path, flags: int) -> int:

@@ -17,12 +17,12 @@ from thesaurus_desk.refusals import explain, explain_state
 from thesaurus_desk.sentences import sentence_of
 from thesaurus_desk.shelf import Shelf
 from thesaurus_desk.skos_reports import Findings
-from thesaurus_desk.tables import Bringer, TableRun, plan_rows, read_sent_table, run_table
-from thesaurus_desk.vocabularies import SkosOptions, SkosRun, StoreBusy, perform_script, read_skos
-from thesaurus_tools.command_line import ToolError
+from thesaurus_desk.tables import Bringer, TableRun, plan_rows, read_sent_table, run_table, table_error_in_words
+from thesaurus_desk.vocabularies import SkosError, SkosOptions, SkosRun, StoreBusy, perform_script, read_skos
+from thesaurus_tools.files import TableError
 from thesaurus_tools.headings import ColumnsError
 from thesaurus_tools.row_running import RowPlan
-from thesaurus_tools.table_plans import KINDS, TableOptions
+from thesaurus_tools.table_plans import KINDS, NewConceptsError, TableOptions
 
 pages = Blueprint("bring_in", __name__)
 # A form with a file: the file, and some room for the rest.
@@ -39,6 +39,12 @@ def the_shelf() -> Shelf:
 def keep(what: object) -> str:
     """Keeps something for the reader, and returns its name."""
     return the_shelf().keep(person().name, what)
+
+
+def has_two() -> bool:
+    """Whether a form has a file and typed rows: nobody knows which of them is meant."""
+    sent = request.files.get("file")
+    return bool(sent and sent.filename and request.form.get("typed", "").strip())
 
 
 def file_of_form() -> tuple[str, bytes]:
@@ -80,6 +86,8 @@ def refused(form: str, text: str, field: str | None = None) -> Any:
 @role("indexer", LARGEST)
 def bring_postings() -> Any:
     """Imports a posting file, and shows what came of its rows."""
+    if has_two():
+        return refused("postings", say("bring_in.two"), "typed")
     name, data = file_of_form()
     data = data.removeprefix(b"\xef\xbb\xbf")
     heading = data.partition(b"\n")[0].strip().replace(b'"', b"")
@@ -133,6 +141,8 @@ def plain(reason: str) -> str:
 @role("editor", LARGEST)
 def preview_table() -> Any:
     """Shows row by row what a table would do."""
+    if has_two():
+        return refused("table", say("bring_in.two"), "typed")
     name, data = file_of_form()
     if not the_mirror().numbers("scheme"):
         return refused("table", say("bring_in.no_scheme"))
@@ -148,10 +158,12 @@ def preview_table() -> Any:
         run = read_sent_table(name, data, request.form.get("columns", ""), options)
         plan_rows(run, the_mirror(), the_bringer())
     except ColumnsError as error:
-        name = "columns_wrong" if error.roles else "columns_unknown"
-        return refused("table", say(f"bring_in.{name}", roles=error.roles, names=error.names), "columns")
-    except ToolError as error:
-        return refused("table", str(error))
+        key = "columns_wrong" if error.roles else "columns_unknown"
+        return refused("table", say(f"bring_in.{key}", roles=error.roles, names=error.names), "columns")
+    except TableError as error:
+        return refused("table", table_error_in_words(error, name, words()))
+    except NewConceptsError:
+        return refused("table", say("bring_in.new_concepts"), "tag")
     return table_page(run, keep(run), 200)
 
 
@@ -228,8 +240,10 @@ def preview_skos() -> Any:
         run = read_skos(the_desk(), name, data, options)
     except StoreBusy:
         return refused("skos", say("refusals.Busy.text"), "")
-    except ToolError as error:
-        return refused("skos", str(error))
+    except SkosError as error:
+        # (what the converter says is in English)
+        said = Markup(' <span lang="en" dir="ltr">{}</span>').format(error.said) if error.said else ""
+        return refused("skos", Markup("{}{}").format(say(f"bring_in.skos_error.{error.key}", **error.values), said))
     run.refused = refused_sentences(run)
     return render_template("bring_in/skos.html", run=run, name=keep(run))
 

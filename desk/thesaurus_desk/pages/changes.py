@@ -1,7 +1,6 @@
 """The journal: recent changes with filters, what is open, and taking a change back."""
 from __future__ import annotations
 
-import re
 from collections.abc import Mapping
 from typing import Any
 from urllib.parse import urlencode
@@ -9,6 +8,7 @@ from urllib.parse import urlencode
 from flask import Blueprint, Response, abort, render_template, request
 from markupsafe import Markup
 
+from thesaurus_desk.clock import span_of
 from thesaurus_desk.context import go, own_path, person, say, the_desk, the_mirror, words
 from thesaurus_desk.entry.guard import role
 from thesaurus_desk.entry.roles import OF_HEADS
@@ -23,7 +23,6 @@ pages = Blueprint("changes", __name__)
 PAGE = 50
 # How many resources the page of those that were changed shows.
 MOST_CHANGED = 1000
-TIME = re.compile(r"\d{4}(-\d\d){0,2}")
 FORM = "back"
 # What the address of the journal may ask for.
 ASKED = ("concept", "by", "kind", "since", "until")
@@ -71,14 +70,13 @@ def query_fields() -> dict[str, str]:
 
 
 def filter_of(asked: Mapping[str, str]) -> Filter:
-    """Returns the filter that is asked for."""
+    """Returns the filter that is asked for: from the begin of a day on, up to the end of a day."""
     user = asked.get("by")
-    days = {name: it for name in ("since", "until") if TIME.fullmatch(it := asked.get(name, "").strip())}
+    first, last = (span_of(asked.get(it, "").strip()) for it in ("since", "until"))
     return Filter(
         user="" if user == OTHERS else user,
-        since=days.get("since"),
-        # (a day is a beginning of times: all of it is meant)
-        until=f"{days['until']}~" if "until" in days else None,
+        since=first and first[0],
+        until=last and last[1],
         requests=KINDS.get(asked.get("kind", "")),
     )
 
@@ -101,12 +99,14 @@ def as_csv() -> Response:
 def changed_since() -> Any:
     """Shows the resources that were changed from a day on."""
     since = request.args.get("since", "")
-    found = the_desk().history.changed_since(since) if TIME.fullmatch(since) else []
+    span = span_of(since.strip())
+    found = the_desk().history.changed_since(span[0]) if span else []
     known = [(it, at) for it, at in found if the_mirror().kind(it)]
     if request.args.get("format") == "csv":
         return sheet("changed", [it for it, _ in known])
     more = len(known) - MOST_CHANGED
-    return render_template("changes/since.html", since=since, found=known[:MOST_CHANGED], more=more)
+    begin = span[0] if span else ""
+    return render_template("changes/since.html", since=since, begin=begin, found=known[:MOST_CHANGED], more=more)
 
 
 @pages.post("/changes/<int:number>/close")

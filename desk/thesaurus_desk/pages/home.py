@@ -38,7 +38,7 @@ def home() -> str:
         most_below=MOST_BELOW,
         concepts=len(mirror.numbers("concept", live=True)),
         totals=mirror.postings.totals(),
-        recent=tell_plans(the_desk().history.recent(most=MOST_RECENT)) if person().name else [],
+        recent=tell_plans(the_desk().history.changes(MOST_RECENT)) if person().name else [],
         warnings=warnings(),
         proposed=the_desk().proposals.count_open() if person().may("editor") else 0,
     )

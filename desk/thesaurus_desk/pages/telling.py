@@ -8,6 +8,7 @@ from typing import Any
 from markupsafe import Markup, escape
 
 from thesaurus_desk import context
+from thesaurus_desk.clock import time_element
 from thesaurus_desk.context import say, the_desk, the_mirror, words
 from thesaurus_desk.journal import Plan, Step
 from thesaurus_desk.journal.entries import Request
@@ -73,7 +74,7 @@ def tell_restored(note: str) -> str | Markup:
     if not note.startswith(RESTORED):
         return ""
     at = note.removeprefix(RESTORED).removeprefix(" of ")
-    return say("changes.restored_of", at=at[:16].replace("T", " ")) if at else say("changes.restored")
+    return say("changes.restored_of", at=time_element(at)) if at else say("changes.restored")
 
 
 def tell_step(step: Step) -> Markup:

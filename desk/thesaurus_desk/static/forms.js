@@ -1,4 +1,4 @@
-// Forms: one click sends one request, the focus goes to what is wrong, boxes are ticked by the page. Times are shown in the reader's zone.
+// Forms: one click sends one request, the focus goes to what is wrong, boxes are ticked by the page. Times are as the page's language writes them.
 "use strict";
 (() => {
   // A second click before the answer is dropped.
@@ -39,12 +39,15 @@
     window.addEventListener("pageshow", report);
   }
 
+  // A time is by the office's clock, as the days that one asks for; with its zone, where the reader's clock shows another time.
   function showTime(time) {
-    const at = new Date(time.dateTime);
-    if (Number.isNaN(at.getTime())) return;
+    const at = new Date(time.dateTime), shown = new Date(`${time.dateTime.slice(0, 23)}Z`);
+    if (Number.isNaN(at.getTime()) || Number.isNaN(shown.getTime())) return;
     // (in English with the month's name: 11/12 is two days)
-    const options = { year: "numeric", month: "short", day: "2-digit", hour: "2-digit", minute: "2-digit" };
-    time.textContent = new Intl.DateTimeFormat(document.documentElement.lang, options).format(at);
+    const options = { year: "numeric", month: "short", day: "2-digit", hour: "2-digit", minute: "2-digit", timeZone: "UTC" };
+    const text = new Intl.DateTimeFormat(document.documentElement.lang, options).format(shown);
+    const isReaders = shown.getTime() - at.getTime() === -60000 * at.getTimezoneOffset();
+    time.textContent = isReaders ? text : `${text} ${time.dataset.zone}`;
     time.title = time.dateTime;
   }
 
