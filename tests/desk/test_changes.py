@@ -11,7 +11,7 @@ from typing import Any
 from urllib.parse import urlencode
 
 import pytest
-from clients import Client, Site, site_of, text_of
+from clients import Client, Site, hold_up_once, site_of, text_of
 from thesaurus_desk.journal.entries import Draft, Request, Step
 from thesaurus_desk.journal.settling import BY_OTHERS, Found
 from thesaurus_desk.journal.takeback import TakeBack
@@ -216,6 +216,17 @@ def test_taking_back_twice_at_once(site: Site, anna: Client, monkeypatch: pytest
     assert len(places) == 1
     found = site.desk.mirror.postings.of_record("Violin 1700")
     assert [it.is_withdrawn for it in found] == [True, False]
+
+
+def test_nothing_is_taken_back_while_the_desk_is_busy(
+    site: Site, anna: Client, monkeypatch: pytest.MonkeyPatch
+) -> None:
+    plan = perform(site, label(site, "Fine violins"))
+    hold_up_once(site.desk, monkeypatch)
+    page = anna.post(f"/changes/{plan}/back", {"form": "back"})
+    assert page.status_code == 409 and "Something long is under way" in text_of(page)
+    assert [it.id for it in site.desk.history.recent()] == [plan]
+    assert anna.post(f"/changes/{plan}/back", {"form": "back"}).status_code == 303
 
 
 def test_taking_back_what_others_changed_since(site: Site, anna: Client) -> None:
