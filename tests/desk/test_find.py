@@ -9,6 +9,7 @@ from pathlib import Path
 
 import pytest
 from clients import Client, Site, site_of, text_of
+from thesaurus_desk.app import path_of_page
 from thesaurus_desk.performing import Desk
 from werkzeug.test import TestResponse
 
@@ -228,6 +229,15 @@ def test_another_language_after_a_refusal_leads_to_the_page(site: Site, anna: Cl
     assert answer.status_code == 409 and f'href="/language?pages=de&amp;next={page}"' in answer.text
     assert anna.get(f"/language?pages=de&next={page}").headers["Location"] == page
     assert anna.get(page).status_code == 200
+
+
+def test_each_form_of_a_concept_leads_back_to_its_page(site: Site, anna: Client) -> None:
+    assert site.desk.perform("anna", "post", [{"do": "post", "key": "k", "record": "r", "concept": VIOLINS}]).is_done
+    forms = {*re.findall(rf'method="post" action="(/c/{VIOLINS}/[^"]*)"', anna.get(f"/c/{VIOLINS}").text)}
+    assert len(forms) > 5
+    for path in sorted(forms):
+        with site.app.test_request_context(path, method="POST"):
+            assert path_of_page() == f"/c/{VIOLINS}", path
 
 
 def test_terms_alike_are_shown(site: Site, anna: Client) -> None:
