@@ -116,7 +116,7 @@ def test_a_number_that_nothing_has(site: Site, anna: Client) -> None:
     number_to_be = site.desk.mirror.counts()["resources"] + 1
     page = " ".join(text_of(anna.get(f"/c/{number_to_be}")).split())
     assert f"Nothing has the number {number_to_be}" in page and f"go from 1 to {number_to_be - 1}" in page
-    assert anna.get(f"/c/{number_to_be}").status_code == 404 and "asked for" not in page
+    assert anna.get(f"/c/{number_to_be}").status_code == 404 and "changes name it" not in page
     refused = [
         {"do": "concept", "scheme": 1, "tag": "en", "text": "Theremins"},
         {"do": "link", "kind": "broader", "a": 5, "b": 5},
@@ -126,6 +126,33 @@ def test_a_number_that_nothing_has(site: Site, anna: Client) -> None:
     page = text_of(anna.get(f"/c/{number_to_be}"))
     assert "Keyed fiddles" in page and "Theremins" not in page, "that was another one"
     assert [it.id for it in site.desk.history.recent(number=number_to_be)] == [made]
+
+
+MISSING = {
+    "en": ("These changes name it, or would have made it:", "It was made, and isn’t there any more:"),
+    "de": ("Diese Änderungen nennen es oder hätten es angelegt:", "Es wurde angelegt und ist nicht mehr da:"),
+    "fr": ("Ces modifications le nomment, ou l’auraient créé :", "Il a été créé, et n’est plus là :"),
+}
+
+
+@pytest.mark.parametrize(("language", "texts"), MISSING.items())
+def test_what_the_journal_has_of_a_number_that_nothing_has(
+    site: Site, anna: Client, language: str, texts: tuple[str, str]
+) -> None:
+    """A change that names it, one that may have made it, and one that made it before a backup was restored."""
+    named, lost = texts
+    last, journal = site.desk.mirror.counts()["resources"], site.desk.journal
+    link = {"do": "link", "kind": "related", "a": 5, "b": last + 1}
+    assert site.desk.perform("anna", "add_link", [link]).state == "refused"
+    for number_to_be, state, is_lost in ((last + 2, "unknown", False), (last + 3, "done", True)):
+        made = {"ok": number_to_be}
+        step = Step({"do": "concept", "scheme": 1, "tag": "en", "text": "Rebecs"}, foreseen=made)
+        plan = journal.begin(Draft("anna", "new", [step]))
+        step.state, step.answer = state, made if is_lost else None
+        journal.finish(plan, state, [step], changed=[number_to_be] if is_lost else [])
+    for number_to_be, said, other in ((last + 1, named, lost), (last + 2, named, lost), (last + 3, lost, named)):
+        page = text_of(anna.get(f"/c/{number_to_be}", Accept_Language=language))
+        assert said in page and other not in page, number_to_be
 
 
 def test_a_reader_who_follows_an_address_that_nothing_has(site: Site, anna: Client) -> None:
