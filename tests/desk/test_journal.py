@@ -116,6 +116,16 @@ def test_a_plan_ends_as_fast_in_a_long_journal(desk: Desk, open_desk: Callable[[
     assert effort(journal.rows, finish) < 2 * before
 
 
+def test_changes_of_a_kind_are_found_as_fast_in_a_long_journal(desk: Desk) -> None:
+    def find() -> None:
+        assert len(desk.history.recent(which=Filter(requests=("addLabel", "relabel")), most=5)) == 5
+
+    lengthen(desk.journal, 10)
+    before = effort(desk.journal.reader, find)
+    lengthen(desk.journal, 3000)
+    assert effort(desk.journal.reader, find) < 2 * before
+
+
 def test_a_plan_is_read_as_it_is_at_one_moment(desk: Desk, monkeypatch: pytest.MonkeyPatch) -> None:
     """A plan that ends while it is read is read as before."""
     step = Step(note(5, "Bowed."))

@@ -49,11 +49,13 @@ class Filter:
     def tests(self) -> Tests:
         """Returns the tests of a plan, each with its values."""
         asked = self.requests or ()
+        # (of the plans in their order, so that a page reads the steps of those alone that it looks at)
+        step = f"SELECT 1 FROM step WHERE step.plan = plan.id AND json_extract(request, '$.do') IN ({marks(asked)})"
         return {
             "user = ?": self.user,
             "at >= ?": self.since,
             "at < ?": self.until,
-            f"id IN (SELECT plan FROM step WHERE json_extract(request, '$.do') IN ({marks(asked)}))": asked or None,
+            f"EXISTS ({step})": asked or None,
         }
 
 
