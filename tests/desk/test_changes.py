@@ -13,6 +13,7 @@ from urllib.parse import urlencode
 import pytest
 from clients import Client, Site, hold_up_once, site_of, text_of
 from thesaurus_desk.journal.entries import Draft, Request, Step
+from thesaurus_desk.journal.history import Ending
 from thesaurus_desk.journal.settling import BY_OTHERS, Found
 from thesaurus_desk.journal.takeback import TakeBack
 from thesaurus_desk.mirror.changes import CHANGES
@@ -187,6 +188,26 @@ def test_a_refusal_names_the_concept_that_came_back(site: Site, anna: Client) ->
     said = " ".join(text_of(answer).split())
     assert answer.status_code == 409, said
     assert f"ended, and that was taken back: it is Fiddles now, with the number {back}." in said, said
+
+
+def test_how_a_concept_ended_is_looked_up_once_for_a_page(
+    site: Site, anna: Client, monkeypatch: pytest.MonkeyPatch
+) -> None:
+    """However often the page explains that it isn't live any more."""
+    source, added = number(site, "Fiddles"), label(site, "Fine fiddles", "Fiddles")
+    perform(site, {"do": "merge", "source": source, "target": number(site, "Violins")})
+    for _ in range(3):
+        assert site.desk.perform("ben", "test", [added]).state == "refused"
+    asked, look = list[int](), site.desk.history.ending
+
+    def ending(it: int) -> Ending | None:
+        asked.append(it)
+        return look(it)
+
+    monkeypatch.setattr(site.desk.history, "ending", ending)
+    for path in ("/changes", f"/c/{source}"):
+        asked.clear()
+        assert "Fine fiddles" in text_of(anna.get(path)) and asked == [source], path
 
 
 def test_what_takes_a_merge_back_is_shown_first(site: Site, anna: Client) -> None:

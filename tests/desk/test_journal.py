@@ -46,6 +46,21 @@ def test_history(desk: Desk) -> None:
     assert [it.id for it in desk.journal.since(5, 1)] == [2]
 
 
+def test_how_a_concept_ended(desk: Desk) -> None:
+    """It is found however many records were indexed by its number since; and the number under which it came back."""
+    merged = desk.perform("anna", "merge", [{"do": "merge", "source": 6, "target": 5}])
+    assert merged.is_done
+    for it in range(51):
+        assert desk.perform("ina", "post", [{"do": "post", "key": f"k{it}", "record": "r", "concept": 6}]).is_done
+    ending = desk.history.ending(6)
+    assert ending and (ending.plan.id, ending.returned) == (merged.plan, None)
+    back = desk.perform_take_back("anna", desk.take_back(ending.plan))
+    assert back.is_done
+    ending = desk.history.ending(6)
+    assert ending and (ending.plan.id, ending.returned) == (merged.plan, back.made)
+    assert desk.history.ending(5) is None
+
+
 def test_dates(desk: Desk) -> None:
     """A posting is no change of a concept, and a concept that is older than the journal has no date of creation."""
     made = desk.perform("anna", "new", [{"do": "concept", "scheme": 1, "tag": "en", "text": "Rebecs"}])
