@@ -192,6 +192,22 @@ def test_work_lists(site: Site, anna: Client) -> None:
     assert anna.get("/lists").status_code == 200 and anna.get("/lists/other").status_code == 404
 
 
+def test_lists_count_each_record_once(site: Site, anna: Client) -> None:
+    """As the page of a concept does: two records are more than one with three postings."""
+    for key, record, concept in (
+        ("A", "r", VIOLINS),
+        ("B", "r", VIOLINS),
+        ("C", "r", VIOLINS),
+        ("D", "r", STRINGS),
+        ("E", "s", STRINGS),
+    ):
+        site.desk.perform("ina", "post", [{"do": "post", "key": key, "record": record, "concept": concept}])
+    rows = rows_of(anna.get("/lists/busiest?format=csv"))
+    assert [(int(it["number"]), it["records"]) for it in rows] == [(STRINGS, "2"), (VIOLINS, "1")]
+    shown = " ".join(text_of(anna.get("/lists/busiest")).split())
+    assert "String instruments 2 Violins 1 " in shown and "1 record " in text_of(anna.get(f"/c/{VIOLINS}"))
+
+
 def test_a_list_is_translated_where_it_is(site: Site, anna: Client) -> None:
     """Each concept has its field; a term that is refused leads there from the concept."""
     made = [
