@@ -113,6 +113,9 @@ def path_of_page() -> str:
     """Returns the path of the page that is shown; of a form that is shown again, that of the page above it."""
     if request.method == "GET":
         return request.full_path.rstrip("?")
+    # (an address that nothing has may be long, and anyone may send it)
+    if request.url_rule is None:
+        return "/"
     path, routes = request.path, current_app.create_url_adapter(request)
     while routes and path and not routes.test(path, "GET"):
         path = path.rpartition("/")[0]

@@ -16,6 +16,7 @@ from thesaurus_desk.settings import Settings
 from thesaurus_desk.words import Words
 
 if TYPE_CHECKING:
+    from thesaurus_desk.journal.history import Ending
     from thesaurus_desk.mirror import Mirror
     from thesaurus_desk.performing import Desk
 
@@ -84,10 +85,18 @@ def link(number: int) -> Markup:
     return Markup(f'<a href="/c/{int(number)}"{lang}{gone} dir="auto">{escape(text)}</a>{small}')
 
 
+def ending_of(number: int) -> Ending | None:
+    """Returns how a concept ended, as far as the journal knows; it is asked once for a page."""
+    known: dict[int, Ending | None] = g.setdefault("endings", {})
+    if number not in known:
+        known[number] = the_desk().history.ending(number)
+    return known[number]
+
+
 def returned_as(number: int) -> int | None:
     """Returns the live concept as which one has come back, when its end was taken back."""
-    found = the_desk().history.returned_as(number)
-    return the_mirror().final(found) if found else None
+    ending = ending_of(number)
+    return the_mirror().final(ending.returned) if ending and ending.returned else None
 
 
 def own_path(path: str | None) -> str:

@@ -22,7 +22,8 @@ def cells_of(view: View) -> tuple[object, ...]:
     broader = " | ".join(mirror.term(it, tags())[1] for it in view.broader)
     state = say(f"lists.state.{'live' if view.is_live else 'dead'}")
     kind = say(f"kinds.resource.{view.kind}")
-    return view.number, view.iri, kind, text, tag, alternative, broader, state, view.replaced or "", view.postings
+    records = mirror.postings.count_records_at(view.number)
+    return view.number, view.iri, kind, text, tag, alternative, broader, state, view.replaced or "", records
 
 
 def rows_of(numbers: Iterable[int]) -> Iterator[str]:

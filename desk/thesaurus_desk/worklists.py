@@ -68,7 +68,7 @@ def unused(mirror: Mirror, scheme: int | None, lang: str) -> list[int]:
 
 def busiest(mirror: Mirror, scheme: int | None, lang: str) -> list[int]:
     """Returns the concepts that have most records, those with most first."""
-    counts = [(mirror.postings.count_at(it.number), it.number) for it in live_concepts(mirror, scheme)]
+    counts = [(mirror.postings.count_records_at(it.number), it.number) for it in live_concepts(mirror, scheme)]
     found = sorted((-count, number) for count, number in counts if count)
     return [number for _, number in found[:MOST_BUSY]]
 

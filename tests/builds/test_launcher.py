@@ -171,6 +171,19 @@ def story(tmp_path_factory: pytest.TempPathFactory) -> Story:
         return Story(calls, number, interrupted, log, it.call_on_terminal())
 
 
+def test_a_prover_that_is_no_text(tmp_path: Path, monkeypatch: pytest.MonkeyPatch) -> None:
+    """What it keeps is looked for in its files, and then it is called."""
+    monkeypatch.delenv("THESAURUS_BUILD", raising=False)
+    it = Repository(tmp_path / "repository")
+    it.make()
+    prover = tmp_path / "kit/bin/rt"
+    prover.parent.mkdir(parents=True)
+    prover.write_bytes(b"#!/bin/sh\n# \xff\necho there is no proof of this\nexit 1\n")
+    prover.chmod(0o755)
+    found = it.call(tmp_path, PATH=f"{prover.parent}:{NO_PROVER['PATH']}")
+    assert found.status == 126 and "there is no proof of this" in found.err and "Traceback" not in found.err
+
+
 def is_told(told: list[str], errors: str) -> bool:
     return all(it in errors for it in told) if told else not errors
 

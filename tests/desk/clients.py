@@ -4,10 +4,12 @@ from __future__ import annotations
 import html
 import re
 from collections.abc import Callable
+from contextlib import nullcontext
 from dataclasses import dataclass, field
 from pathlib import Path
 from typing import Any
 
+import pytest
 from flask import Flask
 from thesaurus_desk.app import create_app
 from thesaurus_desk.entry.accounts import Accounts
@@ -108,6 +110,12 @@ def site_of(desk: Desk, users: Path, **settings: Any) -> Site:
 def text_of(answer: TestResponse) -> str:
     """Returns the text of a page without its markup."""
     return html.unescape(re.sub(r"<[^>]*>", " ", answer.text))
+
+
+def hold_up_once(desk: Desk, monkeypatch: pytest.MonkeyPatch) -> None:
+    """Has the first who waits for a desk's lock find that it isn't free in time, as during an import."""
+    late, alone = iter([nullcontext(False)]), desk.alone
+    monkeypatch.setattr(desk, "alone", lambda: next(late, None) or alone())
 
 
 SiteMaker = Callable[..., Site]

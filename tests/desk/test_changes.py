@@ -11,8 +11,9 @@ from typing import Any
 from urllib.parse import urlencode
 
 import pytest
-from clients import Client, Site, site_of, text_of
+from clients import Client, Site, hold_up_once, site_of, text_of
 from thesaurus_desk.journal.entries import Draft, Request, Step
+from thesaurus_desk.journal.history import Ending
 from thesaurus_desk.journal.settling import BY_OTHERS, Found
 from thesaurus_desk.journal.takeback import TakeBack
 from thesaurus_desk.mirror.changes import CHANGES
@@ -116,7 +117,7 @@ def test_a_number_that_nothing_has(site: Site, anna: Client) -> None:
     number_to_be = site.desk.mirror.counts()["resources"] + 1
     page = " ".join(text_of(anna.get(f"/c/{number_to_be}")).split())
     assert f"Nothing has the number {number_to_be}" in page and f"go from 1 to {number_to_be - 1}" in page
-    assert anna.get(f"/c/{number_to_be}").status_code == 404 and "asked for" not in page
+    assert anna.get(f"/c/{number_to_be}").status_code == 404 and "changes name it" not in page
     refused = [
         {"do": "concept", "scheme": 1, "tag": "en", "text": "Theremins"},
         {"do": "link", "kind": "broader", "a": 5, "b": 5},
@@ -126,6 +127,33 @@ def test_a_number_that_nothing_has(site: Site, anna: Client) -> None:
     page = text_of(anna.get(f"/c/{number_to_be}"))
     assert "Keyed fiddles" in page and "Theremins" not in page, "that was another one"
     assert [it.id for it in site.desk.history.recent(number=number_to_be)] == [made]
+
+
+MISSING = {
+    "en": ("These changes name it, or would have made it:", "It was made, and isn’t there any more:"),
+    "de": ("Diese Änderungen nennen es oder hätten es angelegt:", "Es wurde angelegt und ist nicht mehr da:"),
+    "fr": ("Ces modifications le nomment, ou l’auraient créé :", "Il a été créé, et n’est plus là :"),
+}
+
+
+@pytest.mark.parametrize(("language", "texts"), MISSING.items())
+def test_what_the_journal_has_of_a_number_that_nothing_has(
+    site: Site, anna: Client, language: str, texts: tuple[str, str]
+) -> None:
+    """A change that names it, one that may have made it, and one that made it before a backup was restored."""
+    named, lost = texts
+    last, journal = site.desk.mirror.counts()["resources"], site.desk.journal
+    link = {"do": "link", "kind": "related", "a": 5, "b": last + 1}
+    assert site.desk.perform("anna", "add_link", [link]).state == "refused"
+    for number_to_be, state, is_lost in ((last + 2, "unknown", False), (last + 3, "done", True)):
+        made = {"ok": number_to_be}
+        step = Step({"do": "concept", "scheme": 1, "tag": "en", "text": "Rebecs"}, foreseen=made)
+        plan = journal.begin(Draft("anna", "new", [step]))
+        step.state, step.answer = state, made if is_lost else None
+        journal.finish(plan, state, [step], changed=[number_to_be] if is_lost else [])
+    for number_to_be, said, other in ((last + 1, named, lost), (last + 2, named, lost), (last + 3, lost, named)):
+        page = text_of(anna.get(f"/c/{number_to_be}", Accept_Language=language))
+        assert said in page and other not in page, number_to_be
 
 
 def test_a_reader_who_follows_an_address_that_nothing_has(site: Site, anna: Client) -> None:
@@ -160,6 +188,26 @@ def test_a_refusal_names_the_concept_that_came_back(site: Site, anna: Client) ->
     said = " ".join(text_of(answer).split())
     assert answer.status_code == 409, said
     assert f"ended, and that was taken back: it is Fiddles now, with the number {back}." in said, said
+
+
+def test_how_a_concept_ended_is_looked_up_once_for_a_page(
+    site: Site, anna: Client, monkeypatch: pytest.MonkeyPatch
+) -> None:
+    """However often the page explains that it isn't live any more."""
+    source, added = number(site, "Fiddles"), label(site, "Fine fiddles", "Fiddles")
+    perform(site, {"do": "merge", "source": source, "target": number(site, "Violins")})
+    for _ in range(3):
+        assert site.desk.perform("ben", "test", [added]).state == "refused"
+    asked, look = list[int](), site.desk.history.ending
+
+    def ending(it: int) -> Ending | None:
+        asked.append(it)
+        return look(it)
+
+    monkeypatch.setattr(site.desk.history, "ending", ending)
+    for path in ("/changes", f"/c/{source}"):
+        asked.clear()
+        assert "Fine fiddles" in text_of(anna.get(path)) and asked == [source], path
 
 
 def test_what_takes_a_merge_back_is_shown_first(site: Site, anna: Client) -> None:
@@ -216,6 +264,17 @@ def test_taking_back_twice_at_once(site: Site, anna: Client, monkeypatch: pytest
     assert len(places) == 1
     found = site.desk.mirror.postings.of_record("Violin 1700")
     assert [it.is_withdrawn for it in found] == [True, False]
+
+
+def test_nothing_is_taken_back_while_the_desk_is_busy(
+    site: Site, anna: Client, monkeypatch: pytest.MonkeyPatch
+) -> None:
+    plan = perform(site, label(site, "Fine violins"))
+    hold_up_once(site.desk, monkeypatch)
+    page = anna.post(f"/changes/{plan}/back", {"form": "back"})
+    assert page.status_code == 409 and "Something long is under way" in text_of(page)
+    assert [it.id for it in site.desk.history.recent()] == [plan]
+    assert anna.post(f"/changes/{plan}/back", {"form": "back"}).status_code == 303
 
 
 def test_taking_back_what_others_changed_since(site: Site, anna: Client) -> None:

@@ -13,6 +13,7 @@ from thesaurus_desk.entry.roles import Role
 from thesaurus_desk.mirror import Mirror
 from thesaurus_desk.program import Fault, NoAnswer
 from thesaurus_tools.command_line import ToolError
+from werkzeug.routing import MapAdapter
 
 
 def failing(error: Exception) -> Callable[..., Any]:
@@ -81,6 +82,15 @@ def test_addresses_that_are_none(site: Site) -> None:
     assert set(refused.headers["Allow"].split(", ")) >= {"POST"}
     for path in ("/nothing", "/c/999999"):
         assert site.client().get(path).status_code in (303, 404)
+
+
+def test_an_address_that_nothing_has_is_looked_up_once(site: Site, monkeypatch: pytest.MonkeyPatch) -> None:
+    """However long it is, and whatever is asked for: the page of the error doesn't try each part of it."""
+    tried: list[str] = []
+    monkeypatch.setattr(MapAdapter, "test", lambda self, path, method: tried.append(path))
+    for method in ("GET", "POST", "PUT"):
+        answer = site.client().ask(method, "/nothing" * 500, None, {})
+        assert answer.status_code == 404 and "<main" in answer.text and tried == [], method
 
 
 def test_odd_queries(site: Site) -> None:

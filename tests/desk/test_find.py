@@ -9,6 +9,7 @@ from pathlib import Path
 
 import pytest
 from clients import Client, Site, site_of, text_of
+from thesaurus_desk.app import path_of_page
 from thesaurus_desk.performing import Desk
 from werkzeug.test import TestResponse
 
@@ -191,6 +192,22 @@ def test_work_lists(site: Site, anna: Client) -> None:
     assert anna.get("/lists").status_code == 200 and anna.get("/lists/other").status_code == 404
 
 
+def test_lists_count_each_record_once(site: Site, anna: Client) -> None:
+    """As the page of a concept does: two records are more than one with three postings."""
+    for key, record, concept in (
+        ("A", "r", VIOLINS),
+        ("B", "r", VIOLINS),
+        ("C", "r", VIOLINS),
+        ("D", "r", STRINGS),
+        ("E", "s", STRINGS),
+    ):
+        site.desk.perform("ina", "post", [{"do": "post", "key": key, "record": record, "concept": concept}])
+    rows = rows_of(anna.get("/lists/busiest?format=csv"))
+    assert [(int(it["number"]), it["records"]) for it in rows] == [(STRINGS, "2"), (VIOLINS, "1")]
+    shown = " ".join(text_of(anna.get("/lists/busiest")).split())
+    assert "String instruments 2 Violins 1 " in shown and "1 record " in text_of(anna.get(f"/c/{VIOLINS}"))
+
+
 def test_a_list_is_translated_where_it_is(site: Site, anna: Client) -> None:
     """Each concept has its field; a term that is refused leads there from the concept."""
     made = [
@@ -228,6 +245,15 @@ def test_another_language_after_a_refusal_leads_to_the_page(site: Site, anna: Cl
     assert answer.status_code == 409 and f'href="/language?pages=de&amp;next={page}"' in answer.text
     assert anna.get(f"/language?pages=de&next={page}").headers["Location"] == page
     assert anna.get(page).status_code == 200
+
+
+def test_each_form_of_a_concept_leads_back_to_its_page(site: Site, anna: Client) -> None:
+    assert site.desk.perform("anna", "post", [{"do": "post", "key": "k", "record": "r", "concept": VIOLINS}]).is_done
+    forms = {*re.findall(rf'method="post" action="(/c/{VIOLINS}/[^"]*)"', anna.get(f"/c/{VIOLINS}").text)}
+    assert len(forms) > 5
+    for path in sorted(forms):
+        with site.app.test_request_context(path, method="POST"):
+            assert path_of_page() == f"/c/{VIOLINS}", path
 
 
 def test_terms_alike_are_shown(site: Site, anna: Client) -> None:

@@ -2,6 +2,7 @@
 from __future__ import annotations
 
 import csv
+import json
 import os
 import resource
 import sqlite3
@@ -15,7 +16,7 @@ import pytest
 from ports import free_port
 from thesaurus_desk.journal import Draft, Journal, Step, journal_of
 from thesaurus_desk.journal.checking import check
-from thesaurus_desk.journal.history import Filter
+from thesaurus_desk.journal.history import Filter, History
 from thesaurus_desk.journal.tables import now
 from thesaurus_desk.mirror import read_mirror
 from thesaurus_desk.mirror.changes import apply
@@ -45,6 +46,21 @@ def test_history(desk: Desk) -> None:
     assert [it.id for it in desk.journal.since(5, 1)] == [2]
 
 
+def test_how_a_concept_ended(desk: Desk) -> None:
+    """It is found however many records were indexed by its number since; and the number under which it came back."""
+    merged = desk.perform("anna", "merge", [{"do": "merge", "source": 6, "target": 5}])
+    assert merged.is_done
+    for it in range(51):
+        assert desk.perform("ina", "post", [{"do": "post", "key": f"k{it}", "record": "r", "concept": 6}]).is_done
+    ending = desk.history.ending(6)
+    assert ending and (ending.plan.id, ending.returned) == (merged.plan, None)
+    back = desk.perform_take_back("anna", desk.take_back(ending.plan))
+    assert back.is_done
+    ending = desk.history.ending(6)
+    assert ending and (ending.plan.id, ending.returned) == (merged.plan, back.made)
+    assert desk.history.ending(5) is None
+
+
 def test_dates(desk: Desk) -> None:
     """A posting is no change of a concept, and a concept that is older than the journal has no date of creation."""
     made = desk.perform("anna", "new", [{"do": "concept", "scheme": 1, "tag": "en", "text": "Rebecs"}])
@@ -71,6 +87,58 @@ def test_all_that_was_changed_since(desk: Desk) -> None:
         rows.executemany("INSERT INTO concern VALUES (?, ?, 1)", [(number, plan) for number in range(1000, 3000)])
     assert len(desk.history.changed_since("2026")) == 2001
     assert len(desk.history.changed_since("2026", 10)) == 10
+
+
+def lengthen(journal: Journal, count: int) -> None:
+    """Adds plans to a journal, each of which adds a note to a resource of its own."""
+    first = max((it.id for it in History(journal).recent(most=1)), default=0) + 1
+    plans = [(it,) for it in range(first, first + count)]
+    with journal.writing() as rows:
+        rows.executemany("INSERT INTO plan (id, at, user, action, state) VALUES (?, '2026', 'ben', 'x', 'done')", plans)
+        steps = [(it, json.dumps(note(it, "Bowed."))) for it, in plans]
+        rows.executemany("INSERT INTO step (plan, place, state, request) VALUES (?, 1, 'done', ?)", steps)
+        rows.executemany("INSERT INTO concern VALUES (?1, ?1, 1)", plans)
+
+
+def effort(connection: sqlite3.Connection, do: Callable[[], object]) -> int:
+    """Returns how much SQLite does, in instructions of its machine."""
+    count = 0
+
+    def note_progress() -> None:
+        nonlocal count
+        count += 1
+
+    connection.set_progress_handler(note_progress, 1)
+    do()
+    connection.set_progress_handler(None, 1)
+    return count
+
+
+@pytest.mark.parametrize("is_old", [False, True], ids=["a new journal", "a journal of an older desk"])
+def test_a_plan_ends_as_fast_in_a_long_journal(desk: Desk, open_desk: Callable[[Path], Desk], is_old: bool) -> None:
+    if is_old:
+        desk.journal.rows.execute("DROP INDEX concern_plan")
+        desk.stop()
+        desk = open_desk(desk.db)
+    journal, step = desk.journal, Step(note(5, "Bowed."), "done")
+
+    def finish() -> None:
+        journal.finish(plan, "done", [step], changed=[5])
+
+    plan = journal.begin(Draft("anna", "note", [step]))
+    before = effort(journal.rows, finish)
+    lengthen(journal, 3000)
+    assert effort(journal.rows, finish) < 2 * before
+
+
+def test_changes_of_a_kind_are_found_as_fast_in_a_long_journal(desk: Desk) -> None:
+    def find() -> None:
+        assert len(desk.history.recent(which=Filter(requests=("addLabel", "relabel")), most=5)) == 5
+
+    lengthen(desk.journal, 10)
+    before = effort(desk.journal.reader, find)
+    lengthen(desk.journal, 3000)
+    assert effort(desk.journal.reader, find) < 2 * before
 
 
 def test_a_plan_is_read_as_it_is_at_one_moment(desk: Desk, monkeypatch: pytest.MonkeyPatch) -> None:

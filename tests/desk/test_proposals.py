@@ -7,7 +7,7 @@ from concurrent.futures import ThreadPoolExecutor
 from typing import Any
 
 import pytest
-from clients import Client, Site, text_of
+from clients import Client, Site, hold_up_once, text_of
 from test_changes import number
 from thesaurus_desk.performing import Outcome
 
@@ -199,6 +199,21 @@ def test_two_who_accept_at_once(site: Site, rita: Client, monkeypatch: pytest.Mo
         both = [pool.submit(site.client(it).post, f"/proposals/{made}/accept") for it in ("anna", "ben")]
         assert [it.result().status_code for it in both] == [303, 303]
     assert len(site.desk.history.recent()) == 1
+
+
+@pytest.mark.parametrize("what", ["accept", "decline", "withdraw"])
+def test_nothing_is_decided_while_the_desk_is_busy(
+    site: Site, rita: Client, monkeypatch: pytest.MonkeyPatch, what: str
+) -> None:
+    """Whoever waited in vain is told so, and decides later."""
+    made = propose(rita, concept=str(number(site, "Violins")), kind="alt", text="Folk violins")
+    path, who = f"/proposals/{made}/{what}", rita if what == "withdraw" else site.client("ben")
+    sent = {"form": what, "word": "We have it."} if what == "decline" else {"form": what}
+    hold_up_once(site.desk, monkeypatch)
+    page = who.post(path, sent)
+    assert page.status_code == 409 and "Something long is under way" in text_of(page)
+    assert site.desk.proposals.count_open() == 1 and site.desk.history.recent() == []
+    assert who.post(path, sent).status_code == 303 and site.desk.proposals.count_open() == 0
 
 
 def test_texts_that_are_too_long_are_not_cut(site: Site, rita: Client) -> None:

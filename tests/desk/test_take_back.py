@@ -58,6 +58,16 @@ def test_take_back_names_later_changes(desk: Desk) -> None:
     assert plan is not None and [it.id for it in desk.take_back(plan).later] == [second.plan]
 
 
+def test_what_stays_is_said_once(desk: Desk) -> None:
+    """However many steps were at a concept that has ended since."""
+    first = done(desk, *(label("addLabel", 6, "alt", it) for it in ("Old violas", "Fine violas", "Small violas")))
+    done(desk, {"do": "merge", "source": 6, "target": 5})
+    plan = desk.journal.plan(first.plan or 0)
+    assert plan is not None
+    back = desk.take_back(plan)
+    assert back.requests == [] and [(it.name, it.number) for it in back.remarks] == [("has ended", 6)]
+
+
 def test_postings_are_taken_back(desk: Desk) -> None:
     posted = done(desk, post("p-1", 5), post("p-1", 5), post("p-2", 5, "Other"))
     plan = desk.journal.plan(posted.plan or 0)

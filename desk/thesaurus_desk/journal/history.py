@@ -13,6 +13,8 @@ from thesaurus_tools.kinds import BROADER
 
 # Tests of the rows of a table, with their values; one with None is left out.
 Tests = dict[str, int | str | tuple[str, ...] | None]
+# The requests that end a concept, with the member that names it.
+ENDING = {"merge": "source", "deprecate": "concept"}
 # The test whether a plan concerns a resource.
 CONCERNING = "id IN (SELECT plan FROM concern WHERE number = ?)"
 # The test whether a plan has changed something: what other programs did has no steps, the record of a posting may have
@@ -40,6 +42,8 @@ class Ending:
 
     plan: Plan
     broader: tuple[int, ...]
+    # The number under which it came back, if the plan was taken back.
+    returned: int | None
 
 
 @dataclass(frozen=True, slots=True)
@@ -56,11 +60,13 @@ class Filter:
     def tests(self) -> Tests:
         """Returns the tests of a plan, each with its values."""
         asked = self.requests or ()
+        # (of the plans in their order, so that a page reads the steps of those alone that it looks at)
+        step = f"SELECT 1 FROM step WHERE step.plan = plan.id AND json_extract(request, '$.do') IN ({marks(asked)})"
         return {
             "user = ?": self.user,
             "at >= ?": self.since,
             "at < ?": self.until,
-            f"id IN (SELECT plan FROM step WHERE json_extract(request, '$.do') IN ({marks(asked)}))": asked or None,
+            f"EXISTS ({step})": asked or None,
         }
 
 
@@ -114,20 +120,20 @@ class History:
         made = {it.answer.get("ok") for it in plan.steps if it.answer and it.request["do"] != "post"}
         return Dates(found["created"] if number in made else None, found["modified"])
 
-    def returned_as(self, number: int) -> int | None:
-        """Returns the new number of a concept whose merge or taking out of use was taken back."""
-        ending = self.ending(number)
-        back = self.journal.plan(ending.plan.taken_back_by) if ending and ending.plan.taken_back_by else None
+    def new_number_after(self, plan: Plan) -> int | None:
+        """Returns the new number of the concept that came back when a plan was taken back."""
+        back = self.journal.plan(plan.taken_back_by) if plan.taken_back_by else None
         made = [it for it in back.steps if it.request["do"] in ("split", "concept")] if back else []
         return int(made[0].answer["ok"]) if len(made) == 1 and made[0].answer else None
 
     def ending(self, number: int) -> Ending | None:
         """Returns how a concept ended, or None if the journal doesn't know it."""
-        for plan in self.recent(number=number, states=("done",)):
+        for plan in self.recent(number=number, states=("done",), which=Filter(requests=tuple(ENDING))):
             for step in plan.steps:
                 if ended_by(step) == number:
                     links = [*(step.kept or {}).get("links", ()), *unlinked_by(plan)]
-                    return Ending(plan, tuple(b for kind, a, b in links if kind in BROADER and a == number))
+                    broader = tuple(b for kind, a, b in links if kind in BROADER and a == number)
+                    return Ending(plan, broader, self.new_number_after(plan))
         return None
 
     def changed_since(self, time: str, most: int = -1) -> list[tuple[int, str]]:
@@ -177,7 +183,7 @@ def unlinked_by(plan: Plan) -> list[tuple[str, int, int]]:
 
 def ended_by(step: Step) -> int | None:
     """Returns the concept that a step ends, or None."""
-    member = {"merge": "source", "deprecate": "concept"}.get(step.request["do"])
+    member = ENDING.get(step.request["do"])
     return step.request[member] if member else None
 
 

@@ -130,6 +130,8 @@ class Database:
         # (whoever reads needn't wait until the disk has what another one writes)
         self.reader = sqlite3.connect(self.path, check_same_thread=False, isolation_level=None, timeout=5)
         self.reader.row_factory = sqlite3.Row
+        # (not among the tables above, since an older journal lacks it)
+        self.rows.execute("CREATE INDEX IF NOT EXISTS concern_plan ON concern (plan)")
 
     def close(self) -> None:
         """Closes the file, and lets another desk have it."""

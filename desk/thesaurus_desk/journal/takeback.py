@@ -76,6 +76,7 @@ class Builder:
     def __init__(self, mirror: Mirror, plan: Plan, label: tuple[str, str] | None) -> None:
         self.mirror, self.label = mirror, label
         self.made = TakeBack(plan)
+        self.remarked: set[Remark] = set()
         self.keys: set[str] = set()
         # The references to concepts that come back, by their old numbers.
         self.back: dict[int, str] = {}
@@ -87,7 +88,11 @@ class Builder:
         return f"${len(self.made.requests)}"
 
     def remark(self, name: str, number: int | None = None, text: str = "") -> None:
-        self.made.remarks.append(Remark(name, number, text))
+        """Adds a remark, once."""
+        it = Remark(name, number, text)
+        if it not in self.remarked:
+            self.remarked.add(it)
+            self.made.remarks.append(it)
 
     def take_back(self, step: Step) -> None:
         """Adds what takes a step back."""

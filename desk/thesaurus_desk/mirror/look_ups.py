@@ -181,9 +181,8 @@ class Mirror(Tables):
 
     @alone
     def count_records(self, number: int) -> int:
-        """Returns the number of records indexed with a concept, each counted once."""
-        numbers = self.postings.numbers_at(number)
-        return self.once(("records", number), lambda: self.postings.count_records(numbers))
+        """Returns the number of records indexed with a concept, each counted once; kept until something changes."""
+        return self.once(("records", number), lambda: self.postings.count_records_at(number))
 
     @alone
     def count_records_below(self, number: int) -> int:

@@ -110,6 +110,11 @@ class Postings:
         return len({self.all[it - 1].record for it in numbers})
 
     @alone
+    def count_records_at(self, concept: int) -> int:
+        """Returns the number of records indexed with a concept, each counted once."""
+        return self.count_records(self.assigned.get(concept, ()))
+
+    @alone
     def numbers_at(self, concept: int) -> list[int]:
         """Returns the numbers of the postings assigned to a concept, in their order."""
         return list(self.assigned.get(concept, ()))

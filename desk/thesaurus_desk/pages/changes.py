@@ -2,6 +2,7 @@
 from __future__ import annotations
 
 from collections.abc import Mapping
+from functools import partial
 from typing import Any
 from urllib.parse import urlencode
 
@@ -178,26 +179,34 @@ def tell_remark(remark: Remark) -> Markup:
 @role("editor")
 def take_back(number: int) -> Any:
     """Takes a plan back, as far as that can be, in one plan."""
-    with the_desk().alone():
+    with the_desk().alone() as is_free:
         # (whoever presses the button twice waits here, and finds that it was taken back)
-        return take_back_now(plan_or_404(number))
+        return take_back_now(plan_or_404(number), is_free)
 
 
-def take_back_now(plan: Plan) -> Any:
-    """Takes a plan back, and shows what came of it."""
+def take_back_now(plan: Plan, is_free: bool) -> Any:
+    """Takes a plan back unless something else took too long, and shows what came of it."""
     if plan.taken_back_by:
         return go(next_path(), plan.taken_back_by)
     if not may_take_back(plan):
         abort(403)
     tag, text = request.form.get("tag", "").strip().lower(), " ".join(request.form.get("text", "").split())
     back = the_desk().take_back(plan, (tag, text) if text else None)
+    again = partial(refusal_page, plan, back)
+    if not is_free:
+        return again("", say("refusals.Busy.text"))
     if not back.requests or back.needs_label and not text:
         field, key = ("text", "choose_label") if back.requests else ("", "nothing")
-        return back_page(plan, back, FormState(FORM, request.form, [Problem(field, say(f"changes.{key}"))]), 409)
+        return again(field, say(f"changes.{key}"))
     outcome = the_desk().perform_take_back(person().name, back)
     if not outcome.is_done:
-        return back_page(plan, back, FormState(FORM, request.form, [Problem("", tell_outcome(outcome))]), 409)
+        return again("", tell_outcome(outcome))
     return go(f"/c/{outcome.made}" if makes_concept(back) else next_path(), outcome.plan)
+
+
+def refusal_page(plan: Plan, back: TakeBack, field: str, text: str) -> Any:
+    """Returns the page on which a plan is taken back, with what is wrong in a field of its form."""
+    return back_page(plan, back, FormState(FORM, request.form, [Problem(field, text)]), 409)
 
 
 def next_path() -> str:

@@ -8,7 +8,7 @@ from typing import Any
 
 from flask import Blueprint, Response, abort, render_template, request
 
-from thesaurus_desk.context import page_number, person, returned_as, say, tags, the_desk, the_mirror
+from thesaurus_desk.context import ending_of, page_number, person, returned_as, say, tags, the_desk, the_mirror
 from thesaurus_desk.entry.guard import public
 from thesaurus_desk.forms import FormState
 from thesaurus_desk.mirror import Posting, View
@@ -94,7 +94,7 @@ def resource_page(number: int, state: FormState, status: int = 200) -> Any:
             new_key=new_key,
             final=the_mirror().final(number),
             returned=None if view.is_live else returned_as(number),
-            ending=the_desk().history.ending(number) if person().name and not view.is_live else None,
+            ending=ending_of(number) if person().name and not view.is_live else None,
             merged=the_mirror().merged_into(number),
             free_collections=free_collections(view),
             records=records_of(view),

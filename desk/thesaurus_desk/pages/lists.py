@@ -52,6 +52,6 @@ def work_list(kind: str) -> Any:
         groups=found.groups[part],
         count=len(found.groups) if kind == "alike" else len(found.numbers),
         size=size,
-        counts=mirror.postings.count_at,
+        counts=mirror.count_records,
         path=f"/lists/{kind}?{urlencode(chosen)}" if chosen else f"/lists/{kind}",
     )

@@ -187,9 +187,9 @@ def too_long(text: str) -> str:
 @role("editor")
 def accept(number: int) -> Any:
     """Performs a proposal, under the names of both, or closes one that is in words alone."""
-    with the_desk().alone():
+    with the_desk().alone() as is_free:
         # (two who accept it at once are one after the other, and the second finds it decided)
-        return accept_now(proposal_or_404(number))
+        return accept_now(proposal_or_404(number)) if is_free else busy_page(number, "accept")
 
 
 def accept_now(proposal: Proposal) -> Any:
@@ -230,7 +230,9 @@ def decline(number: int) -> Any:
     if not word or len(word) > LONGEST_TEXT:
         problem = too_long(word) if word else say("proposals.no_word")
         return refused(partial(proposal_page, number), "word", problem, "decline")
-    with the_desk().alone():
+    with the_desk().alone() as is_free:
+        if not is_free:
+            return busy_page(number, "decline")
         the_proposals().decide(number, "declined", person().name, word)
     return go(f"/proposals/{number}")
 
@@ -241,9 +243,16 @@ def withdraw(number: int) -> Any:
     """Withdraws a proposal of one's own."""
     if proposal_or_404(number).user != person().name:
         abort(403)
-    with the_desk().alone():
+    with the_desk().alone() as is_free:
+        if not is_free:
+            return busy_page(number, "withdraw")
         the_proposals().decide(number, "withdrawn", person().name)
     return go(f"/proposals/{number}")
+
+
+def busy_page(number: int, form: str) -> Any:
+    """Returns the page of a proposal that isn't decided, since something else took too long."""
+    return proposal_page(number, FormState(form, request.form, [Problem("", say("refusals.Busy.text"))]), 409)
 
 
 # --- comments ---

@@ -25,7 +25,7 @@ MOST_FOUND = 50
 # --- at a concept ---
 
 
-@pages.post("/c/<int:number>/records/add")
+@pages.post("/c/<int:number>/postings/add")
 @role("indexer")
 def add_record(number: int) -> Any:
     """Indexes a record with a concept."""
@@ -37,7 +37,7 @@ def add_record(number: int) -> Any:
     return submit("post", [post(record, number, given("key"))], then=f"/c/{number}#at-post", show=again)
 
 
-@pages.post("/c/<int:number>/records/withdraw")
+@pages.post("/c/<int:number>/postings/withdraw")
 @role("indexer")
 def withdraw_record(number: int) -> Any:
     """Withdraws a posting of a concept."""
