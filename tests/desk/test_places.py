@@ -79,6 +79,30 @@ def test_a_new_concept_that_is_refused(
     assert len(desk.mirror.numbers("concept", live=True)) == before
 
 
+@pytest.mark.parametrize(
+    ("path", "form", "field", "text", "part"),
+    [
+        ("/new", "new", "text", "Violins", "Use that concept, or add a qualifier"),
+        ("/new/scheme", "new", "text", "Musical instruments", "There is one of this name already"),
+        (f"/c/{BOWED}/move", "move", "other", "Violins", "because it is below it already"),
+        (f"/c/{VIOLINS}/split", "split", "text", "Fiddles", "Use that concept, or add a qualifier"),
+        (f"/c/{VIOLINS}", "add-related", "other", "Bowed instruments", "Two terms are either related"),
+    ],
+)
+def test_a_refusal_is_said_once(reader: Reader, path: str, form: str, field: str, text: str, part: str) -> None:
+    """Beside its field, to which the top of the page leads."""
+    page = reader.send(reader.get(path).form(form), **{field: text})
+    assert page.status == 409 and page.form(form).invalid == {field}
+    assert page.form(form).text.count(part) == 1 and part not in page.alerts
+    assert "Nothing was changed. See what was refused" in page.alerts and f"#{form}-{field}" in page.links()
+
+
+def test_a_choice_is_asked_for_once(reader: Reader) -> None:
+    page = reader.send(reader.get(f"/c/{HARPS}/move").form("move"), other="Violin")
+    assert page.text.count("Did you mean one of these?") == 1 and page.text.count("Which one do you mean?") == 1
+    assert page.form("move").invalid == {"other"} and page.form("move").value("chosen")
+
+
 def test_new_collections_and_schemes(reader: Reader, desk: Desk) -> None:
     reader.send(reader.get("/new/collection").form("new"), text="On show in room 12")
     reader.send(reader.get("/new/scheme").form("new"), text="Places")
