@@ -157,6 +157,7 @@ def choose_end(view: View, kind: str) -> Chosen:
         request.form,
         kinds=("collection",) if is_of_concept else ("concept", "outside") if kind in MAPPINGS else ("concept",),
         scheme=None if kind in MAPPINGS else view.scheme,
+        without=view.number,
     )
 
 

@@ -8,7 +8,7 @@ from flask import render_template, request
 
 from thesaurus_desk.context import go, person, the_desk
 from thesaurus_desk.forms import FormState, Problem
-from thesaurus_desk.pages.telling import MOST_STEPS, tell_changes, tell_outcome, tell_plans, tell_step
+from thesaurus_desk.pages.telling import MOST_STEPS, tell_conflict, tell_outcome, tell_step
 from thesaurus_desk.journal import Step
 from thesaurus_desk.journal.entries import Request
 from thesaurus_desk.performing import Outcome
@@ -67,10 +67,7 @@ def conflict_page(outcome: Outcome, requests: Sequence[Request]) -> Any:
     return (
         render_template(
             "resource/conflict.html",
-            conflict=conflict,
-            changes=tell_changes(conflict.changes),
-            plans=tell_plans(conflict.plans),
-            is_own={it.user for it in conflict.plans} == {person().name},
+            conflict=tell_conflict(conflict),
             wanted=[tell_step(Step(it)) for it in requests[:MOST_STEPS]],
             more=max(0, len(requests) - MOST_STEPS),
             fields=[*fields, *(("seen", it) for it in marks)],
