@@ -8,7 +8,8 @@ from typing import Any
 
 import pytest
 from clients import Client, Site, text_of
-from test_changes import number
+from reader import PageReader
+from test_changes import number, perform
 from thesaurus_desk.performing import Outcome
 
 
@@ -71,13 +72,13 @@ def test_a_new_concept_below(site: Site, rita: Client) -> None:
 
 
 def test_a_new_top_concept_and_a_link(site: Site, rita: Client) -> None:
-    made = propose(rita, kind="concept", text="Lutes", scheme="1")
-    site.client("anna").post(f"/proposals/{made}/accept", {"form": "accept"})
-    lutes, harps = number(site, "Lutes"), number(site, "Harps")
-    made = propose(rita, concept=str(lutes), kind="related", other="Harps", other_number=str(harps))
-    site.client("anna").post(f"/proposals/{made}/accept", {"form": "accept"})
-    view = site.desk.mirror.view(lutes)
-    assert view and view.related == (harps,)
+    made = propose(rita, kind="concept", text="Lyres", scheme="1")
+    assert site.client("anna").post(f"/proposals/{made}/accept", {"form": "accept"}).status_code == 303
+    lyres, harps = number(site, "Lyres"), number(site, "Harps")
+    made = propose(rita, concept=str(lyres), kind="related", other="Harps", other_number=str(harps))
+    assert site.client("anna").post(f"/proposals/{made}/accept", {"form": "accept"}).status_code == 303
+    view = site.desk.mirror.view(lyres)
+    assert view and view.is_top and view.related == (harps,)
 
 
 def test_declined_with_a_word(site: Site, rita: Client) -> None:
@@ -132,10 +133,81 @@ def test_what_a_proposal_has_no_use_for_is_kept(site: Site, rita: Client, kind: 
 
 
 def test_a_proposal_that_is_refused_stays_open(site: Site, rita: Client) -> None:
-    made = propose(rita, concept=str(number(site, "Harps")), kind="pref", text="Violins")
+    """As what refuses it came after it."""
+    made = propose(rita, concept=str(number(site, "Harps")), kind="pref", text="Lyres")
+    perform(site, {"do": "concept", "scheme": 1, "tag": "en", "text": "Lyres"})
     answer = site.client("ben").post(f"/proposals/{made}/accept", {"form": "accept"})
-    assert answer.status_code == 409 and "Violins" in text_of(answer)
+    assert answer.status_code == 409 and "Lyres has the preferred term" in " ".join(text_of(answer).split())
     assert "open" in text_of(rita.get(f"/proposals/{made}"))
+
+
+@pytest.mark.parametrize(
+    ("concept", "values", "field", "part"),
+    [
+        ("Violins", {"kind": "alt", "text": " "}, "text", "The field is empty. Write a term."),
+        ("Violins", {"kind": "scope"}, "text", "The field is empty. Write a note."),
+        ("Violins", {"kind": "alt", "text": "x" * 257}, "text", "is one character too long"),
+        ("Violins", {"kind": "alt", "text": "Fine violins", "tag": ""}, "tag", "isn’t a language tag"),
+        ("Violins", {"kind": "alt", "text": "Fine violins", "tag": "x1y2z3w4q5"}, "tag", "isn’t a language tag"),
+        ("Violins", {"kind": "alt", "text": "Fine violins", "tag": "english"}, "tag", "isn’t a language tag"),
+        ("Violins", {"kind": "alt", "text": "Violins"}, "text", "is already the preferred term of Violins"),
+        ("Violins", {"kind": "alt", "text": "Violinen", "tag": "de"}, "text", "already has “Violinen” (de)"),
+        ("Violins", {"kind": "pref", "text": "Violins"}, "text", "is already the preferred term of Violins"),
+        ("Violins", {"kind": "pref", "text": "Violas"}, "text", "Violas has the preferred term “Violas” (en)"),
+        ("Violins", {"kind": "concept", "text": "Violas"}, "text", "Use that concept, or add a qualifier"),
+        ("", {"kind": "concept", "text": "Violas", "scheme": "1"}, "text", "Use that concept, or add a qualifier"),
+        ("Violins", {"kind": "broader", "other": "Violins"}, "other", "can’t be linked with itself"),
+        ("String instruments", {"kind": "broader", "other": "Violins"}, "other", "because it is below it already"),
+        ("Violins", {"kind": "related", "other": "String instruments"}, "other", "is already broader than Violins"),
+        ("Violins", {"kind": "related", "other": "Fiddles"}, "other", "is already linked with"),
+    ],
+)
+def test_a_proposal_that_would_be_refused(
+    site: Site, rita: Client, concept: str, values: dict[str, str], field: str, part: str
+) -> None:
+    """Its author sees why beside the field, and nothing that was typed is lost."""
+    about = {"concept": str(number(site, concept)), "other": ""} if concept else {}
+    sent = {"form": "propose", "reason": "Visitors say so.", "tag": "en", "text": "", **about, **values}
+    answer = rita.post("/propose", sent)
+    page = PageReader(answer.text)
+    (form,) = [it for it in page.forms if it.name == "propose"]
+    assert answer.status_code == 409 and form.invalid == {field}
+    assert part in form.text and " ".join("".join(page.words).split()).count(part) == 1
+    assert [form.value(name) for name in sent] == [*sent.values()]
+    assert site.desk.proposals.count_open() == 0
+
+
+def test_a_new_concept_that_is_alike(site: Site, rita: Client) -> None:
+    """Its author sees which concept has the term, and may mean another one."""
+    sent = {
+        "form": "propose",
+        "kind": "concept",
+        "scheme": "1",
+        "tag": "en",
+        "text": "VIOLÍNS",
+        "reason": "They say so.",
+    }
+    answer = rita.post("/propose", sent)
+    page = PageReader(answer.text)
+    (form,) = [it for it in page.forms if it.name == "propose"]
+    assert answer.status_code == 409 and form.invalid == {"text"} and form.value("text") == "VIOLÍNS"
+    assert f'href="/c/{number(site, "Violins")}"' in answer.text
+    assert form.text.count("differs in case or accents alone") == 1
+    assert rita.post("/propose", {**sent, "sure": "1"}).status_code == 303
+
+
+def test_a_proposal_about_a_concept_that_has_ended(site: Site, rita: Client) -> None:
+    """What was typed stays, and the form says what there is in place of the concept."""
+    fiddles = number(site, "Fiddles")
+    perform(site, {"do": "merge", "source": fiddles, "target": number(site, "Violins")})
+    asked = {"form": "propose", "reason": "They say so.", "concept": str(fiddles), "kind": "alt", "tag": "en"}
+    for concept, part in ((str(fiddles), "Fiddles was merged into Violins"), ("999", "No concept has the number 999")):
+        answer = rita.post("/propose", {**asked, "concept": concept, "text": "Folk fiddles"})
+        (form,) = [it for it in PageReader(answer.text).forms if it.name == "propose"]
+        assert answer.status_code == 409 and part in form.text
+        assert (form.value("text"), form.value("reason")) == ("Folk fiddles", "They say so.")
+    assert rita.post("/propose", {**asked, "concept": "", "text": "x"}).status_code == 400
+    assert site.desk.proposals.count_open() == 0
 
 
 def test_withdrawn_by_its_author_alone(site: Site, rita: Client) -> None:
