@@ -2,6 +2,7 @@
 from __future__ import annotations
 
 import re
+import sqlite3
 import time
 from concurrent.futures import ThreadPoolExecutor
 from typing import Any
@@ -117,6 +118,70 @@ def test_a_decision_has_the_name_of_who_decided(site: Site, rita: Client) -> Non
         page = " ".join(text_of(rita.get(path)).split())
         assert re.search(r"declined [-0-9: ]+UTC ben: We have it\.", page), path
     assert re.search(r"rita</span></p>", rita.get(f"/proposals/{made}").text), "she hasn't declined it"
+
+
+def navigation(client: Client) -> str:
+    """Returns the text of the navigation."""
+    found = re.search('<nav class="pages".*?</nav>', client.get("/").text, re.S)
+    assert found
+    return " ".join(re.sub("<[^>]*>", " ", found[0]).split())
+
+
+DECIDED = "Decided since you last looked"
+
+
+def test_an_author_reads_what_was_decided(site: Site, rita: Client) -> None:
+    """The navigation counts it until its author has read it: who decided it, when and why."""
+    ben, harps = site.client("ben"), str(number(site, "Harps"))
+    term, words = propose(rita, concept=harps, kind="alt", text="Lyres"), propose(rita, concept=harps, kind="words")
+    propose(rita, kind="words", reason="Still open.")
+    own = propose(ben, kind="words", reason="Ben asks himself.")
+    assert "decided" not in navigation(rita)
+    ben.post(f"/proposals/{term}/accept", {"form": "accept", "word": "Thanks."})
+    ben.post(f"/proposals/{words}/decline", {"form": "decline", "word": "We have it."})
+    ben.post(f"/proposals/{own}/accept", {"form": "accept"})
+    rita.ask("HEAD", "/proposals", None, {})
+    assert "Proposals 2 decided" in navigation(rita) and "decided" not in navigation(ben)
+    assert DECIDED not in ben.get("/proposals").text
+    page = " ".join(text_of(rita.get("/proposals")).split()).partition(DECIDED)[2]
+    assert re.search(r"declined [-0-9: ]+UTC ben: We have it\..* accepted [-0-9: ]+UTC ben: Thanks\..* withdrawn", page)
+    assert "decided" not in navigation(rita) and DECIDED not in rita.get("/proposals").text
+
+
+def test_an_author_reads_one_decision(site: Site, rita: Client) -> None:
+    """On the page of its proposal; a withdrawn one is nothing to read."""
+    one, other, withdrawn = (propose(rita, kind="words") for _ in range(3))
+    for it in (one, other):
+        site.client("ben").post(f"/proposals/{it}/decline", {"form": "decline", "word": "No."})
+    rita.post(f"/proposals/{withdrawn}/withdraw")
+    site.client("anna").get(f"/proposals/{one}")
+    assert "2 decided" in navigation(rita)
+    rita.get(f"/proposals/{one}")
+    assert "1 decided" in navigation(rita)
+
+
+def test_ones_own_proposals(site: Site, rita: Client) -> None:
+    propose(rita, kind="words", reason="Open yet.")
+    made = propose(rita, kind="words", reason="No more open.")
+    propose(site.client("ben"), kind="words", reason="Of another one.")
+    site.client("ben").post(f"/proposals/{made}/decline", {"form": "decline", "word": "No."})
+    rita.get("/proposals")
+    page = text_of(rita.get("/proposals?state=own"))
+    assert "Open yet." in page and "No more open." in page and "Of another one." not in page
+
+
+def test_a_decision_is_read_on_a_full_disk(site: Site, rita: Client, monkeypatch: pytest.MonkeyPatch) -> None:
+    made = propose(rita, kind="words")
+    site.client("ben").post(f"/proposals/{made}/decline", {"form": "decline", "word": "No."})
+
+    def full() -> None:
+        raise sqlite3.OperationalError("database or disk is full")
+
+    monkeypatch.setattr(site.desk.journal, "writing", full)
+    for path in ("/proposals", f"/proposals/{made}"):
+        assert rita.get(path).status_code == 200
+    monkeypatch.undo()
+    assert "1 decided" in navigation(rita)
 
 
 @pytest.mark.parametrize(

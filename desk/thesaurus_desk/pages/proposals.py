@@ -1,7 +1,9 @@
 """Proposals of terms and changes, which editors accept or decline; and comments at a resource."""
 from __future__ import annotations
 
-from collections.abc import Sequence
+import logging
+import sqlite3
+from collections.abc import Iterable, Sequence
 from typing import Any
 
 from flask import Blueprint, abort, render_template, request
@@ -24,6 +26,9 @@ PAGE = 50
 # How many comments are shown after the proposals.
 MOST_COMMENTS = 20
 STATES = ("open", "accepted", "declined", "withdrawn")
+# The list of the reader's own proposals, in any state.
+OWN = "own"
+LOG = logging.getLogger("desk")
 
 
 def the_proposals() -> Proposals:
@@ -36,15 +41,40 @@ def the_proposals() -> Proposals:
 
 @pages.get("/proposals")
 def proposals() -> Any:
-    """Shows proposals in a state, the last first."""
+    """Shows proposals in a state, or the reader's own, the last first; and before them which of these were decided
+    since the reader last looked."""
     state = request.args.get("state", "open")
-    chosen = state if state in STATES else "open"
-    before = number_of("before")
-    found = the_proposals().find(state=chosen, before=before, most=PAGE + 1)
+    chosen = state if state in (*STATES, OWN) else "open"
+    which_state, user = (None, person().name) if chosen == OWN else (chosen, None)
+    found = the_proposals().find(state=which_state, user=user, before=number_of("before"), most=PAGE + 1)
     further = f"/proposals?state={chosen}&before={found[PAGE - 1].id}" if len(found) > PAGE else ""
-    told = [(it, tell_proposal(it)) for it in found[:PAGE]]
-    page = {"state": chosen, "states": STATES, "proposals": told, "further": further}
-    return render_template("proposals/list.html", **page, comments=the_proposals().recent_comments(MOST_COMMENTS))
+    unread = the_proposals().unread(person().name, PAGE)
+    page = render_template(
+        "proposals/list.html",
+        state=chosen,
+        states=(*STATES, OWN),
+        proposals=tell_proposals(found[:PAGE]),
+        further=further,
+        decided=tell_proposals(unread),
+        comments=the_proposals().recent_comments(MOST_COMMENTS),
+    )
+    note_read(unread)
+    return page
+
+
+def note_read(shown: Sequence[Proposal]) -> None:
+    """Notes that the reader, who is their author, has read how proposals were decided."""
+    if request.method == "GET" and shown:
+        try:
+            the_proposals().note_read([it.id for it in shown])
+        except sqlite3.Error as error:
+            # (a full disk takes no page from who only reads)
+            LOG.warning("it isn't noted what %s has read: %s", person().name, error)
+
+
+def tell_proposals(proposals: Iterable[Proposal]) -> list[tuple[Proposal, list[Any]]]:
+    """Returns proposals, each with what it would do, or has done."""
+    return [(it, tell_proposal(it)) for it in proposals]
 
 
 def tell_proposal(proposal: Proposal) -> list[Any]:
@@ -57,8 +87,10 @@ def tell_proposal(proposal: Proposal) -> list[Any]:
 
 @pages.get("/proposals/<int:number>")
 def show_proposal(number: int) -> Any:
-    """Shows a proposal, and what may be done with it."""
-    return proposal_page(number, FormState(), 200)
+    """Shows a proposal, and what may be done with it; its author then has read how it was decided."""
+    page = proposal_page(number, FormState(), 200)
+    note_read([it for it in the_proposals().unread(person().name) if it.id == number])
+    return page
 
 
 def proposal_page(number: int, state: FormState, status: int) -> Any:
