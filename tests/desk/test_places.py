@@ -1,6 +1,7 @@
 """New concepts, moves, merges and splits: what each form does, and what is refused in it."""
 from __future__ import annotations
 
+import json
 import re
 
 import pytest
@@ -264,10 +265,9 @@ def test_a_concept_is_not_suggested_as_its_own_place(reader: Reader) -> None:
     assert is_choice(VIOLINS, move(reader, HARPS, other="Violin"))
     page = move(reader, VIOLINS, other="Violin")
     assert page.status == 409 and not is_choice(VIOLINS, page) and f'data-without="{VIOLINS}"' in page.html
-    suggested = [it["number"] for it in reader.client.get("/suggest?q=violin").json]
-    assert VIOLINS in suggested
-    others = reader.client.get(f"/suggest?q=violin&without={VIOLINS}").json
-    assert [it["number"] for it in others] == [it for it in suggested if it != VIOLINS]
+    paths = ("/suggest?q=violin", f"/suggest?q=violin&without={VIOLINS}")
+    every, others = ([it["number"] for it in json.loads(reader.client.get(path).text)] for path in paths)
+    assert VIOLINS in every and others == [it for it in every if it != VIOLINS]
 
 
 # --- merge ---
