@@ -144,7 +144,9 @@ def test_an_author_reads_what_was_decided(site: Site, rita: Client) -> None:
     assert "Proposals 2 decided" in navigation(rita) and "decided" not in navigation(ben)
     assert DECIDED not in ben.get("/proposals").text
     page = " ".join(text_of(rita.get("/proposals")).split()).partition(DECIDED)[2]
-    assert re.search(r"declined [-0-9: ]+UTC ben: We have it\..* accepted [-0-9: ]+UTC ben: Thanks\..* withdrawn", page)
+    assert re.search(
+        r"declined [-0-9: ]+UTC\S* ben: We have it\..* accepted [-0-9: ]+UTC\S* ben: Thanks\..* withdrawn", page
+    )
     assert "decided" not in navigation(rita) and DECIDED not in rita.get("/proposals").text
 
 
