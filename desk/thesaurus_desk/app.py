@@ -99,6 +99,7 @@ def install_words(app: Flask) -> None:
             "site": site_name(),
             "tags": tags(),
             "navigation": seen,
+            "unread": the_desk().proposals.count_unread(person().name) if person().name else 0,
             "pages_language": g.words.language,
             "pages_languages": LANGUAGES,
             "desk": the_desk(),

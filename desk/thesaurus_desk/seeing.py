@@ -11,7 +11,7 @@ from typing import TYPE_CHECKING, Any
 from thesaurus_desk.mirror import Mirror, View
 
 if TYPE_CHECKING:
-    from thesaurus_desk.journal import Journal, Plan
+    from thesaurus_desk.journal import Journal, Plan, Step
 
 # The parts of a resource: a change of one doesn't disturb who edits another.
 PARTS: dict[str, tuple[str, ...]] = {
@@ -22,6 +22,8 @@ PARTS: dict[str, tuple[str, ...]] = {
     "postings": ("is_live", "postings"),
 }
 PARTS["all"] = tuple(dict.fromkeys(name for names in PARTS.values() for name in names))
+# The requests that change each part, beside those of labels and those that end a concept.
+REQUESTS = {"labels": ("relabel",), "links": ("link", "unlink"), "postings": ("post", "withdraw", "import", "split")}
 # How many views that someone saw are kept, so that a difference can be shown.
 MOST_VIEWS = 5000
 
@@ -94,8 +96,13 @@ class Seen:
         with self.lock:
             old = self.views.get((number, part, was))
         changes = differences(old, view, part) if old and view else []
+        return Conflict(number, part, changes, self.since(number, part, plan), self.mark(number, part))
+
+    def since(self, number: int, part: str, plan: int) -> list[Plan]:
+        """Returns the plans after one that changed a part of a resource; what others changed by other means is among
+        them."""
         plans = self.journal.since(number, plan)
-        return Conflict(number, part, changes, plans, self.mark(number, part))
+        return [it for it in plans if not it.steps or any(is_change(step, number, part) for step in it.steps)]
 
 
 def read_mark(mark: str) -> tuple[int, str, str, int]:
@@ -104,6 +111,19 @@ def read_mark(mark: str) -> tuple[int, str, str, int]:
     if len(fields) == 4 and fields[0].isdecimal() and fields[1] in PARTS and fields[3].isdecimal():
         return int(fields[0]), fields[1], fields[2], int(fields[3])
     return 0, "all", "", 0
+
+
+def is_change(step: Step, number: int, part: str) -> bool:
+    """Whether a step that was performed is one that changes a part of a resource."""
+    request, do = step.request, step.request["do"]
+    if part == "all" or number not in step.numbers:
+        return part == "all"
+    if do in ("merge", "deprecate"):
+        # (both ends of a link that goes with a concept have other links)
+        return part == "links" or number in (request.get(it) for it in ("source", "target", "concept"))
+    if do in ("addLabel", "dropLabel"):
+        return part == ("notes" if request["kind"] == "scope" else "labels")
+    return do in REQUESTS.get(part, ())
 
 
 def differences(old: View, new: View, part: str) -> list[Change]:

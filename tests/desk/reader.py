@@ -144,6 +144,10 @@ class Page:
         """Returns where its links lead."""
         return re.findall(r'<a [^>]*href="([^"]*)"', self.html)
 
+    def dead_links(self) -> set[str]:
+        """Returns the links that lead to no part of the page, and should."""
+        return {it for it in self.links() if it[:1] == "#" and f'id="{it[1:]}"' not in self.html}
+
 
 def strip(html: str) -> str:
     """Returns the text of markup."""
@@ -157,13 +161,15 @@ class Reader:
         self.client = client or app.test_client()
 
     def read(self, answer: Any) -> Page:
-        """Returns the page of an answer, after its redirections."""
+        """Returns the page of an answer, after its redirections; its links to its own parts lead there."""
         while answer.status_code in (302, 303):
             answer = self.client.get(answer.headers["Location"].partition("#")[0])
         html = answer.get_data(as_text=True)
         reader = PageReader(html)
         text = " ".join("".join(reader.words).split())
-        return Page(answer.request.path, answer.status_code, html, reader.forms, text)
+        page = Page(answer.request.path, answer.status_code, html, reader.forms, text)
+        assert not page.dead_links(), f"{page.path}: {page.dead_links()}"
+        return page
 
     def get(self, path: str) -> Page:
         """Returns the page of a path."""

@@ -57,6 +57,15 @@ def test_a_refusal_has_the_focus_without_script(plain_hand: Hand) -> None:
     assert plain_hand.focused().get_attribute("value") == "Violins"
 
 
+def test_the_top_of_a_form_leads_to_what_was_refused(plain_hand: Hand) -> None:
+    plain_hand.open("/new")
+    plain_hand.fill("Preferred term", "Violins")
+    plain_hand.press("Make it")
+    plain_hand.sees("Use that concept, or add a qualifier")
+    plain_hand.press("See what was refused")
+    plain_hand.wait(lambda: plain_hand.focused().get_attribute("id") == "new-text", "the focus at the field")
+
+
 def test_a_split_over_pages_without_script(plain_hand: Hand) -> None:
     rows = "".join(f"k-{n},Harp {n:03},5\n" for n in range(120))
     plain_hand.open("/bring-in")

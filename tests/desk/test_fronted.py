@@ -130,7 +130,7 @@ def test_in_a_browser(fronted: Fronted) -> None:
         for field, value in (("old", "wrong"), ("new", "a new one, long"), ("again", "a new one, long")):
             browser.find(f"#password-{field}").send_keys(value)
         browser.sends(lambda: browser.press(Keys.ENTER))
-        assert "isn’t your password" in browser.text("[role=alert]"), "the browser's Origin is that of the desk"
+        assert "isn’t your password" in browser.text(".wrong"), "the browser's Origin is that of the desk"
         cookie = browser.driver.get_cookie("__Host-desk")
         assert cookie and cookie["httpOnly"] and cookie["secure"] and cookie["sameSite"] == "Strict"
         assert browser.errors() == []

@@ -196,6 +196,23 @@ def test_proposals(desk: Desk) -> None:
     assert desk.proposals.decide(other, "withdrawn", "rudi") and desk.proposals.count_open() == 0
 
 
+def test_decisions_in_a_journal_of_an_earlier_desk(desk: Desk, open_desk: Callable[[Path], Desk]) -> None:
+    """What was decided before is read; what is decided from now on isn't."""
+    old = desk.proposals.propose("ines", "in words", [], "A term for lutes is missing.")
+    assert desk.proposals.decide(old, "declined", "ben", "It isn't.")
+    desk.stop()
+    with closing(sqlite3.connect(journal_of(desk.db))) as tables:
+        tables.execute("DROP TABLE unread")
+        tables.commit()
+    proposals = open_desk(desk.db).proposals
+    assert proposals.unread("ines") == [] and proposals.count_unread("ines") == 0
+    new = proposals.propose("ines", "in words", [], "A term for lutes is missing still.")
+    assert proposals.decide(new, "declined", "ben", "It isn't.") and proposals.count_unread("ines") == 1
+    assert [it.id for it in proposals.unread("ines")] == [new] and proposals.unread("ben") == []
+    proposals.note_read([new])
+    assert proposals.count_unread("ines") == 0
+
+
 def test_comments(desk: Desk) -> None:
     first = desk.proposals.comment("ines", 5, "Is this <b>right</b>?")
     second = desk.proposals.comment("anna", 5, "It is.")

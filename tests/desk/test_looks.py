@@ -137,9 +137,7 @@ def test_the_page_on_which_one_comes_in(served: Running) -> None:
         browser.find("#login-name").send_keys("ben")
         browser.find("#login-password").send_keys("wrong")
         browser.sends(lambda: browser.press(Keys.ENTER))
-        assert (
-            "is wrong" in browser.text("[role=alert]") and browser.run(STRUCTURE) == [] and browser.run(CONTRAST) == []
-        )
+        assert "is wrong" in browser.text(".wrong") and browser.run(STRUCTURE) == [] and browser.run(CONTRAST) == []
         assert browser.focused().get_attribute("id") == "login-password", "the focus is where something is wrong"
         browser.find("#login-password").send_keys(PASSWORD)
         browser.sends(lambda: browser.press(Keys.ENTER))

@@ -14,6 +14,7 @@ from conftest import BASE
 from dice import Requests
 from thesaurus_desk.mirror import Link, Mirror, read_mirror
 from thesaurus_desk.mirror.foresee import Broken, foresee_merge, rule_broken_by_link, rule_broken_by_merge
+from thesaurus_desk.mirror.rules import CHECKS, refusal_of
 from thesaurus_desk.performing import Desk
 from thesaurus_tools.export_store import ExportStore
 from thesaurus_tools.kinds import BROADER
@@ -23,6 +24,13 @@ REQUESTS = 5000
 # Resources are made until there is this number of them.
 ENOUGH = 60
 RULES = ("Cycle", "S27", "S46")
+# Refusals that the desk foresees.
+FORESEEN = {
+    "concept": ("UnknownResource", "WrongKind", "PreferredTaken"),
+    "addLabel": ("UnknownResource", "WrongKind", "NotLive", "LabelThere", "S13", "S14", "PreferredTaken"),
+    "relabel": ("WrongKind", "NotLive", "NoSuchLabel", "S13", "PreferredTaken"),
+    "link": ("UnknownResource", "WrongKind", "NotLive", "SameResource", "OtherScheme", "LinkThere", *RULES),
+}
 
 
 def assert_same(one: Mirror, other: Mirror) -> None:
@@ -107,6 +115,15 @@ def throw(desk: Desk, dice: Requests) -> dict[str, Any]:
     return dict(request)
 
 
+def thrown(desk: Desk, dice: Requests) -> Iterator[dict[str, Any]]:
+    """Yields random requests, and then those that the dice hardly throw."""
+    for _ in range(REQUESTS):
+        yield throw(desk, dice)
+    concept = desk.mirror.numbers("concept", live=True)[0]
+    yield {"do": "link", "kind": "related", "a": concept, "b": concept}
+    yield {"do": "concept", "scheme": len(desk.mirror.resources) + 1, "tag": "en", "text": "t10"}
+
+
 @pytest.fixture
 def room() -> Iterator[Path]:
     """A folder in memory: nothing here waits for a disk."""
@@ -126,13 +143,14 @@ def alone(monkeypatch: pytest.MonkeyPatch) -> None:
 def test_random_requests(room: Path, open_desk: Callable[[Path], Desk]) -> None:
     desk = open_desk(room / "random.db")
     dice, seen = Requests(1), Counter[str]()
-    for _ in range(REQUESTS):
-        request = throw(desk, dice)
+    for request in thrown(desk, dice):
         broken = foreseen(desk.mirror, request)
+        refusal = refusal_of(desk.mirror, request) if request["do"] in CHECKS else None
         before = desk.mirror.version
         outcome = desk.perform("anna", "test", [request])
         answer = outcome.steps[0].answer or {}
         seen[f"{request['do']} {answer.get('no', 'done')}"] += 1
+        assert refusal in (None, answer.get("no", "")), (request, answer, refusal)
         if broken or answer.get("no") in RULES:
             assert broken is not None and answer == {"no": broken.rule}, (request, answer, broken)
             assert_breaks(desk, request, broken)
@@ -140,8 +158,9 @@ def test_random_requests(room: Path, open_desk: Callable[[Path], Desk]) -> None:
             assert desk.mirror.version == before
         else:
             assert outcome.steps[0].foreseen in (answer, {**answer, "known": True})
-    for rule in RULES:
-        assert seen[f"merge {rule}"] and seen[f"link {rule}"]
+    assert all(seen[f"merge {rule}"] for rule in RULES)
+    assert CHECKS.keys() == FORESEEN.keys()
+    assert [f"{do} {it}" for do, names in FORESEEN.items() for it in (*names, "done") if not seen[f"{do} {it}"]] == []
     assert seen["merge done"] > 10 and seen["split done"] and seen["deprecate done"]
     assert_as_views(desk)
     assert_as_export(desk)

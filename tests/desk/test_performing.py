@@ -133,6 +133,33 @@ def test_two_editors(desk: Desk, part: str, change: Callable[[int], dict[str, An
     assert again.is_done == desk.mirror.is_live(violins)
 
 
+def test_a_conflict_names_those_who_changed_the_part(desk: Desk) -> None:
+    """And nobody who changed another part of the concept, or only something that it is linked with."""
+    violins, violas, fiddles = (number(desk, it) for it in ("Violins", "Violas", "Fiddles"))
+    marks = {part: desk.seen.mark(violins, part) for part in ("labels", "notes", "links", "postings", "all")}
+    changes = {
+        "labels": [{"do": "relabel", "owner": violins, "tag": "en", "text": "Fine violins", "keep": True}],
+        "notes": [label("addLabel", violins, "scope", "Bowed.")],
+        "links": [link("link", "related", violins, number(desk, "Harps"))],
+        "postings": [post("p-9", violins)],
+        "others": [label("addLabel", violas, "alt", "Fine violas"), post("p-10", fiddles)],
+    }
+    for user, requests in changes.items():
+        assert desk.perform(user, "test", requests).is_done
+    merge = {"do": "merge", "source": fiddles, "target": violas}
+    assert fiddles in view(desk, violins).related and desk.perform("merger", "merge", [merge]).is_done
+    found = {part: desk.seen.conflict(mark) for part, mark in marks.items()}
+    users = {part: [plan.user for plan in it.plans] for part, it in found.items() if it}
+    assert users.pop("links") == ["links", "merger"] and users.pop("all") == [*marks][:-1] + ["merger"]
+    assert users == {it: [it] for it in ("labels", "notes", "postings")}
+    split = {"do": "split", "source": violins, "tag": "en", "text": "Early violins", "postings": [1]}
+    assert desk.perform("splitter", "split", [split]).is_done
+    assert desk.perform("ender", "deprecate", [{"do": "deprecate", "concept": violins}]).is_done
+    after = {part: desk.seen.conflict(mark) for part, mark in marks.items()}
+    users = {part: [plan.user for plan in it.plans] for part, it in after.items() if it}
+    assert users["postings"] == ["postings", "splitter", "ender"] and users["labels"] == ["labels", "ender"]
+
+
 def test_marks_of_others_are_conflicts(desk: Desk) -> None:
     for mark in (
         "",

@@ -1,11 +1,12 @@
 """New concepts, moves, merges and splits: what each form does, and what is refused in it."""
 from __future__ import annotations
 
+import json
 import re
 
 import pytest
-from asking import view
-from reader import Form, Page, Reader
+from asking import label, link, view
+from reader import Form, Page, Reader, strip
 from thesaurus_desk.performing import Desk
 
 STRINGS, BOWED, VIOLINS, VIOLAS, CELLOS, PLUCKED, HARPS, BOWS, FIDDLES = 3, 4, 5, 6, 7, 9, 11, 29, 31
@@ -77,6 +78,30 @@ def test_a_new_concept_that_is_refused(
     assert page.status == 409 and part in form.text and form.invalid == {field}
     assert all(form.value(name) == text for name, text in fields.items())
     assert len(desk.mirror.numbers("concept", live=True)) == before
+
+
+@pytest.mark.parametrize(
+    ("path", "form", "field", "text", "part"),
+    [
+        ("/new", "new", "text", "Violins", "Use that concept, or add a qualifier"),
+        ("/new/scheme", "new", "text", "Musical instruments", "There is one of this name already"),
+        (f"/c/{BOWED}/move", "move", "other", "Violins", "because it is below it already"),
+        (f"/c/{VIOLINS}/split", "split", "text", "Fiddles", "Use that concept, or add a qualifier"),
+        (f"/c/{VIOLINS}", "add-related", "other", "Bowed instruments", "Two terms are either related"),
+    ],
+)
+def test_a_refusal_is_said_once(reader: Reader, path: str, form: str, field: str, text: str, part: str) -> None:
+    """Beside its field, to which the top of the page leads."""
+    page = reader.send(reader.get(path).form(form), **{field: text})
+    assert page.status == 409 and page.form(form).invalid == {field}
+    assert page.form(form).text.count(part) == 1 and part not in page.alerts
+    assert "Nothing was changed. See what was refused" in page.alerts and f"#{form}-{field}" in page.links()
+
+
+def test_a_choice_is_asked_for_once(reader: Reader) -> None:
+    page = reader.send(reader.get(f"/c/{HARPS}/move").form("move"), other="Violin")
+    assert page.text.count("Did you mean one of these?") == 1 and page.text.count("Which one do you mean?") == 1
+    assert page.form("move").invalid == {"other"} and page.form("move").value("chosen")
 
 
 def test_new_collections_and_schemes(reader: Reader, desk: Desk) -> None:
@@ -152,6 +177,7 @@ def test_several_concepts_are_moved_as_one(reader: Reader, desk: Desk) -> None:
         (BOWED, {"other": "Violins"}, "because it is below it already"),
         (VIOLINS, {"other": "Nowhere"}, "No concept has the term"),
         (VIOLINS, {"other": "Bowed instruments"}, "is already below"),
+        (VIOLINS, {"other": "Bowed instruments", "from": ""}, "is already below"),
         (VIOLINS, {"other": "Plucked instruments", "from": str(HARPS)}, "no longer this broader one"),
         (VIOLINS, {"other": "Cellos", "with": [str(CELLOS)]}, "can’t be linked with itself"),
         (VIOLINS, {"other": "Fiddles"}, "Two terms are either related"),
@@ -190,6 +216,58 @@ def test_a_move_from_a_place_that_is_gone_asks_from_where(reader: Reader, desk: 
     page = reader.send(again)
     assert page.status == 409 and "Choose from where it moves." in page.text
     assert view(desk, VIOLINS).broader == (PLUCKED,)
+
+
+def move_for(desk: Desk, user: str, number: int) -> None:
+    """Has someone move a concept from the bowed instruments to the plucked ones."""
+    kind = "broaderGeneric"
+    requests = [link("link", kind, number, PLUCKED), link("unlink", kind, number, BOWED)]
+    assert desk.perform(user, "move", requests).is_done
+
+
+@pytest.mark.parametrize(
+    ("user", "said"), [("ben", "Somebody changed Violins after you opened"), ("anna", "You changed Violins yourself")]
+)
+@pytest.mark.parametrize("other", ["String instruments", "Nowhere"])
+def test_a_move_of_what_someone_moved_says_who_and_when(
+    reader: Reader, desk: Desk, user: str, said: str, other: str
+) -> None:
+    """And what; a change of another part isn't among it."""
+    mine = reader.get(f"/c/{VIOLINS}/move").form("move")
+    move_for(desk, user, VIOLINS)
+    assert desk.perform("ina", "add_term", [label("addLabel", VIOLINS, "alt", "Fine violins")]).is_done
+    page = reader.send(mine, other=other)
+    told = page.html.split('id="move-why"')[1].split("</div>")[0]
+    text = strip(told)
+    assert page.status == 409 and said in text and "Fine violins" not in text
+    assert "removed broader term (generic) Bowed instruments" in text
+    assert "added broader term (generic) Plucked instruments" in text
+    assert re.search(rf'<time datetime=[^>]+>[-0-9: ]+UTC[^<]*</time> <span class="by" dir="auto">{user}</span>', told)
+    assert "Violins: broader term (generic) Plucked instruments added" in text
+    page = reader.send(page.form("move"), **{"from": str(PLUCKED), "other": "String instruments"})
+    assert page.status == 200 and view(desk, VIOLINS).broader == (STRINGS,)
+
+
+def test_a_move_with_what_someone_moved_says_who_and_when(reader: Reader, desk: Desk) -> None:
+    mine = reader.get(f"/c/{VIOLINS}/move").form("move")
+    move_for(desk, "ben", CELLOS)
+    page = reader.send(mine, other="String instruments", **{"with": [str(CELLOS)]})
+    told = page.html.split('id="move-why"')[1].split("</div>")[0]
+    assert page.status == 409 and "Cellos is no longer below Bowed instruments" in strip(told)
+    assert "Somebody changed Cellos" in strip(told) and ">ben</span>" in told and "<time " in told
+    assert view(desk, VIOLINS).broader == (BOWED,)
+
+
+def test_a_concept_is_not_suggested_as_its_own_place(reader: Reader) -> None:
+    def is_choice(number: int, page: Page) -> bool:
+        return f'name="chosen" value="{number}"' in page.html
+
+    assert is_choice(VIOLINS, move(reader, HARPS, other="Violin"))
+    page = move(reader, VIOLINS, other="Violin")
+    assert page.status == 409 and not is_choice(VIOLINS, page) and f'data-without="{VIOLINS}"' in page.html
+    paths = ("/suggest?q=violin", f"/suggest?q=violin&without={VIOLINS}")
+    every, others = ([it["number"] for it in json.loads(reader.client.get(path).text)] for path in paths)
+    assert VIOLINS in every and others == [it for it in every if it != VIOLINS]
 
 
 # --- merge ---

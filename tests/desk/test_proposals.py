@@ -2,13 +2,15 @@
 from __future__ import annotations
 
 import re
+import sqlite3
 import time
 from concurrent.futures import ThreadPoolExecutor
 from typing import Any
 
 import pytest
 from clients import Client, Site, hold_up_once, text_of
-from test_changes import number
+from reader import PageReader
+from test_changes import number, perform
 from thesaurus_desk.performing import Outcome
 
 
@@ -71,13 +73,13 @@ def test_a_new_concept_below(site: Site, rita: Client) -> None:
 
 
 def test_a_new_top_concept_and_a_link(site: Site, rita: Client) -> None:
-    made = propose(rita, kind="concept", text="Lutes", scheme="1")
-    site.client("anna").post(f"/proposals/{made}/accept", {"form": "accept"})
-    lutes, harps = number(site, "Lutes"), number(site, "Harps")
-    made = propose(rita, concept=str(lutes), kind="related", other="Harps", other_number=str(harps))
-    site.client("anna").post(f"/proposals/{made}/accept", {"form": "accept"})
-    view = site.desk.mirror.view(lutes)
-    assert view and view.related == (harps,)
+    made = propose(rita, kind="concept", text="Lyres", scheme="1")
+    assert site.client("anna").post(f"/proposals/{made}/accept", {"form": "accept"}).status_code == 303
+    lyres, harps = number(site, "Lyres"), number(site, "Harps")
+    made = propose(rita, concept=str(lyres), kind="related", other="Harps", other_number=str(harps))
+    assert site.client("anna").post(f"/proposals/{made}/accept", {"form": "accept"}).status_code == 303
+    view = site.desk.mirror.view(lyres)
+    assert view and view.is_top and view.related == (harps,)
 
 
 def test_declined_with_a_word(site: Site, rita: Client) -> None:
@@ -118,6 +120,72 @@ def test_a_decision_has_the_name_of_who_decided(site: Site, rita: Client) -> Non
     assert re.search(r"rita</span></p>", rita.get(f"/proposals/{made}").text), "she hasn't declined it"
 
 
+def navigation(client: Client) -> str:
+    """Returns the text of the navigation."""
+    found = re.search('<nav class="pages".*?</nav>', client.get("/").text, re.S)
+    assert found
+    return " ".join(re.sub("<[^>]*>", " ", found[0]).split())
+
+
+DECIDED = "Decided since you last looked"
+
+
+def test_an_author_reads_what_was_decided(site: Site, rita: Client) -> None:
+    """The navigation counts it until its author has read it: who decided it, when and why."""
+    ben, harps = site.client("ben"), str(number(site, "Harps"))
+    term, words = propose(rita, concept=harps, kind="alt", text="Lyres"), propose(rita, concept=harps, kind="words")
+    propose(rita, kind="words", reason="Still open.")
+    own = propose(ben, kind="words", reason="Ben asks himself.")
+    assert "decided" not in navigation(rita)
+    ben.post(f"/proposals/{term}/accept", {"form": "accept", "word": "Thanks."})
+    ben.post(f"/proposals/{words}/decline", {"form": "decline", "word": "We have it."})
+    ben.post(f"/proposals/{own}/accept", {"form": "accept"})
+    rita.ask("HEAD", "/proposals", None, {})
+    assert "Proposals 2 decided" in navigation(rita) and "decided" not in navigation(ben)
+    assert DECIDED not in ben.get("/proposals").text
+    page = " ".join(text_of(rita.get("/proposals")).split()).partition(DECIDED)[2]
+    assert re.search(
+        r"declined [-0-9: ]+UTC\S* ben: We have it\..* accepted [-0-9: ]+UTC\S* ben: Thanks\..* withdrawn", page
+    )
+    assert "decided" not in navigation(rita) and DECIDED not in rita.get("/proposals").text
+
+
+def test_an_author_reads_one_decision(site: Site, rita: Client) -> None:
+    """On the page of its proposal; a withdrawn one is nothing to read."""
+    one, other, withdrawn = (propose(rita, kind="words") for _ in range(3))
+    for it in (one, other):
+        site.client("ben").post(f"/proposals/{it}/decline", {"form": "decline", "word": "No."})
+    rita.post(f"/proposals/{withdrawn}/withdraw")
+    site.client("anna").get(f"/proposals/{one}")
+    assert "2 decided" in navigation(rita)
+    rita.get(f"/proposals/{one}")
+    assert "1 decided" in navigation(rita)
+
+
+def test_ones_own_proposals(site: Site, rita: Client) -> None:
+    propose(rita, kind="words", reason="Open yet.")
+    made = propose(rita, kind="words", reason="No more open.")
+    propose(site.client("ben"), kind="words", reason="Of another one.")
+    site.client("ben").post(f"/proposals/{made}/decline", {"form": "decline", "word": "No."})
+    rita.get("/proposals")
+    page = text_of(rita.get("/proposals?state=own"))
+    assert "Open yet." in page and "No more open." in page and "Of another one." not in page
+
+
+def test_a_decision_is_read_on_a_full_disk(site: Site, rita: Client, monkeypatch: pytest.MonkeyPatch) -> None:
+    made = propose(rita, kind="words")
+    site.client("ben").post(f"/proposals/{made}/decline", {"form": "decline", "word": "No."})
+
+    def full() -> None:
+        raise sqlite3.OperationalError("database or disk is full")
+
+    monkeypatch.setattr(site.desk.journal, "writing", full)
+    for path in ("/proposals", f"/proposals/{made}"):
+        assert rita.get(path).status_code == 200
+    monkeypatch.undo()
+    assert "1 decided" in navigation(rita)
+
+
 @pytest.mark.parametrize(
     ("kind", "field"), [("words", "text"), ("broader", "text"), ("alt", "other"), ("words", "other")]
 )
@@ -132,11 +200,82 @@ def test_what_a_proposal_has_no_use_for_is_kept(site: Site, rita: Client, kind: 
 
 
 def test_a_proposal_that_is_refused_stays_open(site: Site, rita: Client) -> None:
-    made = propose(rita, concept=str(number(site, "Harps")), kind="pref", text="Violins")
+    """As what refuses it came after it."""
+    made = propose(rita, concept=str(number(site, "Harps")), kind="pref", text="Lyres")
+    perform(site, {"do": "concept", "scheme": 1, "tag": "en", "text": "Lyres"})
     answer = site.client("ben").post(f"/proposals/{made}/accept", {"form": "accept"})
-    assert answer.status_code == 409 and "Violins" in text_of(answer)
+    assert answer.status_code == 409 and "Lyres has the preferred term" in " ".join(text_of(answer).split())
     proposal = site.desk.proposals.get(made)
     assert proposal and proposal.state == "open"
+
+
+@pytest.mark.parametrize(
+    ("concept", "values", "field", "part"),
+    [
+        ("Violins", {"kind": "alt", "text": " "}, "text", "The field is empty. Write a term."),
+        ("Violins", {"kind": "scope"}, "text", "The field is empty. Write a note."),
+        ("Violins", {"kind": "alt", "text": "x" * 257}, "text", "is one character too long"),
+        ("Violins", {"kind": "alt", "text": "Fine violins", "tag": ""}, "tag", "isn’t a language tag"),
+        ("Violins", {"kind": "alt", "text": "Fine violins", "tag": "x1y2z3w4q5"}, "tag", "isn’t a language tag"),
+        ("Violins", {"kind": "alt", "text": "Fine violins", "tag": "english"}, "tag", "isn’t a language tag"),
+        ("Violins", {"kind": "alt", "text": "Violins"}, "text", "is already the preferred term of Violins"),
+        ("Violins", {"kind": "alt", "text": "Violinen", "tag": "de"}, "text", "already has “Violinen” (de)"),
+        ("Violins", {"kind": "pref", "text": "Violins"}, "text", "is already the preferred term of Violins"),
+        ("Violins", {"kind": "pref", "text": "Violas"}, "text", "Violas has the preferred term “Violas” (en)"),
+        ("Violins", {"kind": "concept", "text": "Violas"}, "text", "Use that concept, or add a qualifier"),
+        ("", {"kind": "concept", "text": "Violas", "scheme": "1"}, "text", "Use that concept, or add a qualifier"),
+        ("Violins", {"kind": "broader", "other": "Violins"}, "other", "can’t be linked with itself"),
+        ("String instruments", {"kind": "broader", "other": "Violins"}, "other", "because it is below it already"),
+        ("Violins", {"kind": "related", "other": "String instruments"}, "other", "is already broader than Violins"),
+        ("Violins", {"kind": "related", "other": "Fiddles"}, "other", "is already linked with"),
+    ],
+)
+def test_a_proposal_that_would_be_refused(
+    site: Site, rita: Client, concept: str, values: dict[str, str], field: str, part: str
+) -> None:
+    """Its author sees why beside the field, and nothing that was typed is lost."""
+    about = {"concept": str(number(site, concept)), "other": ""} if concept else {}
+    sent = {"form": "propose", "reason": "Visitors say so.", "tag": "en", "text": "", **about, **values}
+    answer = rita.post("/propose", sent)
+    page = PageReader(answer.text)
+    (form,) = [it for it in page.forms if it.name == "propose"]
+    assert answer.status_code == 409 and form.invalid == {field}
+    assert part in form.text and " ".join("".join(page.words).split()).count(part) == 1
+    assert [form.value(name) for name in sent] == [*sent.values()]
+    assert site.desk.proposals.count_open() == 0
+
+
+def test_a_new_concept_that_is_alike(site: Site, rita: Client) -> None:
+    """Its author sees which concept has the term, and may mean another one."""
+    sent = {
+        "form": "propose",
+        "kind": "concept",
+        "scheme": "1",
+        "tag": "en",
+        "text": "VIOLÍNS",
+        "reason": "They say so.",
+    }
+    answer = rita.post("/propose", sent)
+    page = PageReader(answer.text)
+    (form,) = [it for it in page.forms if it.name == "propose"]
+    assert answer.status_code == 409 and form.invalid == {"text"} and form.value("text") == "VIOLÍNS"
+    assert f'href="/c/{number(site, "Violins")}"' in answer.text
+    assert form.text.count("differs in case or accents alone") == 1
+    assert rita.post("/propose", {**sent, "sure": "1"}).status_code == 303
+
+
+def test_a_proposal_about_a_concept_that_has_ended(site: Site, rita: Client) -> None:
+    """What was typed stays, and the form says what there is in place of the concept."""
+    fiddles = number(site, "Fiddles")
+    perform(site, {"do": "merge", "source": fiddles, "target": number(site, "Violins")})
+    asked = {"form": "propose", "reason": "They say so.", "concept": str(fiddles), "kind": "alt", "tag": "en"}
+    for concept, part in ((str(fiddles), "Fiddles was merged into Violins"), ("999", "No concept has the number 999")):
+        answer = rita.post("/propose", {**asked, "concept": concept, "text": "Folk fiddles"})
+        (form,) = [it for it in PageReader(answer.text).forms if it.name == "propose"]
+        assert answer.status_code == 409 and part in form.text
+        assert (form.value("text"), form.value("reason")) == ("Folk fiddles", "They say so.")
+    assert rita.post("/propose", {**asked, "concept": "", "text": "x"}).status_code == 400
+    assert site.desk.proposals.count_open() == 0
 
 
 def test_withdrawn_by_its_author_alone(site: Site, rita: Client) -> None:

@@ -49,6 +49,16 @@ def test_a_record_that_is_refused(reader: Reader, desk: Desk, fields: dict[str, 
     assert form.value("record") == fields["record"] and desk.mirror.postings.count_at(VIOLINS) == 0
 
 
+def test_a_key_that_no_field_shows(reader: Reader, desk: Desk) -> None:
+    """What is wrong with it is said of the form."""
+    post_many(desk, 1, VIOLAS)
+    page = reader.send(reader.get(f"/record?name={STAINER}").form("add"), other="Violins")
+    for form in ("add", "reindex-2"):
+        refused = reader.send(page.form(form), other="Harps", key="k-0")
+        assert refused.status == 409 and "belongs to the record Violin 0000" in refused.alerts
+        assert refused.form(form).invalid == set() and refused.form(form).value("other") == "Harps"
+
+
 def test_a_record_is_withdrawn_at_a_concept(reader: Reader, desk: Desk) -> None:
     post_many(desk, 2)
     page = reader.send(reader.get(f"/c/{VIOLINS}").form("withdraw", posting="1"))

@@ -77,10 +77,16 @@ class Proposals:
         return proposal_of(row) if row else None
 
     def find(
-        self, *, state: str | None = None, concept: int | None = None, before: int | None = None, most: int = 200
+        self,
+        *,
+        state: str | None = None,
+        user: str | None = None,
+        concept: int | None = None,
+        before: int | None = None,
+        most: int = 200,
     ) -> list[Proposal]:
-        """Returns proposals, the last first: in a state, about a concept, before another one."""
-        tests = {"state = ?": state, "concept = ?": concept, "id < ?": before}
+        """Returns proposals, the last first: in a state, of a user, about a concept, before another one."""
+        tests = {"state = ?": state, "user = ?": user, "concept = ?": concept, "id < ?": before}
         where = [test for test, value in tests.items() if value is not None]
         values = [value for value in tests.values() if value is not None]
         condition = f"WHERE {' AND '.join(where)}" if where else ""
@@ -92,14 +98,36 @@ class Proposals:
         row = self.journal.one("SELECT count(*) FROM proposal WHERE state = 'open'")
         return int(row[0]) if row else 0
 
+    def unread(self, user: str, most: int = 200) -> list[Proposal]:
+        """Returns the proposals of a user of which the user hasn't read how others decided them, the last decision
+        first."""
+        of_user = "SELECT proposal.* FROM unread JOIN proposal ON id = proposal WHERE user = ?"
+        return [
+            proposal_of(it)
+            for it in self.journal.all(f"{of_user} ORDER BY decided_at DESC, id DESC LIMIT ?", user, most)
+        ]
+
+    def count_unread(self, user: str) -> int:
+        """Returns the number of proposals of a user of which the user hasn't read how others decided them."""
+        row = self.journal.one("SELECT count(*) FROM unread JOIN proposal ON id = proposal WHERE user = ?", user)
+        return int(row[0]) if row else 0
+
+    def note_read(self, numbers: Sequence[int]) -> None:
+        """Notes that the authors of proposals have read how they were decided."""
+        with self.journal.writing() as rows:
+            rows.executemany("DELETE FROM unread WHERE proposal = ?", [(it,) for it in numbers])
+
     def decide(self, number: int, state: str, user: str, word: str = "", plan: int | None = None) -> bool:
-        """Accepts, declines or withdraws a proposal that is open. Returns False if it isn't open any more."""
+        """Accepts, declines or withdraws a proposal that is open, which its author, if it is another one, is to read.
+        Returns False if it isn't open any more."""
         with self.journal.writing() as rows:
             done = rows.execute(
                 "UPDATE proposal SET state = ?, decided_at = ?, decided_by = ?, word = ?, plan = ?"
                 " WHERE id = ? AND state = 'open'",
                 (state, now(), user, word[:LONGEST_TEXT] or None, plan, number),
             )
+            if done.rowcount == 1:
+                rows.execute("INSERT INTO unread SELECT id FROM proposal WHERE id = ? AND user <> ?", (number, user))
             return done.rowcount == 1
 
     def comment(self, user: str, number: int, text: str) -> int:

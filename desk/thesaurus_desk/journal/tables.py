@@ -47,6 +47,9 @@ CREATE INDEX plan_takes_back ON plan (takes_back) WHERE takes_back IS NOT NULL;
 CREATE INDEX plan_at ON plan (at);
 CREATE INDEX comment_number ON comment (number);
 """
+# Proposals whose authors haven't read how they were decided. A journal of an earlier desk lacks this table, and a desk
+# that is earlier doesn't miss it, so it needs no other version.
+UNREAD = "CREATE TABLE IF NOT EXISTS unread (proposal INTEGER PRIMARY KEY REFERENCES proposal (id)) STRICT"
 
 
 def journal_of(store: Path) -> Path:
@@ -127,6 +130,7 @@ class Database:
         if is_new:
             mark = f"PRAGMA application_id = {APPLICATION}; PRAGMA user_version = {VERSION};"
             self.rows.executescript(f"BEGIN; {TABLES} {mark} COMMIT;")
+        self.rows.execute(UNREAD)
         # (whoever reads needn't wait until the disk has what another one writes)
         self.reader = sqlite3.connect(self.path, check_same_thread=False, isolation_level=None, timeout=5)
         self.reader.row_factory = sqlite3.Row

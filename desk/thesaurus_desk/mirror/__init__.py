@@ -8,6 +8,7 @@
   reading      a mirror read from the tables of a store
   changes      what a request that was performed changes
   foresee      what a merge, a split or a link would do, to explain it
+  rules        which rule refuses a new concept, a term, a note or a link
 """
 from thesaurus_desk.mirror.look_ups import Mirror
 from thesaurus_desk.mirror.postings import Posting

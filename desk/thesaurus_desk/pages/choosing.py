@@ -21,9 +21,15 @@ class Chosen:
 
 
 def choose(
-    values: Mapping[str, str], name: str = "other", kinds: Sequence[str] = ("concept",), scheme: int | None = None
+    values: Mapping[str, str],
+    name: str = "other",
+    kinds: Sequence[str] = ("concept",),
+    scheme: int | None = None,
+    without: int | None = None,
 ) -> Chosen:
-    """Returns the concept that a field names; one of a scheme, if its terms alone are to decide."""
+    """Returns the concept that a field names; one of a scheme, if its terms alone are to decide.
+
+    `without`: the concept that the form is about, which is never among those to choose from."""
     text = " ".join(values.get(name, "").split())
     # (a choice was offered for a text, and holds as long as that stays)
     chosen = values.get("chosen", "") if values.get("chosen_for", "") == text else ""
@@ -37,7 +43,11 @@ def choose(
     number = by_number_or_iri(text)
     if number is not None and the_mirror().get(number) is not None:
         return Chosen(number)
-    return choose_by_term(text, kinds, scheme)
+    found = choose_by_term(text, kinds, scheme)
+    if without not in found.choices:
+        return found
+    others = tuple(it for it in found.choices if it != without)
+    return Chosen(None, found.problem if others else say("refusals.Choice.none", text=text), others)
 
 
 def choose_by_term(text: str, kinds: Sequence[str], scheme: int | None) -> Chosen:

@@ -14,7 +14,6 @@ from thesaurus_desk.forms import FormState
 from thesaurus_desk.mirror import Posting, View
 from thesaurus_desk.pages.history import history_of
 from thesaurus_desk.pages.telling import tell_plans
-from thesaurus_desk.pages.proposals import the_proposals
 from thesaurus_desk.pages.posting_keys import new_key
 from thesaurus_desk.seeing import PARTS
 from thesaurus_desk.sheets import rows_of_postings, sheet, sheet_of_rows
@@ -99,7 +98,7 @@ def resource_page(number: int, state: FormState, status: int = 200) -> Any:
             free_collections=free_collections(view),
             records=records_of(view),
             history=history_of(number) if person().name else [],
-            comments=the_proposals().comments(number) if person().name else [],
+            comments=the_desk().proposals.comments(number) if person().name else [],
             seen={part: the_desk().seen.mark(number, part) for part in PARTS},
             most=MOST_MEMBERS if view.kind == "collection" else MOST_NEIGHBOURS,
             size=PAGE,

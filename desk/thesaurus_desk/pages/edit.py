@@ -113,7 +113,8 @@ def prefer_term(number: int) -> Any:
         requests.append({"do": "relabel", "owner": number, "tag": tag, "text": text, "keep": True})
     else:
         requests.append({"do": "addLabel", "owner": number, "kind": "pref", "tag": tag, "text": text})
-    return submit("prefer_term", requests, then=f"/c/{number}#terms", show=partial(show_again, number))
+    again = partial(show_again, number)
+    return submit("prefer_term", requests, then=f"/c/{number}#terms", show=again, hidden=("text",))
 
 
 @pages.post("/c/<int:number>/terms/remove")
@@ -123,7 +124,8 @@ def remove_term(number: int) -> Any:
     resource(number)
     kind, tag = given("kind", LABEL_KINDS), given_tag()
     label = {"do": "dropLabel", "owner": number, "kind": kind, "tag": tag, "text": request.form.get("text", "")}
-    return submit("remove_term", [label], then=f"/c/{number}#terms", show=partial(show_again, number))
+    again = partial(show_again, number)
+    return submit("remove_term", [label], then=f"/c/{number}#terms", show=again, hidden=("text",))
 
 
 # --- links ---
@@ -155,6 +157,7 @@ def choose_end(view: View, kind: str) -> Chosen:
         request.form,
         kinds=("collection",) if is_of_concept else ("concept", "outside") if kind in MAPPINGS else ("concept",),
         scheme=None if kind in MAPPINGS else view.scheme,
+        without=view.number,
     )
 
 

@@ -81,14 +81,16 @@ def suggest() -> Any:
     """Returns suggestions for what is typed, as JSON."""
     asked = request.args.get("kinds", "concept")
     kinds = KINDS if asked == "all" else tuple(it for it in asked.split(",") if it in KINDS)
-    hits = the_mirror().search(
+    found = the_mirror().search(
         query_of(),
         kinds=kinds,
         scheme=number_of("scheme"),
         live=True if "live" in request.args else None,
         prefer=tags()[0],
-        most=MOST_SUGGESTED,
+        most=MOST_SUGGESTED + 1,
     )
+    # (the concept of a form isn't suggested for its other one)
+    hits = [it for it in found if it.number != number_of("without")][:MOST_SUGGESTED]
     answers = [
         {
             "number": it.number,

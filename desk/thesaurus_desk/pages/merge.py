@@ -35,7 +35,7 @@ def merge(number: int) -> Any:
     source = live_concept(number)
     if not request.values.get("other") and not request.values.get("other_number"):
         return merge_page(source, None, FormState(), 200)
-    chosen = choose(request.values, scheme=source.scheme)
+    chosen = choose(request.values, scheme=source.scheme, without=number)
     if chosen.number is None:
         return merge_page(source, None, undecided(CHOICE, request.values, chosen), 409)
     target = the_mirror().view(chosen.number)

@@ -1,11 +1,13 @@
 """Gives a concept another place in the hierarchy, alone or with concepts beside it."""
 from __future__ import annotations
 
+from collections.abc import Sequence
 from dataclasses import dataclass
 from functools import partial
 from typing import Any
 
 from flask import Blueprint, abort, render_template, request
+from markupsafe import Markup
 
 from thesaurus_desk.context import link, say, tags, the_desk, the_mirror
 from thesaurus_desk.entry.guard import role
@@ -14,8 +16,10 @@ from thesaurus_desk.mirror import View
 from thesaurus_desk.pages.choosing import choose, is_number, undecided
 from thesaurus_desk.pages.edit import given, resource
 from thesaurus_desk.pages.submitting import problem_in, submit
+from thesaurus_desk.pages.telling import tell_conflict
 from thesaurus_desk.journal.entries import Request
 from thesaurus_desk.performing import LONGEST_PLAN
+from thesaurus_desk.seeing import Conflict, read_mark
 from thesaurus_tools.kinds import BROADER
 
 pages = Blueprint("move", __name__)
@@ -57,10 +61,10 @@ def places_of(view: View) -> list[Place]:
 def move(number: int) -> Any:
     """Shows the places of a concept, and moves it, with those that are ticked, as one plan."""
     view = live_concept(number)
-    again = partial(move_page, view)
+    again = partial(show_again, view)
     if request.method == "GET":
-        return again(FormState(), 200)
-    chosen = choose(request.form, scheme=view.scheme)
+        return move_page(view, FormState(), 200)
+    chosen = choose(request.form, scheme=view.scheme, without=number)
     if chosen.number is None:
         return again(undecided(FORM, request.form, chosen), 409)
     if "from" not in request.form:
@@ -72,13 +76,26 @@ def move(number: int) -> Any:
     moved = [number, *(int(it) for it in request.form.getlist("with") if is_number(it) and it != str(number))]
     left = [it for it in moved if old and not the_mirror().link_types(it, int(old))]
     if left:
-        return again(problem_in(FORM, "", say("move.left", concept=link(left[0]), above=link(int(old)))), 409)
-    if old == str(target) and given("kind") == AS_BEFORE:
-        return again(problem_in(FORM, "other", say("move.same", concept=link(number), above=link(target))), 409)
+        problem = problem_in(FORM, "", say("move.left", concept=link(left[0]), above=link(int(old))))
+        return again(problem, 409, left[:1])
     requests = move_requests(moved, int(old) if old else None, target, given("kind", (AS_BEFORE, *BROADER)))
+    if not requests or old == str(target) and given("kind") == AS_BEFORE:
+        return again(problem_in(FORM, "other", say("move.same", concept=link(number), above=link(target))), 409)
     if len(requests) > LONGEST_PLAN:
         return again(problem_in(FORM, "", say("move.too_many", n=len(moved), most=LONGEST_PLAN // 2)), 409)
     return submit("move", requests, then=f"/c/{number}", show=again)
+
+
+def show_again(view: View, state: FormState, status: int, others: Sequence[int] = ()) -> Any:
+    """Returns the form as it was sent, over the places as they are now: so it says what was changed since it was made,
+    in the links of the concept, and of others that were to move with it."""
+    seen, marks = the_desk().seen, request.form.getlist("seen")
+    own = [it for it in map(seen.conflict, marks) if it is not None and it.number == view.number]
+    plan = min((read_mark(it)[3] for it in marks), default=the_desk().journal.last_plan())
+    found = [*own, *(Conflict(it, "links", [], seen.since(it, "links", plan), "") for it in others)]
+    conflicts = [tell_conflict(it) for it in found if it.changes or it.plans]
+    state.seen = Markup(render_template("resource/since.html", conflicts=conflicts)) if conflicts else ""
+    return move_page(view, state, status)
 
 
 def move_requests(moved: list[int], old: int | None, target: int, kind: str) -> list[Request]:

@@ -1,8 +1,9 @@
 """Proposals of terms and changes, which editors accept or decline; and comments at a resource."""
 from __future__ import annotations
 
-from collections.abc import Callable, Sequence
-from functools import partial
+import logging
+import sqlite3
+from collections.abc import Iterable, Sequence
 from typing import Any
 
 from flask import Blueprint, abort, render_template, request
@@ -12,22 +13,22 @@ from thesaurus_desk.entry.guard import role
 from thesaurus_desk.forms import FormState, Problem
 from thesaurus_desk.journal.entries import Request
 from thesaurus_desk.journal.proposals import LONGEST_TEXT, Proposal, Proposals
-from thesaurus_desk.pages.choosing import choose, undecided
+from thesaurus_desk.pages.choosing import is_number, scheme_of
+from thesaurus_desk.pages.edit import given
 from thesaurus_desk.pages.find import number_of
+from thesaurus_desk.pages.proposing import FORM, KINDS, OF_NO_CONCEPT, asked_of_form, concept_of_request, too_long
 from thesaurus_desk.pages.telling import LINKS, tell_outcome, tell_step
 from thesaurus_desk.sentences import sentence_of
 
 pages = Blueprint("proposals", __name__)
-FORM = "propose"
 # How many proposals a page shows.
 PAGE = 50
 # How many comments are shown after the proposals.
 MOST_COMMENTS = 20
 STATES = ("open", "accepted", "declined", "withdrawn")
-# What can be proposed: a term for a concept, a new concept below one, a link, or a change in words alone.
-KINDS = ("alt", "pref", "scope", "concept", "broader", "related", "words")
-# The fields of a proposal, and the kinds that use each.
-USES = {"text": ("alt", "pref", "scope", "concept"), "other": ("broader", "related")}
+# The list of the reader's own proposals, in any state.
+OWN = "own"
+LOG = logging.getLogger("desk")
 
 
 def the_proposals() -> Proposals:
@@ -40,15 +41,40 @@ def the_proposals() -> Proposals:
 
 @pages.get("/proposals")
 def proposals() -> Any:
-    """Shows proposals in a state, the last first."""
+    """Shows proposals in a state, or the reader's own, the last first; and before them which of these were decided
+    since the reader last looked."""
     state = request.args.get("state", "open")
-    chosen = state if state in STATES else "open"
-    before = number_of("before")
-    found = the_proposals().find(state=chosen, before=before, most=PAGE + 1)
+    chosen = state if state in (*STATES, OWN) else "open"
+    which_state, user = (None, person().name) if chosen == OWN else (chosen, None)
+    found = the_proposals().find(state=which_state, user=user, before=number_of("before"), most=PAGE + 1)
     further = f"/proposals?state={chosen}&before={found[PAGE - 1].id}" if len(found) > PAGE else ""
-    told = [(it, tell_proposal(it)) for it in found[:PAGE]]
-    page = {"state": chosen, "states": STATES, "proposals": told, "further": further}
-    return render_template("proposals/list.html", **page, comments=the_proposals().recent_comments(MOST_COMMENTS))
+    unread = the_proposals().unread(person().name, PAGE)
+    page = render_template(
+        "proposals/list.html",
+        state=chosen,
+        states=(*STATES, OWN),
+        proposals=tell_proposals(found[:PAGE]),
+        further=further,
+        decided=tell_proposals(unread),
+        comments=the_proposals().recent_comments(MOST_COMMENTS),
+    )
+    note_read(unread)
+    return page
+
+
+def note_read(shown: Sequence[Proposal]) -> None:
+    """Notes that the reader, who is their author, has read how proposals were decided."""
+    if request.method == "GET" and shown:
+        try:
+            the_proposals().note_read([it.id for it in shown])
+        except sqlite3.Error as error:
+            # (a full disk takes no page from who only reads)
+            LOG.warning("it isn't noted what %s has read: %s", person().name, error)
+
+
+def tell_proposals(proposals: Iterable[Proposal]) -> list[tuple[Proposal, list[Any]]]:
+    """Returns proposals, each with what it would do, or has done."""
+    return [(it, tell_proposal(it)) for it in proposals]
 
 
 def tell_proposal(proposal: Proposal) -> list[Any]:
@@ -61,8 +87,10 @@ def tell_proposal(proposal: Proposal) -> list[Any]:
 
 @pages.get("/proposals/<int:number>")
 def show_proposal(number: int) -> Any:
-    """Shows a proposal, and what may be done with it."""
-    return proposal_page(number, FormState(), 200)
+    """Shows a proposal, and what may be done with it; its author then has read how it was decided."""
+    page = proposal_page(number, FormState(), 200)
+    note_read([it for it in the_proposals().unread(person().name) if it.id == number])
+    return page
 
 
 def proposal_page(number: int, state: FormState, status: int) -> Any:
@@ -94,90 +122,29 @@ def form_to_propose() -> Any:
     return propose_page(FormState(), 200)
 
 
-def propose_page(state: FormState, status: int) -> Any:
+def propose_page(state: FormState, status: int, alike: Sequence[int] = ()) -> Any:
     """Returns the form for a proposal."""
     number = concept_of_request()
-    kinds = [(it, say(f"proposals.kind.{it}")) for it in (KINDS if number else ("concept", "words"))]
+    kinds = [(it, say(f"proposals.kind.{it}")) for it in (KINDS if number else OF_NO_CONCEPT)]
     schemes = the_mirror().ordered(the_mirror().numbers("scheme"), tags())
-    page = render_template(
-        "proposals/new.html", number=number, kinds=kinds, schemes=schemes, state=state, form=FORM, most=LONGEST_TEXT
-    )
-    return page, status
-
-
-def concept_of_request() -> int | None:
-    """Returns the live concept that a proposal is about, or None."""
-    text = request.values.get("concept", "")
-    number = int(text) if text.isascii() and text.isdigit() and len(text) < 11 else 0
-    return number if the_mirror().kind(number) == "concept" and the_mirror().is_live(number) else None
+    scheme = scheme_of(number) if number else None
+    about = {"number": number, "scheme": scheme, "kinds": kinds, "schemes": schemes, "alike": alike}
+    return render_template("proposals/new.html", **about, state=state, form=FORM, most=LONGEST_TEXT), status
 
 
 @pages.post("/propose")
 @role("reader")
 def propose() -> Any:
-    """Adds a proposal."""
-    again = partial(refused, propose_page)
+    """Adds a proposal, unless the desk knows that it would be refused."""
     number, kind = concept_of_request(), request.form.get("kind", "")
-    reason = request.form.get("reason", "").strip()
-    if kind not in KINDS or number is None and kind not in ("concept", "words"):
+    is_about_one = number is not None or is_number(given("concept"))
+    if kind not in KINDS or not is_about_one and kind not in OF_NO_CONCEPT:
         abort(400)
-    if not reason:
-        return again("reason", say("proposals.no_reason"))
-    if len(reason) > LONGEST_TEXT:
-        return again("reason", too_long(reason))
-    if unused := unused_field(kind):
-        return again(unused, say(f"proposals.unused_{unused}"))
-    if kind in USES["other"]:
-        chosen = choose(request.form)
-        if chosen.number is None:
-            return propose_page(undecided(FORM, request.form, chosen), 409)
-        requests: list[Request] = [{"do": "link", "kind": kind, "a": number, "b": chosen.number}]
-    else:
-        text, tag = " ".join(request.form.get("text", "").split()), request.form.get("tag", "").strip().lower()
-        if kind != "words" and not (text and tag):
-            return again("text", say("proposals.no_text"))
-        requests = requests_for(kind, number, tag, text)
-    made = the_proposals().propose(person().name, f"proposals.kind.{kind}", requests, reason, number)
+    asked = asked_of_form(kind, number)
+    if asked.wrong is not None:
+        return propose_page(asked.wrong, 409, asked.alike)
+    made = the_proposals().propose(person().name, f"proposals.kind.{kind}", asked.requests, given("reason"), number)
     return go(f"/proposals/{made}")
-
-
-def unused_field(kind: str) -> str:
-    """Returns a field that was filled in, and that a proposal of a kind would lose; nothing if there is none."""
-    return next((it for it, kinds in USES.items() if kind not in kinds and request.form.get(it, "").strip()), "")
-
-
-def requests_for(kind: str, number: int | None, tag: str, text: str) -> list[Request]:
-    """Returns the requests that perform a proposal; none for one in words alone."""
-    if kind == "words":
-        return []
-    if kind == "concept":
-        made: list[Request] = [{"do": "concept", "scheme": scheme_for(number), "tag": tag, "text": text}]
-        below: list[Request] = [{"do": "link", "kind": "broader", "a": "$1", "b": number}] if number else []
-        return made + below
-    view = the_mirror().view(number or 0)
-    if kind == "pref" and view and tag in {its for its, _ in view.pref}:
-        return [{"do": "relabel", "owner": number, "tag": tag, "text": text, "keep": True}]
-    return [{"do": "addLabel", "owner": number, "kind": kind, "tag": tag, "text": text}]
-
-
-def scheme_for(number: int | None) -> int:
-    """Returns the scheme of a new concept: that of the concept above it, or the one that the form names."""
-    above = the_mirror().get(number) if number else None
-    given = request.form.get("scheme", "")
-    scheme = above.scheme if above else int(given) if given.isascii() and given.isdigit() and len(given) < 11 else None
-    if scheme is None or the_mirror().kind(scheme) != "scheme":
-        abort(400)
-    return scheme
-
-
-def refused(page: Callable[[FormState, int], Any], field: str, text: str, form: str = FORM) -> Any:
-    """Returns a page with what is wrong in a field of its form."""
-    return page(FormState(form, request.form, [Problem(field, text)]), 409)
-
-
-def too_long(text: str) -> str:
-    """Returns what is said of a text that is longer than the journal keeps."""
-    return say("proposals.too_long", n=len(text), more=LONGEST_TEXT)
 
 
 # --- deciding ---
@@ -199,14 +166,19 @@ def accept_now(proposal: Proposal) -> Any:
         return go(f"/proposals/{number}")
     plan, word = None, request.form.get("word", "").strip()
     if len(word) > LONGEST_TEXT:
-        return refused(partial(proposal_page, number), "word", too_long(word), "accept")
+        return refused(number, "accept", "word", too_long(word))
     if requests := accepted_requests(proposal):
         outcome = the_desk().perform(person().name, "accept", requests, proposer=proposal.user)
         if not outcome.is_done:
-            return refused(partial(proposal_page, number), "", tell_outcome(outcome), "accept")
+            return refused(number, "accept", "", tell_outcome(outcome))
         plan = outcome.plan
     the_proposals().decide(number, "accepted", person().name, word, plan)
     return go(f"/proposals/{number}", plan)
+
+
+def refused(number: int, form: str, field: str, text: str) -> Any:
+    """Returns the page of a proposal with what is wrong in a field of a form."""
+    return proposal_page(number, FormState(form, request.form, [Problem(field, text)]), 409)
 
 
 def accepted_requests(proposal: Proposal) -> list[Request]:
@@ -229,7 +201,7 @@ def decline(number: int) -> Any:
     word = request.form.get("word", "").strip()
     if not word or len(word) > LONGEST_TEXT:
         problem = too_long(word) if word else say("proposals.no_word")
-        return refused(partial(proposal_page, number), "word", problem, "decline")
+        return refused(number, "decline", "word", problem)
     with the_desk().alone() as is_free:
         if not is_free:
             return busy_page(number, "decline")
@@ -252,7 +224,7 @@ def withdraw(number: int) -> Any:
 
 def busy_page(number: int, form: str) -> Any:
     """Returns the page of a proposal that isn't decided, since something else took too long."""
-    return proposal_page(number, FormState(form, request.form, [Problem("", say("refusals.Busy.text"))]), 409)
+    return refused(number, form, "", say("refusals.Busy.text"))
 
 
 # --- comments ---

@@ -20,6 +20,8 @@ from thesaurus_desk.journal.entries import Request
 pages = Blueprint("records", __name__)
 
 MOST_FOUND = 50
+# The fields of a record's page that it doesn't show.
+HIDDEN = ("record", "key")
 
 
 # --- at a concept ---
@@ -98,7 +100,8 @@ def add_concept() -> Any:
         return again(undecided("add", request.form, chosen), 409)
     if is_indexed(name, chosen.number):
         return again(problem_in("add", "other", say("records.known", record=name, concept=link(chosen.number))), 409)
-    return submit("post", [post(name, chosen.number, given("key"))], then=page_of_record(name), show=again)
+    requests = [post(name, chosen.number, given("key"))]
+    return submit("post", requests, then=page_of_record(name), show=again, hidden=HIDDEN)
 
 
 @pages.post("/record/reindex")
@@ -114,7 +117,7 @@ def reindex() -> Any:
         known = say("records.known", record=posting.record, concept=link(chosen.number))
         return again(problem_in(form, "other", known), 409)
     requests = reindex_requests(posting, chosen.number, given("key"))
-    return submit("reindex", requests, then=page_of_record(posting.record), show=again)
+    return submit("reindex", requests, then=page_of_record(posting.record), show=again, hidden=HIDDEN)
 
 
 @pages.post("/record/withdraw")

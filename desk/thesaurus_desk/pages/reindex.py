@@ -59,7 +59,7 @@ def perform(number: int, again: partial[Any]) -> Any:
 
 def perform_reindex(number: int, postings: list[Posting], then: str, again: partial[Any]) -> Any:
     """Re-indexes postings of a concept with the one that the form names."""
-    chosen = choose(request.form)
+    chosen = choose(request.form, without=number)
     if chosen.number is None:
         return again(undecided(FORM, request.form, chosen), 409)
     if the_mirror().final(chosen.number) == number:

@@ -8,7 +8,7 @@ from flask import render_template, request
 
 from thesaurus_desk.context import go, person, the_desk
 from thesaurus_desk.forms import FormState, Problem
-from thesaurus_desk.pages.telling import MOST_STEPS, tell_changes, tell_outcome, tell_plans, tell_step
+from thesaurus_desk.pages.telling import MOST_STEPS, tell_conflict, tell_outcome, tell_step
 from thesaurus_desk.journal import Step
 from thesaurus_desk.journal.entries import Request
 from thesaurus_desk.performing import Outcome
@@ -27,25 +27,28 @@ def submit(
     show: Show,
     may_cut: bool = False,
     blame: Blame | None = None,
+    hidden: Sequence[str] = (),
 ) -> Any:
     """Performs what a form asks for, with what its author saw.
 
     Returns a redirection to the next page; or the page of the form by `show`, with what was refused at its field.
+    `hidden`: the fields that the form has and doesn't show; what is wrong with one of them is said of the form.
     """
     outcome = the_desk().perform(person().name, action, requests, seen=request.form.getlist("seen"), may_cut=may_cut)
     if outcome.state == "conflict":
         return conflict_page(outcome, requests)
     if not outcome.is_done:
-        return show(refused_form(outcome, blame), 409)
+        return show(refused_form(outcome, blame, hidden), 409)
     return go(then if isinstance(then, str) else then(outcome), outcome.plan)
 
 
-def refused_form(outcome: Outcome, blame: Blame | None = None) -> FormState:
-    """Returns the form as it was sent, with why it was refused beside the field concerned."""
+def refused_form(outcome: Outcome, blame: Blame | None = None, hidden: Sequence[str] = ()) -> FormState:
+    """Returns the form as it was sent, with why it was refused beside the field concerned, if the form shows it."""
     field = blamed_field(outcome.answer or {})
     if blame is not None and field == "text" and outcome.failed is not None:
         field = blame(outcome.failed.request)
-    problem = Problem(field if field in request.form else "", tell_outcome(outcome))
+    is_shown = field in request.form and field not in hidden
+    problem = Problem(field if is_shown else "", tell_outcome(outcome))
     return FormState(request.form.get("form", ""), request.form, [problem])
 
 
@@ -64,10 +67,7 @@ def conflict_page(outcome: Outcome, requests: Sequence[Request]) -> Any:
     return (
         render_template(
             "resource/conflict.html",
-            conflict=conflict,
-            changes=tell_changes(conflict.changes),
-            plans=tell_plans(conflict.plans),
-            is_own={it.user for it in conflict.plans} == {person().name},
+            conflict=tell_conflict(conflict),
             wanted=[tell_step(Step(it)) for it in requests[:MOST_STEPS]],
             more=max(0, len(requests) - MOST_STEPS),
             fields=[*fields, *(("seen", it) for it in marks)],

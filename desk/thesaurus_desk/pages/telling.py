@@ -9,13 +9,13 @@ from markupsafe import Markup, escape
 
 from thesaurus_desk import context
 from thesaurus_desk.clock import time_element
-from thesaurus_desk.context import say, the_desk, the_mirror, words
+from thesaurus_desk.context import person, say, the_desk, the_mirror, words
 from thesaurus_desk.journal import Plan, Step
 from thesaurus_desk.journal.entries import Request
 from thesaurus_desk.journal.settling import RESTORED
 from thesaurus_desk.performing import Outcome
 from thesaurus_desk.refusals import explain, explain_state, label_of
-from thesaurus_desk.seeing import Change
+from thesaurus_desk.seeing import Change, Conflict
 from thesaurus_desk.sentences import sentence_of
 
 # How many steps of a plan are shown where many plans are.
@@ -58,6 +58,17 @@ class ToldPlan:
     more: int = 0
     restored: str | Markup = ""
     changed: Sequence[int] = ()
+
+
+@dataclass(frozen=True)
+class ToldConflict:
+    """What was changed in a resource since a form was made: the differences with their signs, and the plans that made
+    them, with who and when. `is_own`: the form's author made all of them."""
+
+    number: int
+    changes: list[tuple[str, Markup]]
+    plans: list[ToldPlan]
+    is_own: bool
 
 
 def tell_plan(plan: Plan, most: int = MOST_STEPS) -> ToldPlan:
@@ -113,6 +124,12 @@ def with_scheme(request: Request, outcome: Outcome) -> Request:
     maker = outcome.steps[int(owner[1:]) - 1].request
     source = the_mirror().view(maker["source"]) if maker["do"] == "split" else None
     return {**request, "scheme": source.scheme if source is not None else maker.get("scheme")}
+
+
+def tell_conflict(conflict: Conflict) -> ToldConflict:
+    """Returns a conflict in the reader's words."""
+    is_own = {it.user for it in conflict.plans} == {person().name}
+    return ToldConflict(conflict.number, tell_changes(conflict.changes), tell_plans(conflict.plans), is_own)
 
 
 def tell_change(change: Change) -> Markup:

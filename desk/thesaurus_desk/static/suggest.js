@@ -80,7 +80,7 @@
         return;
       }
       const wanted = new URLSearchParams({ q: query, kinds: input.dataset.kinds || (goes ? "all" : "concept") });
-      if (input.dataset.scheme) wanted.set("scheme", input.dataset.scheme);
+      for (const name of ["scheme", "without"]) if (input.dataset[name]) wanted.set(name, input.dataset[name]);
       if (!goes) wanted.set("live", "1");
       const answer = await fetch(`/suggest?${wanted}`, { headers: { Accept: "application/json" } }).catch(() => null);
       if (!answer || !answer.ok || answer.redirected) return;
