@@ -82,7 +82,7 @@ impl RequestHandler for FixedAnswers {
     }
 
     // (no plan reaches it)
-    fn perform_plan(&mut self, plan: &[PlanRequest]) -> Result<PlanOutcome, Fault> {
+    fn perform_plan(&mut self, plan: Vec<PlanRequest>) -> Result<PlanOutcome, Fault> {
         let _ = plan;
         Err(Fault::OutOfMemory)
     }

@@ -78,7 +78,7 @@ fn write_names(alloc: Global, report: &mut String) -> Result<(), Failure> {
 }
 
 // Performs a plan in an office.
-fn apply<K: Keeper>(office: &mut Office<K>, plan: &[PlanRequest]) -> Result<PlanOutcome, Fault> {
+fn apply<K: Keeper>(office: &mut Office<K>, plan: Vec<PlanRequest>) -> Result<PlanOutcome, Fault> {
     office.run_plan(plan)
 }
 
@@ -88,14 +88,23 @@ fn write_outcome(outcome: Result<PlanOutcome, Fault>, report: &mut String) -> Re
     Ok(writeln!(report, "{outcome:?}")?)
 }
 
+// Performs the plan in an office, and appends what became of it.
+fn perform<K: Keeper>(
+    alloc: Global,
+    office: &mut Office<K>,
+    report: &mut String,
+) -> Result<(), Failure> {
+    let plan = plan(alloc)?;
+    write_outcome(apply(office, plan), report)
+}
+
 /// Performs the first commands, and a plan twice, and appends the answers, whether it is a plan,
 /// and the outcomes: the second time the name of its concept is taken. Then appends what two lines
 /// are read as.
 pub fn run(alloc: Global, report: &mut String) -> Result<(), Failure> {
     let mut office = open(alloc, keeper_after(alloc, BEFORE, report)?)?;
-    let plan = plan(alloc)?;
-    writeln!(report, "{}", is_plan(&plan))?;
-    write_outcome(apply(&mut office, &plan), report)?;
-    write_outcome(apply(&mut office, &plan), report)?;
+    writeln!(report, "{}", is_plan(&plan(alloc)?))?;
+    perform(alloc, &mut office, report)?;
+    perform(alloc, &mut office, report)?;
     write_names(alloc, report)
 }

@@ -16,10 +16,10 @@ impl<K: Keeper> Office<K> {
     /// in one transaction; else the outcome is the first refusal, and nothing is changed. On a
     /// fault the tables are unchanged. It may be called with any list; a reference to nothing
     /// leaves the number for which it stands.
-    pub fn run_plan(&mut self, plan: &[PlanRequest]) -> Result<PlanOutcome, Fault>
+    pub fn run_plan(&mut self, plan: Vec<PlanRequest>) -> Result<PlanOutcome, Fault>
         ensures fault_behaviour { FaultBehaviour K.view self.old self.new result }
-        ensures performed { RunPlanResult K.view self.old plan.now result self.new }
-        ensures each { IfOk result (λ outcome. HasEachAnswer plan.now outcome) }
+        ensures performed { RunPlanResult K.view self.old plan.items result self.new }
+        ensures each { IfOk result (λ outcome. HasEachAnswer plan.items outcome) }
     {
         self.refresh()?;
         match perform_plan(self.alloc, &mut self.keeper, &mut self.core, plan) {

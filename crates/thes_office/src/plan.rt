@@ -1,5 +1,6 @@
 //! Plans: each request is decided on the state that those before it make, and the changes of all are
 //! committed in one transaction.
+//! A request is moved from its plan into the log, and never copied.
 ghost use Rattle.std.specs.Prelude.{◌≡◌, ◌≤◌, ◌++◌, ◌∷◌, [], List, drop, length, false, true, IfOk, IfErr, OnOk, OnErr};
 ghost use Rattle.thes_base.specs.declared.request.Answer.{Answer};
 ghost use Rattle.thes_plans.specs.Plans.{HasEachAnswer};
@@ -175,7 +176,7 @@ fn decide_request<K: Keeper>(
     alloc: Global,
     keeper: &mut K,
     core: &mut Core,
-    asked: &PlanRequest,
+    asked: PlanRequest,
     progress: &mut PlanProgress,
 ) -> Result<Option<Refusal>, Fault>
     requires { core.old.spent ≡ false }
@@ -183,7 +184,7 @@ fn decide_request<K: Keeper>(
         × (progress.new.decided.answers.items
         ≡ progress.old.decided.answers.items ++ answer ∷ []) × ((K.view keeper.new).is_up
         → DecidesRequest (K.view keeper.old).rows progress.old progress.new core.old core.new
-        (resolved_command progress.old.decided.answers.items asked.now) answer)) }
+        (resolved_command progress.old.decided.answers.items asked) answer)) }
     ensures usable { OnOk result ((core.new.spent ≡ false)
         × (core.new.setting ≡ core.old.setting)) }
     ensures logs { OnOk result (IsLogOf progress.old.log core.old
@@ -203,18 +204,19 @@ fn decide_plan<K: Keeper>(
     alloc: Global,
     keeper: &mut K,
     core: &mut Core,
-    plan: &[PlanRequest],
+    plan: Vec<PlanRequest>,
 ) -> Result<PlanDecision, Fault>
     requires { MayDecidePlan (K.view keeper.old) core.old }
     ensures decides { IfOk result (λ decision. (K.view keeper.new).is_up
-        → IsPlanDecision (K.view keeper.old).rows core.old.setting plan.now decision core.new) }
-    ensures each { IfOk result (HasEachDecision plan.now) }
+        → IsPlanDecision (K.view keeper.old).rows core.old.setting plan.items decision core.new) }
+    ensures each { IfOk result (HasEachDecision plan.items) }
     ensures usable { IfOk result (IsUsableAfter core.old core.new) }
     ensures asks { QueryFrame (K.view keeper.old) (K.view keeper.new) result }
 {
+    let answers = Vec::with_capacity(alloc, plan.len())?;
     let mut progress = PlanProgress {
         decided: Decided {
-            answers: Vec::new(alloc),
+            answers,
             delta: Delta::new(alloc),
         },
         postings: PlanPostings::new(alloc),
@@ -248,16 +250,16 @@ pub fn perform_plan<K: Keeper>(
     alloc: Global,
     keeper: &mut K,
     core: &mut Core,
-    plan: &[PlanRequest],
+    plan: Vec<PlanRequest>,
 ) -> Result<PlanOutcome, Fault>
     requires { MayDecidePlan (K.view keeper.old) core.old }
     ensures ok { let limits = core.old.setting.limits in
         IfOk result (λ outcome. (K.view keeper.new).is_up
-        → TablesAfterPlan limits (K.view keeper.old).rows plan.now outcome
+        → TablesAfterPlan limits (K.view keeper.old).rows plan.items outcome
         (K.view keeper.new).rows) }
     ensures copies { OnOk result (core.new.spent ≡ false → (K.view keeper.new).is_up
         → IsCopy (K.view keeper.new).rows core.old.setting.limits core.new) }
-    ensures each { IfOk result (HasEachAnswer plan.now) }
+    ensures each { IfOk result (HasEachAnswer plan.items) }
     ensures spent { OnErr result (core.new.spent ≡ true) }
     ensures keeps { CommitFrame (K.view keeper.old) (K.view keeper.new) result }
 {

@@ -69,18 +69,17 @@ fn postings_for(
     Ok(numbers)
 }
 
-// Returns the command with each reference of the request replaced.
-fn with_resolved(
-    alloc: Global,
-    answers: &[Answer],
-    asked: &PlanRequest,
-    command: Command,
-) -> Result<Command, AllocError>
-    requires { command ≡ asked.now.command }
-    ensures { IfOk result (λ resolved. resolved ≡ resolved_command answers.now asked.now) }
+/// Returns the command of a request, with each reference replaced by the number that the answers to the requests before
+/// it have. A number stays, if the answers have none for its reference. Texts are moved, not copied.
+pub fn resolve(alloc: Global, answers: &[Answer], asked: PlanRequest) -> Result<Command, AllocError>
+    ensures { IfOk result (λ command. command ≡ resolved_command answers.now asked) }
 {
-    let first = asked.first;
-    let second = asked.second;
+    let PlanRequest {
+        command,
+        first,
+        second,
+        postings,
+    } = asked;
     Ok(match command {
         Command::Concept(scheme, tag, text) => {
             Command::Concept(number_for(answers, first, scheme), tag, text)
@@ -112,9 +111,9 @@ fn with_resolved(
             number_for(answers, first, source),
             number_for(answers, second, target),
         ),
-        Command::Split(source, tag, text, postings) => {
-            let postings = postings_for(alloc, answers, asked.postings.as_slice(), &postings)?;
-            Command::Split(number_for(answers, first, source), tag, text, postings)
+        Command::Split(source, tag, text, own) => {
+            let listed = postings_for(alloc, answers, postings.as_slice(), &own)?;
+            Command::Split(number_for(answers, first, source), tag, text, listed)
         }
         Command::Post(key, rec, concept) => {
             Command::Post(key, rec, number_for(answers, first, concept))
@@ -122,16 +121,4 @@ fn with_resolved(
         Command::Withdraw(posting) => Command::Withdraw(number_for(answers, first, posting)),
         Command::Scheme(..) | Command::Outside(_) => command,
     })
-}
-
-/// Returns the command of a request, with each reference replaced by the number that the answers to the requests before
-/// it have. A number stays, if the answers have none for its reference.
-pub fn resolve(
-    alloc: Global,
-    answers: &[Answer],
-    asked: &PlanRequest,
-) -> Result<Command, AllocError>
-    ensures { IfOk result (λ command. command ≡ resolved_command answers.now asked.now) }
-{
-    with_resolved(alloc, answers, asked, asked.command.try_clone(alloc)?)
 }

@@ -39,10 +39,10 @@ pub trait RequestHandler {
 
     /// Performs a plan, and returns its outcome: the answers to all its requests, or the refusal of
     /// the first that is refused.
-    fn perform_plan(&mut self, plan: &[PlanRequest]) -> Result<PlanOutcome, Fault>
+    fn perform_plan(&mut self, plan: Vec<PlanRequest>) -> Result<PlanOutcome, Fault>
         requires { is_open self.old ≡ true }
-        ensures performs { requests.performs_plan self.old plan.now result self.new }
-        ensures each { IfOk result (λ outcome. HasEachAnswer plan.now outcome) };
+        ensures performs { requests.performs_plan self.old plan.items result self.new }
+        ensures each { IfOk result (λ outcome. HasEachAnswer plan.items outcome) };
 
     /// Returns whether plans are among the requests of a script or a connection.
     fn takes_plans(&self) -> bool

@@ -158,7 +158,7 @@ fn requests_in(alloc: Global, items: Vec<Value<'_>>) -> Result<Vec<PlanRequest>,
     requires { length items.items ≤ plan.request_limit }
     ensures { GivesPlan (RequestsReadAs (map view items.entry.items)) result }
 {
-    let mut plan = Vec::new(alloc);
+    let mut plan = Vec::with_capacity(alloc, items.len())?;
     for item in items {
         match plan_request_in(alloc, item) {
             Ok(asked) => plan.push(asked).map_err(AllocError::from)?,

@@ -18,10 +18,10 @@ use thes_plans::plan::PlanRequest;
 pub fn perform_plan<D: RequestHandler>(
     alloc: Global,
     handler: &mut D,
-    plan: &[PlanRequest],
+    plan: Vec<PlanRequest>,
 ) -> Result<PlanReply, Fault>
     requires { D.is_open handler.old ≡ true }
-    ensures { PerformsPlan D.requests handler.old plan.now result handler.new }
+    ensures { PerformsPlan D.requests handler.old plan.items result handler.new }
 {
     let Ok(room) = room_for_answers(alloc, plan.len()) else {
         return Err(Fault::OutOfMemory);
@@ -43,7 +43,7 @@ pub fn perform_read_plan<D: RequestHandler>(
         → ServesPlan D.requests handler.old value result handler.new }
 {
     match plan {
-        Ok(plan) => perform_plan(alloc, handler, &plan),
+        Ok(plan) => perform_plan(alloc, handler, plan),
         Err(PlanStop::Bad(fault)) => Ok(PlanReply::Bad(fault)),
         Err(PlanStop::OutOfMemory) => Err(Fault::OutOfMemory),
     }

@@ -93,7 +93,7 @@ impl<K: Keeper, M: PlanMode> RequestHandler for OfficeHandler<K, M> {
         }
     }
 
-    fn perform_plan(&mut self, plan: &[PlanRequest]) -> Result<PlanOutcome, Fault> {
+    fn perform_plan(&mut self, plan: Vec<PlanRequest>) -> Result<PlanOutcome, Fault> {
         self.office.run_plan(plan)
     }
 

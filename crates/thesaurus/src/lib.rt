@@ -522,7 +522,7 @@ pub use thes_store::sink::{PostingSink, RowSink};
 //     }
 // }
 //
-// fn apply<K: Keeper>(office: &mut Office<K>, plan: &[PlanRequest]) -> Result<PlanOutcome, Fault> {
+// fn apply<K: Keeper>(office: &mut Office<K>, plan: Vec<PlanRequest>) -> Result<PlanOutcome, Fault> {
 //     office.run_plan(plan)
 // }
 // ```

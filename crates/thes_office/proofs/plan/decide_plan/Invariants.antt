@@ -1,4 +1,4 @@
-use Rattle.std.proofs.Common.{◌≡◌, false, take, length}
+use Rattle.std.proofs.Common.{◌≡◌, false, length}
 use Rattle.thes_store.specs.Storage.{KeepsStorage}
 use Rattle.thes_core.specs.UndoLogs.{IsLogOf}
 use Rattle.thes_office.specs.PlanDecisions.{PlanDecidedSoFar}
@@ -10,7 +10,7 @@ invariant-loop-asked g l = record {
   unspent : l.core.spent ≡ false;
   setting : l.core.setting ≡ l.fn.core.setting;
   logged : IsLogOf l.progress.log l.core;
-  each : length l.progress.decided.answers.items ≡ l.asked-index;
+  each : length l.progress.decided.answers.items ≡ length l.yielded;
   decides : (g.K.Keeper.view l.keeper).is_up → PlanDecidedSoFar (g.K.Keeper.view l.fn.keeper).rows l.fn.core.setting
-      (take l.asked-index l.plan) l.progress l.core;
+      l.yielded l.progress l.core;
 }

@@ -13,6 +13,6 @@ returns-in-Ok-clause-decides g c =
       d.1,
       λ up. subst (λ (m : Command). DecidesRequest (g.K.Keeper.view c.args.keeper.now).rows c.args.progress.now
           c.decide_and_record.new.progress c.args.core.now c.decide_and_record.new.core m d.0)
-          (c.in_ok-command.ensures ∙ ap (λ (xs : List Answer). resolved_command xs c.args.asked.now)
+          (c.in_ok-command.ensures ∙ ap (λ (xs : List Answer). resolved_command xs c.args.asked)
           c.as_slice.ensures.value) (d.2 up),
     )
