@@ -13,6 +13,7 @@ ghost use Rattle.thes_sqlite.specs.Reopening.{LeavesFirst, ReturnsFirst};
 use crate::cause::{Cause, FaultCause};
 use crate::faults::{count_fault, count_fault_in};
 use crate::keeper::SqlKeeper;
+pub use crate::opener::{HeldTables, Reopen};
 use sqlite::{Alter, Connection};
 use std::alloc::Global;
 use std::marker::Model;
@@ -24,8 +25,6 @@ use thes_store::sink::{PostingSink, RowSink};
 use thes_tables::change::Change;
 use thes_tables::delta::Delta;
 use thes_tables::rows::PostingRow;
-
-pub use crate::opener::{HeldTables, Reopen};
 
 /// Storage that keeps its tables in a database, and opens the database again after a failure has
 /// shut it. Contracts state its rows up to the first such failure, and after it only its faults.
@@ -52,8 +51,10 @@ impl<S: Alter, O: Reopen<Connection<S>> + HeldTables> Model for ReopeningKeeper<
 
     ghost coded = { reopening_view_code S.code };
 
-    ghost view = { λ k. record { first = first_storage k.is_reopened k.storage;
-        failures = k.failures } };
+    ghost view = { λ k. record {
+      first = first_storage k.is_reopened k.storage;
+      failures = k.failures;
+    } };
 
     ghost invariant = { λ k. IsOfFiles S.Store O.held (first_storage k.is_reopened k.storage)
         × IsCertain (first_storage k.is_reopened k.storage) k.is_in_doubt };
