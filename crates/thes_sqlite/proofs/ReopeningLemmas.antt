@@ -5,23 +5,27 @@ use Rattle.sqlite.specs.Schema.{Schema}
 use Rattle.sqlite_trees.specs.declared.store.Store.{Ghosts}
 use Rattle.thes_tables.specs.Tables.{Tables}
 use Rattle.thes_sqlite.specs.KeeperView.{KeeperView, IsKeeperState}
-use Rattle.thes_sqlite.specs.Reopening.{ReopeningView, IsOfFiles, ReturnsFirst}
+use Rattle.thes_sqlite.specs.Reopening.{ReopeningView, IsOfFiles, ReturnsFirst, first_storage}
+
+-- A connection that was opened again isn't reported as the first one.
+pub reports_reopened : {A : Type 0} (o : A) (returned : A × Bool) → returned ≡ (o, true) → returned.1 ≡ false → ⊥
+reports_reopened {A} o returned is stays =
+    let reported : returned.1 ≡ true = ap (λ (r : A × Bool). r.1) is in absurd (cc)
 
 -- The connection of a storage is returned as its first one.
 pub returns_first : {S : Type 0} (g : Ghosts S) (held : Schema → Tables → Type 0) (v : ReopeningView S)
-    (first : Option (KeeperView S)) (k : KeeperView S) (conn : Held S) (returned : Option (Held S) × Bool)
-    → first ≡ v.first → first ≡ Some k → IsOfFiles g held first → conn ≡ k.conn
-    → IsKeeperState (state g k.first) (state g k.conn) → returned ≡ (Some conn, false)
+    (is_reopened : Bool) (storage : Option (KeeperView S)) (k : KeeperView S) (conn : Held S)
+    (returned : Option (Held S) × Bool)
+    → first_storage is_reopened storage ≡ v.first → storage ≡ Some k
+    → IsOfFiles g held (first_storage is_reopened storage) → conn ≡ k.conn
+    → IsKeeperState (state g k.first) (state g k.conn) → returned ≡ (Some conn, is_reopened) → returned.1 ≡ false
     → ReturnsFirst g held v returned.0
-returns_first g held v first k conn returned is some known same kept returns = record {
+returns_first g held v true storage k conn returned is some known same kept returns stays =
+    absurd (reports_reopened (Some conn) returned returns stays)
+returns_first g held v false storage k conn returned is some known same kept returns stays = record {
   keeper = k;
   first_is = sym is ∙ some;
   conn_is = ap (λ (r : Option (Held _) × Bool). r.0) returns ∙ ap (λ (c : Held _). Some c) same;
   of_files = subst (IsOfFiles g held) some known;
   kept = kept;
 }
-
--- A connection that was opened again isn't reported as the first one.
-pub reports_reopened : {A : Type 0} (o : A) (returned : A × Bool) → returned ≡ (o, true) → returned.1 ≡ false → ⊥
-reports_reopened {A} o returned is stays =
-    let reported : returned.1 ≡ true = ap (λ (r : A × Bool). r.1) is in absurd (cc)

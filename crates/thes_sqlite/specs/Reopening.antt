@@ -1,5 +1,5 @@
 -- The state of storage in a database that is opened again after a failure.
-use Rattle.std.specs.Prelude.{◌≡◌, ℕ, Bool, false, Option, None, Some, Result, OnErr, refl}
+use Rattle.std.specs.Prelude.{◌≡◌, ℕ, Bool, true, false, Option, None, Some, Result, OnErr, refl}
 use Rattle.std.specs.Coded.{Coded, code_by, coded×, coded_ℕ, coded_option}
 use Rattle.sqlite.specs.Effect.{Database}
 use Rattle.sqlite.specs.Held.{Held, state}
@@ -9,7 +9,7 @@ use Rattle.sqlite_trees.specs.declared.store.Store.{Ghosts}
 use Rattle.thes_base.specs.declared.fault.Fault.{Fault}
 use Rattle.thes_tables.specs.Cells.{Raw}
 use Rattle.thes_tables.specs.Tables.{Tables}
-use Rattle.thes_store.specs.Storage.{StorageView}
+use Rattle.thes_store.specs.Storage.{StorageView, KeepsStorage}
 use Rattle.thes_sqlite.specs.FoundRows.{FindsTables, IsKeeperOpen}
 use Rattle.thes_sqlite.specs.KeeperView.{KeeperView, keeper_view_code, raw_of_keeper, IsKeeperState, IsKeeperUp}
 use Rattle.thes_sqlite.specs.KeeperView.{ServesTables}
@@ -23,6 +23,11 @@ keeper_of_connection conn = record { conn = conn; failures = 0; first = conn }
 pub record ReopeningView (S : Type 0) : Type 0 where
   pub first : Option (KeeperView S)
   pub failures : ℕ
+
+-- The storage over the first connection: that over the open one, unless a failure has shut the first.
+abbrev pub first_storage : {A : Type 0} → Bool → Option A → Option A
+first_storage true storage = None
+first_storage false storage = storage
 
 -- The coding of a view as a pair, which shows the prover that the parts of a `ReopeningView`
 -- determine it.
@@ -130,3 +135,7 @@ pub record KeepsOnFault {T : Type 0} (old new : StorageView) (result : Result T 
 -- The storage as any storage is seen, while the first connection is open.
 abbrev pub storage_still : {S : Type 0} → Ghosts S → ReopeningView S → StorageView
 storage_still g v = record { rows = rows_still g v; is_up = IsKeeperStillUp g v; failures = v.failures }
+
+-- A call changes nothing, and counts no failure.
+abbrev pub KeepsStill : {S : Type 0} → Ghosts S → ReopeningView S → ReopeningView S → Type 0
+KeepsStill g old new = KeepsStorage (storage_still g old) (storage_still g new)

@@ -1,6 +1,6 @@
 //! The faults of storage in a database, and their count.
-ghost use Rattle.std.specs.Prelude.{◌≡◌, ◌≢◌, ◌≤◌, ◌+◌};
-ghost use Rattle.thes_store.specs.Causes.{IsCounted};
+ghost use Rattle.std.specs.Prelude.{◌≡◌, ◌≢◌, ◌≤◌, ◌+◌, IfErr};
+ghost use Rattle.thes_store.specs.Causes.{HasCause, IsCounted};
 ghost use Rattle.thes_sqlite.specs.MigrationEffects.{IsStoreCounted};
 ghost use Rattle.thes_sqlite.specs.Causes.{error_cause};
 ghost use Rattle.thes_sqlite.specs.Faults.{IsKeeperFault, error_fault};
@@ -44,6 +44,18 @@ pub(crate) fn count_fault(failures: &mut u64, fault: Fault) -> Fault
         *failures = failures.saturating_add(1);
     }
     fault
+}
+
+/// Counts the fault of a call as `count_fault` does, and returns the call's result.
+pub(crate) fn count_fault_in<T>(failures: &mut u64, ended: Result<T, Fault>) -> Result<T, Fault>
+    requires { IfErr ended IsKeeperFault }
+    ensures same { result ≡ ended }
+    ensures counted { HasCause failures.old failures.new ended }
+{
+    match ended {
+        Ok(value) => Ok(value),
+        Err(fault) => Err(count_fault(failures, fault)),
+    }
 }
 
 /// Counts a fault if it is `Store`, and returns it. The count saturates.

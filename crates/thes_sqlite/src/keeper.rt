@@ -1,11 +1,12 @@
 //! Storage of the tables in a database.
-ghost use Rattle.std.specs.Prelude.{◌≡◌, ◌⊎◌, false, IsTrue, OnOk, IfOk, IfErr};
+ghost use Rattle.std.specs.Prelude.{◌≡◌, ◌⊎◌, false, Some, IsTrue, OnOk, IfOk, IfErr};
 ghost use Rattle.thes_base.specs.Resources.{entry_at};
 ghost use Rattle.thes_tables.specs.Tables.{Tables};
 ghost use Rattle.thes_tables.specs.Cells.{cells_of_tables};
 ghost use Rattle.thes_sql.specs.Schema.{empty_schema};
 ghost use Rattle.thes_sql.specs.TransactionEffects.{IsEmpty};
 ghost use Rattle.thes_base.specs.declared.fault.Table.{Table};
+ghost use Rattle.thes_store.specs.Causes.{HasCause};
 ghost use Rattle.thes_store.specs.FoundLoads.{PassesFound};
 ghost use Rattle.thes_store.specs.Sinks.{SinkOutcome, sink_rows_of_table, sink_rows, sink_rows_of_tables};
 ghost use Rattle.thes_store.specs.Reading.{IsPostingOfKey, IsPostingOfNumber, assigned_posting_rows, assigned_row_numbers};
@@ -13,7 +14,7 @@ ghost use Rattle.thes_store.specs.Storage.{DeltaFitsStorage, KeepsStorage, RawAf
 ghost use Rattle.thes_sqlite.specs.KeeperView.{IsUp, IsStore, IsKeeperState, IsKeeperUp, IsNewKeeper, KeeperQueryFrame};
 ghost use Rattle.thes_sqlite.specs.KeeperView.{raw_table, raw_of_keeper, storage_view};
 ghost use Rattle.thes_sqlite.specs.MigrationEffects.{Migrates, HasCountedCause, ServesAfterMigration, LeavesUnwritten};
-ghost use Rattle.thes_sqlite.specs.Commits.{KeeperCommitFrame, IsCrashSafe};
+ghost use Rattle.thes_sqlite.specs.Commits.{DatabaseFrame, KeeperCommitFrame, IsCrashSafe};
 ghost use Rattle.thes_sqlite.specs.FoundRows.{IsKeeperOpen, FindsInKeeper, PassesTable, PassesNamed};
 ghost use Rattle.thes_sql.specs.Reads.{LeavesTables};
 ghost use Rattle.sqlite.specs.Held.{state};
@@ -24,6 +25,7 @@ use crate::faults::{count_fault, count_if_store, fault_of};
 use crate::migrating::migrate_database;
 use crate::posting_look_ups::{find_posting, find_row, find_with_moves};
 use crate::row_streams::{collect_numbers, yield_postings, yield_table_rows};
+use crate::telling::has_changes;
 use sqlite::{Alter, Connection};
 use std::alloc::Global;
 use std::marker::Model;
@@ -42,6 +44,7 @@ use thes_tables::order::tables_in_order;
 use thes_tables::rows::PostingRow;
 
 /// Storage that keeps its tables in a database, over one connection.
+#[derive(Drop)]
 pub struct SqlKeeper<S: Alter> {
     conn: Connection<S>,
     failures: u64,
@@ -102,6 +105,19 @@ impl<S: Alter> SqlKeeper<S> {
             cause: Cause::Other,
             alloc,
         }
+    }
+
+    /// Takes over a connection as `adopt` does; None if it is in a transaction.
+    pub(crate) fn adopt_if_idle(alloc: Global, conn: Connection<S>) -> Option<SqlKeeper<S>>
+    where
+        S: Drop,
+        ensures { conn.in_transaction ≡ false
+            → result ≡ Some (record { conn = conn; failures = 0; first = conn }) }
+    {
+        if !conn.is_autocommit() {
+            return None;
+        }
+        Some(SqlKeeper::adopt(alloc, conn))
     }
 
     /// Migrates the database from version 1 of the tables to version 2, and returns its version, 2.
@@ -165,6 +181,30 @@ impl<S: Alter> SqlKeeper<S> {
             Ok(_) => Ok(()),
             Err(error) => Err(count_fault(&mut self.failures, fault_of(error))),
         }
+    }
+
+    /// Applies all changes, or none of them and returns a fault. The changes needn't fit the tables,
+    /// so what the storage promises begins anew with the database as they leave it.
+    pub(crate) fn commit_anew(&mut self, changes: &[Change]) -> Result<(), Fault>
+        ensures database { DatabaseFrame S.Store self.old.conn self.new.conn result }
+        ensures first { self.new.first ≡ self.new.conn }
+        ensures cause { HasCause self.old.failures self.new.failures result }
+    {
+        let ended = commit_all(&mut self.conn, changes);
+        self.first = Snapshot::of(&self.conn);
+        match ended {
+            Ok(_) => Ok(()),
+            Err(error) => Err(count_fault(&mut self.failures, fault_of(error))),
+        }
+    }
+
+    /// Checks whether changes whose commit failed were made; None if the database can't be queried.
+    pub(crate) fn has_changes(&mut self, changes: &[Change]) -> Option<bool>
+        ensures keeps { KeepsStorage (storage_view S.Store self.old)
+            (storage_view S.Store self.new) }
+        ensures first { self.new.first ≡ self.old.first }
+    {
+        has_changes(&mut self.conn, changes)
     }
 
     // Passes the rows of a table to a sink, in their order.

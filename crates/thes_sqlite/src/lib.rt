@@ -9,6 +9,7 @@ mod head;
 pub mod keeper;
 pub mod laws;
 mod migrating;
+mod opener;
 mod page_cache;
 mod posting_look_ups;
 pub mod reopening;

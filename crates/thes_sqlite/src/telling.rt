@@ -1,6 +1,10 @@
-//! Which of several changes tells whether all of them were made, as all are or none is.
+//! Whether a database shows that changes were made, and which of several changes tells it, as all are
+//! made or none is.
+ghost use Rattle.thes_sql.specs.Reads.{LeavesTables};
 
+use sqlite::{Alter, Connection};
 use thes_base::data::Link;
+use thes_sql::outcome::has_change;
 use thes_tables::change::Change;
 use thes_tables::rows::{HierRow, LabelRow};
 
@@ -73,10 +77,10 @@ fn changes_its_row(changes: &[Change], change: &Change) -> bool {
     is_changed
 }
 
-/// Returns the change whose trace in a database shows that all changes were made: one that no other
-/// change of the list can undo, since a plan may remove what it has made. None if the rows are the
-/// same before and after.
-pub(crate) fn telling_change(changes: &[Change]) -> Option<&Change> {
+// Returns the change whose trace in a database shows that all changes were made: one that no other
+// change of the list can undo, since a plan may remove what it has made. None if the rows are the
+// same before and after.
+fn telling_change(changes: &[Change]) -> Option<&Change> {
     for change in changes {
         if inserts_for_good(change) {
             return Some(change);
@@ -94,4 +98,18 @@ pub(crate) fn telling_change(changes: &[Change]) -> Option<&Change> {
         }
     }
     last
+}
+
+/// Checks whether changes whose commit failed were made; None if the database can't be queried.
+/// Changes that leave the rows as they were count as made, but no changes don't.
+pub(crate) fn has_changes<S: Alter>(conn: &mut Connection<S>, changes: &[Change]) -> Option<bool>
+    ensures leaves { LeavesTables S.Store conn.old conn.new }
+{
+    match telling_change(changes) {
+        None => Some(!changes.is_empty()),
+        Some(change) => match has_change(conn, change) {
+            Ok(found) => Some(found),
+            Err(_) => None,
+        },
+    }
 }

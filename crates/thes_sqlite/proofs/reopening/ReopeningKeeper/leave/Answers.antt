@@ -2,17 +2,14 @@ use Rattle.std.proofs.Common.{ap}
 use Rattle.thes_sqlite.specs.Reopening.{ReopeningView}
 use Rattle.thes_sqlite.proofs.ReopeningLemmas.{reports_reopened, returns_first}
 use Rattle.thes_sqlite.proofs.reopening.ReopeningKeeper.leave.Goals as goal
-use Rattle.thes_sqlite.proofs.reopening.ReopeningKeeper.leave.Goals.{in-Some+in-Some-1, in-Some+in-None-1, in-None}
+use Rattle.thes_sqlite.proofs.reopening.ReopeningKeeper.leave.Goals.{in-Some, in-None}
 
 pub returns-clause-returns : goal.returns-clause-returns
 returns-clause-returns g c =
     let is = ap (λ (v : ReopeningView _). v.first) c.self.view_is in
-    elim c.match-first.branch [
-      | in-Some+in-Some-1 w ↦ λ stays. returns_first g.S.Store g.O.HeldTables.held c.args.self c.self.inside.first
-          w.in-Some.keeper w.into_connection.result c.match-first.conn is w.in-Some.is c.self.invariant.0
-          w.into_connection.ensures.is w.into_connection.ensures.kept w.conn-is
-      | in-Some+in-None-1 w ↦ λ stays. returns_first g.S.Store g.O.HeldTables.held c.args.self c.self.inside.first
-          w.in-Some.keeper w.into_connection.result c.match-first.conn is w.in-Some.is c.self.invariant.0
-          w.into_connection.ensures.is w.into_connection.ensures.kept w.conn-is
-      | in-None w ↦ λ stays. absurd (reports_reopened _ c.match-first.conn w.conn-is stays)
+    elim c.match-storage.branch [
+      | in-Some w ↦ λ stays. returns_first g.S.Store g.O.HeldTables.held c.args.self c.self.inside.is_reopened
+          c.self.inside.storage w.in-Some.keeper w.into_connection.result c.match-storage.conn is w.in-Some.is
+          c.self.invariant.0 w.into_connection.ensures.is w.into_connection.ensures.kept w.conn-is stays
+      | in-None w ↦ λ stays. absurd (reports_reopened _ c.match-storage.conn w.conn-is stays)
     ]

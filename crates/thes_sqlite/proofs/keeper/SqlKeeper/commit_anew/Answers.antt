@@ -1,0 +1,15 @@
+use Rattle.std.proofs.Common.{ap}
+use Rattle.thes_sqlite.specs.KeeperView.{KeeperView}
+use Rattle.thes_sqlite.proofs.KeeperLemmas.{frame_of_success, frame_of_fault}
+use Rattle.thes_sqlite.proofs.keeper.SqlKeeper.commit_anew.Goals as goal
+
+pub returns-in-Ok-clause-database : goal.returns-in-Ok-clause-database
+returns-in-Ok-clause-database g c =
+    frame_of_success g.S.Store _ _ c.commit_all-ended.new.conn (ap (λ (k : KeeperView _). k.conn) c.self.view_is)
+    c.self.invariant.autocommit c.commit_all-ended.ensures.crash c.commit_all-ended.ensures.own _
+
+pub returns-in-Err-clause-database : goal.returns-in-Err-clause-database
+returns-in-Err-clause-database g c =
+    frame_of_fault g.S.Store _ _ c.commit_all-ended.new.conn (ap (λ (k : KeeperView _). k.conn) c.self.view_is)
+    c.self.invariant.autocommit c.commit_all-ended.ensures.crash c.commit_all-ended.ensures.own c.in-Err.error _
+    c.in-Err.is
