@@ -56,8 +56,8 @@ module _ {K : Type 0} (view : K → StorageView) where
       ≡ false → ((view new).is_up → IsCopy (view old).rows limits copy) → ((view new).is_up → (view new).rows
       ≡ (view old).rows)
       → IsConsistent view new copy limits false
-  consistent_after_load old new copy limits few unspent copies same = record {
-    few = few;
+  consistent_after_load old new copy limits limits_fit unspent copies same = record {
+    limits_fit = limits_fit;
     shows = λ up. let is = here up in (copy.setting.base, is.state, is.shows);
     unspent = λ e. unspent;
     copies = λ e. here;
@@ -75,7 +75,7 @@ module _ {K : Type 0} (view : K → StorageView) where
       → IsConsistent view new copy limits
       stale'
   consistent_after_query old new copy limits stale stale' kept later cause fresh was same = record {
-    few = kept.few;
+    limits_fit = kept.limits_fit;
     shows = λ up. let x = kept.shows (was up) in
         (x.0, x.1, same_tables_same_state (view old).rows (view new).rows x.0 x.1 (same up) x.2);
     unspent = λ e. kept.unspent (fresh e);
@@ -248,7 +248,7 @@ module _ {K : Type 0} (view : K → StorageView) where
       → ((view new).is_up → (view new).rows ≡ (view old).rows) → copy'.spent ≡ true
       → IsConsistent view new copy' limits true
   consistent_when_spent old new copy copy' limits stale kept was same spent = record {
-    few = kept.few;
+    limits_fit = kept.limits_fit;
     shows = λ up. let x = kept.shows (was up) in
         (x.0, x.1, same_tables_same_state (view old).rows (view new).rows x.0 x.1 (same up) x.2);
     unspent = λ e. absurd (cc);

@@ -267,8 +267,8 @@ module _ {K : Type 0} (view : K → StorageView) where
       → ((view new).is_up → TablesAfterPlan own (view old).rows plan outcome (view new).rows)
       → (copy.spent ≡ false → (view new).is_up → IsCopy (view new).rows limits copy)
       → IsConsistent view new copy limits copy.spent
-  consistent_after_plan old new copy limits own plan outcome few performs copies = record {
-    few = few;
+  consistent_after_plan old new copy limits own plan outcome limits_fit performs copies = record {
+    limits_fit = limits_fit;
     shows = λ up. let p = performs up in (p.base, p.state_after, p.shows);
     unspent = λ fresh. fresh;
     copies = copies;

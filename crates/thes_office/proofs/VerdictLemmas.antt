@@ -79,8 +79,8 @@ module _ {K : Type 0} (view : K → StorageView) (keeper : K) (copy : core.CoreV
     module _ (new : K) (forms : CommandHasForms command) (was : (view new).is_up → (view keeper).is_up)
         (made : (view new).is_up → (t : Tables) → (view keeper).rows ≡ cells_of_tables t
         → (view new).rows ≡ cells_of_tables (tables_after_delta changes t)) where
-      few : (up : (view keeper).is_up) → AreLimits copy.setting.limits
-      few up = subst AreLimits (sym (current_copy up).limits_are) kept.few
+      limits_fit : (up : (view keeper).is_up) → AreLimits copy.setting.limits
+      limits_fit up = subst AreLimits (sym (current_copy up).limits_are) kept.limits_fit
 
       -- The commit of the changes of an accepted request is a step of the machine.
       step_when_accepted : (view new).is_up → TablesAfterStep limits (view keeper).rows command answer (view new).rows
@@ -89,7 +89,7 @@ module _ {K : Type 0} (view : K → StorageView) (keeper : K) (copy : core.CoreV
           (current_copy (was up)).limits_are
           (steps_accepted copy.setting (view keeper).rows (view new).rows
           (current_copy (was up)).state command answer changes
-          (few (was up)) forms (current_copy (was up)).shows (grants (was up)) (made up))
+          (limits_fit (was up)) forms (current_copy (was up)).shows (grants (was up)) (made up))
 
       pub performed_when_accepted : (old : OfficeView K) (later : Bool) → office.limits ≡ old.limits
           → SameTables view old office
@@ -105,14 +105,14 @@ module _ {K : Type 0} (view : K → StorageView) (keeper : K) (copy : core.CoreV
           → ApplyFrame copy result copy'
           → IsConsistent view new copy' limits later
       consistent_when_accepted copy' result later spends applies frame = record {
-        few = kept.few;
+        limits_fit = kept.limits_fit;
         shows = λ up. let x = step_when_accepted up in (x.base, x.state_after, x.shows);
         unspent = λ e. sym spends ∙ e;
         copies = λ e up.
             let here = current_copy (was up) in
             subst (λ (l : Limits). IsCopy (view new).rows l copy') here.limits_are
             (copies_accepted copy.setting (view keeper).rows (view new).rows here.state command answer changes
-            (few (was up)) forms
+            (limits_fit (was up)) forms
             here.shows (grants (was up)) (made up) copy copy' result refl
             (applies here.state here.holds (right_facts (was up)) (grants (was up)).accepts) frame (sym spends ∙ e));
         why = λ e. inl (sym spends ∙ e);

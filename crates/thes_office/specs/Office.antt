@@ -42,7 +42,7 @@ pub record IsCopy (raw : Raw) (limits : Limits) (copy : core.CoreView) : Type 0 
 -- it is stale. The copy is stale only after running out of memory or a failure of the storage.
 pub record IsConsistent {K : Type 0} (view : K → StorageView)
     (keeper : K) (copy : core.CoreView) (limits : Limits) (stale : Bool) : Type 0 where
-  pub few : AreLimits limits
+  pub limits_fit : AreLimits limits
   pub shows : (view keeper).is_up → (base : List ℕ) × (s : State) × TablesOfState (view keeper).rows base s
   pub unspent : stale ≡ false → copy.spent ≡ false
   pub copies : stale ≡ false → (view keeper).is_up → IsCopy (view keeper).rows limits copy

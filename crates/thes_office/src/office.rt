@@ -1,5 +1,5 @@
 //! `Office`: opens over a storage, and performs requests, singly and as lists.
-ghost use Rattle.std.specs.Prelude.{⊤, ◌≡◌, ◌⊎◌, ◌∷◌, [], false, IfOk, List, length, ℕ, MatchResult};
+ghost use Rattle.std.specs.Prelude.{◌≡◌, ◌⊎◌, ◌∷◌, [], false, IfOk, List, length, ℕ, MatchResult};
 ghost use Rattle.thes_base.specs.Headline.{IsConsistentState};
 ghost use Rattle.thes_base.specs.State.{State};
 ghost use Rattle.thes_office.specs.Office.{FaultBehaviour, OfficeQueryFrame, PerformResult, RunResult};
@@ -46,9 +46,8 @@ impl<K: Keeper> Model for Office<K> {
 
 impl<K: Keeper> Office<K> {
     ghost use Rattle.thes_office.specs.contracts.office.Office.{the_row};
-    ghost use mathlib.Core.Option.{none};
-    ghost use denote.Follow.{follows_so};
     ghost use Rattle.std.specs.Borrow.{sem};
+    ghost use Rattle.std.specs.Io.BufRead.{Rests};
     ghost use Rattle.thes_office.specs.Office.{ReadyResult};
 
     /// Loads the tables of a storage and opens an office over it. A fault comes with the storage:
@@ -239,10 +238,8 @@ impl<K: Keeper> Office<K> {
     /// Returns the copy of the tables, reloaded first if it was stale. While the copy is in use,
     /// the office can't be called; the clause says what the office is once it can.
     pub fn ready(&mut self) -> Result<&Core, Fault>
-        ensures* after { sem 𝓛
-            (follows_so (the_row K.row K.Keeper) (the_row K.row K.Keeper) self.entry.ghost_name none
-            (λ _ _. ⊤)
-            (λ n. ReadyResult K.view self.old result n)) }
+        ensures* after { sem 𝓛 (Rests (the_row K.row K.Keeper) self.entry
+            (λ office. ReadyResult K.view self.old result office)) }
     {
         self.refresh()?;
         Ok(&self.core)

@@ -17,5 +17,5 @@ returns-in-Err g c =
 pub invariant_of-self-2 : goal.invariant_of-self-2
 invariant_of-self-2 g c =
     consistent_after_load g.K.Keeper.view c.self.inside.keeper c.load.new.keeper
-    c.in-Ok.core c.self.inside.limits c.self.invariant.few
+    c.in-Ok.core c.self.inside.limits c.self.invariant.limits_fit
     c.in-Ok.ensures.ok.unspent c.in-Ok.ensures.ok.copy c.in-Ok.ensures.reads.same

@@ -11,7 +11,7 @@ invariant_of-self g c =
     subst (λ (b : Bool). IsConsistent g.K.Keeper.view c.perform_group.new.keeper
     c.perform_group.new.core c.self.inside.limits b) (sym fresh)
     (consistent_after_load g.K.Keeper.view c.perform_group.new.keeper
-    c.perform_group.new.keeper c.perform_group.new.core c.self.inside.limits c.self.invariant.few
+    c.perform_group.new.keeper c.perform_group.new.core c.self.inside.limits c.self.invariant.limits_fit
     c.in-Ok.ensures.ok.unspent
     (λ up. subst (λ (l : Limits). IsCopy (g.K.Keeper.view c.perform_group.new.keeper).rows l c.perform_group.new.core)
     (c.self.invariant.copies fresh (c.perform_group.ensures.keeps.was up)).limits_are (c.in-Ok.ensures.ok.copies up))

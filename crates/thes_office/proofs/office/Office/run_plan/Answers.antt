@@ -21,7 +21,7 @@ invariant_of-self g c =
     c.perform_plan.new.core c.self.inside.limits b) (sym c.is_spent-self-inside.ensures.value)
     (consistent_after_plan g.K.Keeper.view c.self.inside.keeper c.perform_plan.new.keeper
     c.perform_plan.new.core c.self.inside.limits c.self.inside.core.setting.limits c.args.plan.items c.in-Ok.outcome
-    c.self.invariant.few c.in-Ok.ensures.ok
+    c.self.invariant.limits_fit c.in-Ok.ensures.ok
     (λ unspent up. subst (λ (l : Limits). IsCopy (g.K.Keeper.view c.perform_plan.new.keeper).rows l
     c.perform_plan.new.core) (c.self.invariant.copies fresh (c.perform_plan.ensures.keeps.was up)).limits_are
     (c.in-Ok.ensures.copies unspent up)))
