@@ -10,9 +10,8 @@ use thes_requests::request::DisplayRequest;
 
 /// A request handler that also imports posting files, exports the vocabulary, and displays schemes.
 pub trait Service: RequestHandler {
-    // A trait, so that the proofs of a connection see no office and no storage (DECISIONS.md, The
-    // office).
-    // What each call does, those of a request handler included.
+    // What each call does, those of a request handler included. (A trait, so that the proofs of a
+    // connection see no office and no storage: DECISIONS.md, The office.)
     ghost behaviour: { ServiceBehaviour Self };
 
     /// Imports a posting file, and returns the outcomes of its rows as CSV; None if it isn't a

@@ -39,7 +39,7 @@ pub record IsCopy (raw : Raw) (limits : Limits) (copy : core.CoreView) : Type 0 
   pub shows : TablesOfState raw copy.setting.base state
 
 -- No limit exceeds the greatest number. While the storage is up, its tables encode a state, which the copy holds unless
--- it is stale. The copy is stale only after running out of memory or a failure of the storage.
+-- it is stale. The copy is stale only if it is unusable or the storage has failed.
 pub record IsConsistent {K : Type 0} (view : K → StorageView)
     (keeper : K) (copy : core.CoreView) (limits : Limits) (stale : Bool) : Type 0 where
   pub limits_fit : AreLimits limits

@@ -20,9 +20,8 @@ pub enum QueryAnswer {
 /// A handler of requests: it performs commands and plans, and answers queries, over a state in
 /// memory or over shared storage.
 pub trait RequestHandler {
-    // A trait, so that the proofs of scripts and connections see no office (DECISIONS.md, The
-    // office).
-    // What each call does.
+    // What each call does. (A trait, so that the proofs of scripts and connections see no office:
+    // DECISIONS.md, The office.)
     ghost requests: { RequestBehaviour Self };
 
     ghost is_open: { Self → Bool };

@@ -50,7 +50,7 @@ pub struct SqlKeeper<S: Alter> {
     failures: u64,
     // The connection at the start, or after the last migration; only contracts use it.
     first: Snapshot<Connection<S>>,
-    // The cause of the last fault `Store` of a load or a migration; `Other` before the first.
+    // The cause of the last fault of a load or a migration; `Other` before the first.
     cause: Cause,
     alloc: Global,
 }

@@ -38,7 +38,7 @@ pub struct ReopeningKeeper<S: Alter, O: Reopen<Connection<S>> + HeldTables> {
     failures: u64,
     // Whether a commit that returned `Store` may have been performed.
     is_in_doubt: bool,
-    // The cause of the last fault `Store` of a load; `Other` before the first.
+    // The cause of the last fault of a load, or of opening again; `Other` before the first.
     cause: Cause,
     alloc: Global,
 }
