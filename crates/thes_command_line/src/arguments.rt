@@ -37,10 +37,12 @@ pub struct ScriptOptions {
     pub plans: bool,
 }
 
-/// The options of `serve`: the port to listen on, and the number of connections to serve.
+/// The options of `serve`.
 #[derive(Clone, Copy, Debug)]
 pub struct ServeOptions {
+    /// The port to listen on.
     pub port: u16,
+    /// The number of connections to serve.
     pub count: u32,
     /// Whether plans are taken at `/plans`.
     pub plans: bool,

@@ -34,7 +34,7 @@ fn scheme_in(resource: &Resource) -> Option<ResNo>
     resource.scheme
 }
 
-// Returns the replacement of a deprecated concept, if it has one.
+// Returns the replacement of a concept, if it was merged.
 fn replacement_in(resource: &Resource) -> Option<ResNo>
     ensures { result ≡ resource.now.replaced }
 {

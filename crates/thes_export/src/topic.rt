@@ -25,7 +25,7 @@ pub enum Topic {
     TopConcepts,
     /// The fact that the concept is deprecated.
     Death,
-    /// The concept that replaces a deprecated one.
+    /// The concept that replaces this one, if it was merged.
     Replacement,
     /// The labels and scope notes.
     Labels,
