@@ -25,7 +25,7 @@ use std::alloc::{AllocError, Global};
 use thes_base::data::{Label, LabelValue, Link, LinkKind};
 use thes_base::number::{PostNo, ResNo};
 use thes_base::request::Command;
-use thes_base::text::{Tag, Text};
+use thes_base::text::{Iri, Tag, Text};
 
 // Returns an alternative label with copies of the tag and the text.
 fn alternative_label(alloc: Global, tag: &Tag, text: &Text) -> Result<Label, AllocError>
@@ -61,6 +61,10 @@ impl Thesaurus {
                 self.take_back_named(tag, text);
                 Ok(true)
             }
+            Command::Outside(iri) => {
+                self.take_back_outside(iri);
+                Ok(true)
+            }
             Command::AddLabel(owner, label) => {
                 self.take_back_added(*owner, label);
                 Ok(true)
@@ -82,7 +86,7 @@ impl Thesaurus {
             Command::Split(source, tag, text, postings) => {
                 self.take_back_split(*source, tag, text, postings.as_slice())
             }
-            Command::Outside(_) | Command::Deprecate(_) | Command::Merge(_, _) => Ok(false),
+            Command::Deprecate(_) | Command::Merge(_, _) => Ok(false),
         }
     }
 
@@ -94,6 +98,18 @@ impl Thesaurus {
         ensures book { self.new.book ≡ self.old.book }
     {
         self.vocab.take_back_named(tag, text);
+    }
+
+    // Takes back the creation of the last resource, an outside concept.
+    fn take_back_outside(&mut self, iri: &Iri)
+        requires { (s : State) × ArePartsAfter (request.Outside iri.now) s self.old }
+        ensures parts { (s : State) → ArePartsAfter (request.Outside iri.now) s self.old
+            → PartsOfState self.old (without_postings s) self.new }
+        ensures book { self.new.book ≡ self.old.book }
+    {
+        let concept = ResNo::new(self.vocab.resource_count() as u32);
+        self.vocab.take_back_outside(iri);
+        self.graph.unmark_outside(concept);
     }
 
     // Takes back the addition of a label.

@@ -443,6 +443,14 @@ impl Graph {
         Ok(())
     }
 
+    /// Removes the mark of a resource without links as an outside concept; it can't fail.
+    pub fn unmark_outside(&mut self, n: ResNo)
+        requires { (l : Link) → Holds self.old.links l → HasEnd n l → ⊥ }
+        ensures { self.new ≡ record self.old { outside = remove self.old.outside n } }
+    {
+        self.marked.remove(&n);
+    }
+
     /// Returns a reader of the links, with its count of visits at 0.
     pub fn walk(&self) -> Walk<'_>
         ensures { result ≡ record { net = self.now; visits = 0 } }

@@ -12,3 +12,4 @@ mod ForwardingLemmas
 mod LoadingLemmas
 pub mod SetUndoLemmas
 mod TakingBackLemmas
+mod OutsideUndoLemmas

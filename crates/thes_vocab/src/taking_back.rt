@@ -1,13 +1,13 @@
 //! Takes back the creation of the last resource.
 ghost use Rattle.std.specs.Prelude.{◌≡◌};
 ghost use Rattle.thes_vocab.specs.Vocabulary.{Vocabulary};
-ghost use Rattle.thes_vocab.specs.TakingBack.{IsBeforeCreation};
+ghost use Rattle.thes_vocab.specs.TakingBack.{IsBeforeCreation, IsBeforeOutside};
 
 use crate::concepts;
 use crate::vocab::{Vocab, scheme_if_concept};
 use thes_base::data::LabelKind;
 use thes_base::number::ResNo;
-use thes_base::text::{Tag, Text};
+use thes_base::text::{Iri, Tag, Text};
 
 impl Vocab {
     /// Takes back the creation of the last resource with its preferred label; it can't fail.
@@ -26,5 +26,19 @@ impl Vocab {
         let scheme = scheme_if_concept(&resource);
         let own = self.labels.of_owner(n);
         self.names.forget(scheme, tag, text.as_str(), n, own);
+    }
+
+    /// Takes back the creation of the last resource, an outside concept with this IRI; it can't
+    /// fail.
+    pub fn take_back_outside(&mut self, iri: &Iri)
+        requires { (before : Vocabulary) × IsBeforeOutside iri.now before self.old }
+        ensures { (before : Vocabulary) → IsBeforeOutside iri.now before self.old
+            → self.new ≡ before }
+    {
+        let Some(_) = self.resources.pop() else {
+            return;
+        };
+        let n = ResNo::new(self.resources.len() as u32 + 1);
+        self.iris.remove(n, iri);
     }
 }

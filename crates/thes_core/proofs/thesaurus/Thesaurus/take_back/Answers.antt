@@ -28,6 +28,10 @@ take_back_named-requires-in-Collection c = (
       (subst (λ (x : Command). ArePartsAfter x c.requires.0 c.args.self.now) c.in-Collection.is c.requires.1),
 )
 
+pub take_back_outside-requires : goal.take_back_outside-requires
+take_back_outside-requires c =
+    (c.requires.0, subst (λ (x : Command). ArePartsAfter x c.requires.0 c.args.self.now) c.in-Outside.is c.requires.1)
+
 pub take_back_added-requires : goal.take_back_added-requires
 take_back_added-requires c =
     (c.requires.0, subst (λ (x : Command). ArePartsAfter x c.requires.0 c.args.self.now) c.in-AddLabel.is c.requires.1)
