@@ -41,7 +41,7 @@ use Rattle.thes_core.specs.UndoLogs.{LeadsWithoutPostings, StepsLead}
 use Rattle.thes_core.specs.declared.facts.Facts.{Facts}
 use Rattle.thes_core.specs.declared.thesaurus.Thesaurus.{Thesaurus}
 use Rattle.thes_core.specs.declared.losses.Lost.{Lost}
-use Rattle.thes_core.specs.declared.losses.Lost.TheVariants.{Place, Preferred}
+use Rattle.thes_core.specs.declared.losses.Lost.TheVariants.{Links, Place, Preferred}
 use Rattle.thes_core.specs.declared.undo_log.UndoStep.{UndoStep}
 use Rattle.thes_core.proofs.ApplyLemmas.{held_of, kept_after}
 use Rattle.thes_core.proofs.FactLemmas.{listed_stand, row_of_one}
@@ -290,6 +290,7 @@ lost_from_view k s command lost holds is = subst (λ (x : State). IsLostFromPart
     bare : (c : Command) (l : Lost) → IsLostFromParts c (with_histories [] k) l
         → IsLostFromParts c (with_histories s.histories k) l
     bare (request.Relabel owner tag text keep) (Preferred old) x = x
+    bare (request.Deprecate concept) (Links row) x = x
     bare _ _ x = x
 
 -- A request that is applied and appended to a log keeps it a log of the core.

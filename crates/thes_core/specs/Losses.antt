@@ -10,18 +10,21 @@ use Rattle.thes_base.specs.Labels.{Labels, preferred_label_in}
 use Rattle.thes_base.specs.Postings.{place}
 use Rattle.thes_base.specs.Resources.{entry_at}
 use Rattle.thes_base.specs.State.{State}
+use Rattle.thes_links.specs.Reading.{IsRow}
 use Rattle.thes_core.specs.declared.losses.Lost.{Lost}
-use Rattle.thes_core.specs.declared.losses.Lost.TheVariants.{Place, Preferred}
+use Rattle.thes_core.specs.declared.losses.Lost.TheVariants.{Place, Preferred, Links}
 
 -- The labels without the alternative label that a Relabel kept, if `keep` is set.
 abbrev pub labels_without_kept : ℕ → List ℕ → List ℕ → Bool → Labels → Labels
 labels_without_kept owner tag old keep labels =
     if keep then set.remove labels (label owner Alt tag old) else labels
 
--- The loss is what the request takes from the labels: a Relabel the former preferred label.
+-- The loss is what the request takes from the labels and links: a Relabel the former preferred label, a Deprecate the
+-- links of its concept.
 abbrev pub IsLostFromParts : Command → State → Lost → Type 0
 IsLostFromParts (request.Relabel owner tag text keep) s (Preferred old) =
     preferred_label_in s.labels owner tag ≡ Some old
+IsLostFromParts (request.Deprecate concept) s (Links row) = IsRow s.links concept row.items
 IsLostFromParts _ s _ = Unit {0}
 
 -- The loss is what the request takes from the postings: a Withdraw the place of its posting.

@@ -9,6 +9,7 @@ ghost use Rattle.thes_core.specs.PartsView.{parts_state};
 use crate::facts::Facts;
 use crate::thesaurus::Thesaurus;
 use std::alloc::AllocError;
+use thes_base::data::Link;
 use thes_base::number::ResNo;
 use thes_base::request::Command;
 use thes_base::text::Text;
@@ -23,6 +24,8 @@ pub enum Lost {
     Place(ResNo),
     /// The text of a preferred label that was replaced.
     Preferred(Text),
+    /// The links of a concept that was deprecated.
+    Links(Vec<Link>),
 }
 
 // Returns the place of a posting that is withdrawn, if the facts have it.
@@ -50,6 +53,7 @@ impl Thesaurus {
                 Some(old) => Ok(Lost::Preferred(old.try_clone(self.alloc)?)),
                 None => Ok(Lost::Nothing),
             },
+            Command::Deprecate(concept) => Ok(Lost::Links(self.links_at(*concept)?)),
             _ => Ok(Lost::Nothing),
         }
     }

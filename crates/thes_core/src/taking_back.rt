@@ -86,7 +86,8 @@ impl Thesaurus {
             Command::Split(source, tag, text, postings) => {
                 self.take_back_split(*source, tag, text, postings.as_slice())
             }
-            Command::Deprecate(_) | Command::Merge(_, _) => Ok(false),
+            Command::Deprecate(concept) => self.take_back_deprecate(*concept, lost),
+            Command::Merge(_, _) => Ok(false),
         }
     }
 
@@ -152,6 +153,22 @@ impl Thesaurus {
         ensures book { OnOk result (self.new.book ≡ self.old.book) }
     {
         self.graph.add(&Link { kind, a, b })?;
+        Ok(true)
+    }
+
+    // Takes back that a concept was deprecated, and returns whether its links are known.
+    fn take_back_deprecate(&mut self, concept: ResNo, lost: &Lost) -> Result<bool, AllocError>
+        requires { (s : State) × ArePartsAfter (request.Deprecate concept) s self.old
+            × IsLostFromParts (request.Deprecate concept) s lost.now }
+        ensures parts { IfOk result (λ taken. taken ≡ true → (s : State)
+            → ArePartsTakenBack (request.Deprecate concept) s lost.now self.old self.new) }
+        ensures book { OnOk result (self.new.book ≡ self.old.book) }
+    {
+        let Lost::Links(links) = lost else {
+            return Ok(false);
+        };
+        self.vocab.take_back_death(concept)?;
+        self.graph.add_all(links.as_slice())?;
         Ok(true)
     }
 

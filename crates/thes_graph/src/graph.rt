@@ -369,8 +369,8 @@ impl Graph {
         Ok(merge_additions)
     }
 
-    // Adds these links, none of which is held yet; adds none if memory runs out.
-    fn add_all(&mut self, links: &[Link]) -> Result<(), AllocError>
+    /// Adds these links, none of which is held yet; adds none if memory runs out.
+    pub fn add_all(&mut self, links: &[Link]) -> Result<(), AllocError>
         requires { AreNew self.old links.now }
         ensures ok { OnOk result
             (self.new ≡ record self.old { links = with_all self.old.links links.now }) }

@@ -13,3 +13,4 @@ mod LoadingLemmas
 pub mod SetUndoLemmas
 mod TakingBackLemmas
 mod OutsideUndoLemmas
+mod DeathUndoLemmas

@@ -1,11 +1,12 @@
-//! Takes back the creation of the last resource.
-ghost use Rattle.std.specs.Prelude.{◌≡◌};
+//! Takes back the creation of the last resource, and the death of a concept.
+ghost use Rattle.std.specs.Prelude.{◌≡◌, ℕ, Option, OnOk, OnErr};
 ghost use Rattle.thes_vocab.specs.Vocabulary.{Vocabulary};
-ghost use Rattle.thes_vocab.specs.TakingBack.{IsBeforeCreation, IsBeforeOutside};
+ghost use Rattle.thes_vocab.specs.TakingBack.{IsBeforeCreation, IsBeforeDeath, IsBeforeOutside};
 
 use crate::concepts;
 use crate::vocab::{Vocab, scheme_if_concept};
-use thes_base::data::LabelKind;
+use std::alloc::AllocError;
+use thes_base::data::{LabelKind, Resource};
 use thes_base::number::ResNo;
 use thes_base::text::{Iri, Tag, Text};
 
@@ -40,5 +41,26 @@ impl Vocab {
         };
         let n = ResNo::new(self.resources.len() as u32 + 1);
         self.iris.remove(n, iri);
+    }
+
+    /// Takes back that a concept was marked as dead: it is live again, and has no replacement. If
+    /// memory runs out, nothing changes.
+    pub fn take_back_death(&mut self, n: ResNo) -> Result<(), AllocError>
+        requires { (before : Vocabulary) × (replaced : Option ℕ)
+            × IsBeforeDeath n replaced before self.old }
+        ensures ok { OnOk result ((before : Vocabulary) (replaced : Option ℕ)
+            → IsBeforeDeath n replaced before self.old → self.new ≡ before) }
+        ensures err { OnErr result (self.new ≡ self.old) }
+    {
+        let place = n.get() as usize - 1;
+        let dead = self.resources[place];
+        let concept = Resource::new(dead.kind, dead.scheme);
+        concepts::make_room(&mut self.concepts, &concept)?;
+        // The index may have lost the names of a dead concept.
+        let own = self.labels.of_owner(n);
+        self.names.put_all(&concept, own, n)?;
+        concepts::insert(&mut self.concepts, &concept, n);
+        self.resources[place] = concept;
+        Ok(())
     }
 }
