@@ -24,7 +24,7 @@ use Rattle.thes_core.specs.declared.thesaurus.Thesaurus.{Thesaurus}
 use Rattle.thes_core.proofs.ApplyLemmas.{parts_become_state}
 use Rattle.thes_core.proofs.OutsideLemmas.{outside_marked_dead}
 
-live_concept : (s : State) (n : ℕ) → IsConcept s.resources n → IsLive s.resources n → IsLiveConcept s.resources n
+pub live_concept : (s : State) (n : ℕ) → IsConcept s.resources n → IsLive s.resources n → IsLiveConcept s.resources n
 live_concept s n concept live = live_from_test s.resources n (live_of_parts s.resources n concept live)
 
 -- Assumes that a concept of a state was marked as dead.

@@ -17,3 +17,4 @@ pub mod TakingBackLemmas
 pub mod RelabelUndoLemmas
 pub mod UndoLogLemmas
 pub mod DeathUndoLemmas
+pub mod MergeUndoLemmas

@@ -87,7 +87,7 @@ impl Thesaurus {
                 self.take_back_split(*source, tag, text, postings.as_slice())
             }
             Command::Deprecate(concept) => self.take_back_deprecate(*concept, lost),
-            Command::Merge(_, _) => Ok(false),
+            Command::Merge(source, target) => self.take_back_merge(*source, *target, lost),
         }
     }
 
@@ -169,6 +169,32 @@ impl Thesaurus {
         };
         self.vocab.take_back_death(concept)?;
         self.graph.add_all(links.as_slice())?;
+        Ok(true)
+    }
+
+    // Takes back a merge, and returns whether what it changed is known.
+    fn take_back_merge(
+        &mut self,
+        source: ResNo,
+        target: ResNo,
+        lost: &Lost,
+    ) -> Result<bool, AllocError>
+        requires { (s : State) × ArePartsAfter (request.Merge source target) s self.old
+            × IsLostFromParts (request.Merge source target) s lost.now }
+        ensures parts { IfOk result (λ taken. taken ≡ true → (s : State)
+            → ArePartsTakenBack (request.Merge source target) s lost.now self.old self.new) }
+        ensures counts { IfOk result (λ taken. taken ≡ true → (s : State)
+            → ArePartsAfter (request.Merge source target) s self.old
+            → AreCountsTakenBack (request.Merge source target) s lost.now self.old self.new) }
+    {
+        let Lost::Merge(loss) = lost else {
+            return Ok(false);
+        };
+        self.vocab.take_back_death(source)?;
+        self.vocab.drop_labels(target, loss.copies.as_slice());
+        self.graph.add_all(loss.links.as_slice())?;
+        self.graph.detach_all(loss.additions.as_slice());
+        self.book.take_back_moves(source, target, loss.moves)?;
         Ok(true)
     }
 

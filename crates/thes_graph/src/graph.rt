@@ -385,8 +385,8 @@ impl Graph {
         Ok(())
     }
 
-    // Removes these links; it can't fail.
-    fn detach_all(&mut self, links: &[Link])
+    /// Removes these links, which are in normal form; it can't fail.
+    pub fn detach_all(&mut self, links: &[Link])
         ensures { self.new ≡ record self.old { links = without_links self.old.links links.now } }
     {
         for link in links {

@@ -14,3 +14,4 @@ pub mod SetUndoLemmas
 mod TakingBackLemmas
 mod OutsideUndoLemmas
 mod DeathUndoLemmas
+mod LabelUndoLemmas

@@ -1,12 +1,16 @@
-//! Takes back the creation of the last resource, and the death of a concept.
+//! Takes back the creation of the last resource, the death of a concept, and the labels that a merge
+//! copied.
 ghost use Rattle.std.specs.Prelude.{◌≡◌, ℕ, Option, OnOk, OnErr};
-ghost use Rattle.thes_vocab.specs.Vocabulary.{Vocabulary};
+ghost use Rattle.std.specs.FinSet as set;
+ghost use Rattle.thes_base.specs.Legal.{AreLegalLabels};
+ghost use Rattle.thes_vocab.specs.LabelRows.{labels_of_owner};
+ghost use Rattle.thes_vocab.specs.Vocabulary.{Vocabulary, with_labels};
 ghost use Rattle.thes_vocab.specs.TakingBack.{IsBeforeCreation, IsBeforeDeath, IsBeforeOutside};
 
 use crate::concepts;
 use crate::vocab::{Vocab, scheme_if_concept};
 use std::alloc::AllocError;
-use thes_base::data::{LabelKind, Resource};
+use thes_base::data::{Label, LabelKind, Resource};
 use thes_base::number::ResNo;
 use thes_base::text::{Iri, Tag, Text};
 
@@ -62,5 +66,15 @@ impl Vocab {
         concepts::insert(&mut self.concepts, &concept, n);
         self.resources[place] = concept;
         Ok(())
+    }
+
+    /// Removes these labels of an owner; those that are left must be legal. It can't fail.
+    pub fn drop_labels(&mut self, owner: ResNo, labels: &[Label])
+        requires { AreLegalLabels self.old.resources
+            (set.difference self.old.labels (labels_of_owner owner labels.now)) }
+        ensures { self.new ≡ with_labels self.old
+            (set.difference self.old.labels (labels_of_owner owner labels.now)) }
+    {
+        self.labels.remove_all(owner, labels);
     }
 }

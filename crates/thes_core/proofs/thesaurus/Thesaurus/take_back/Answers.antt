@@ -63,6 +63,13 @@ take_back_deprecate-requires c = (
   subst (λ (x : Command). IsLostFromParts x c.requires.0 c.args.lost.now) c.in-Deprecate.is c.requires.2,
 )
 
+pub take_back_merge-requires : goal.take_back_merge-requires
+take_back_merge-requires c = (
+  c.requires.0,
+  subst (λ (x : Command). ArePartsAfter x c.requires.0 c.args.self.now) c.in-Merge.is c.requires.1,
+  subst (λ (x : Command). IsLostFromParts x c.requires.0 c.args.lost.now) c.in-Merge.is c.requires.2,
+)
+
 pub take_back_split-requires : goal.take_back_split-requires
 take_back_split-requires c =
     let is = c.in-Split.is ∙ ap (λ (ps : List ℕ). request.Split c.in-Split.source c.in-Split.tag c.in-Split.text ps)
