@@ -4,6 +4,7 @@ ghost use Rattle.thes_vocab.specs.Vocabulary.{Vocabulary};
 ghost use Rattle.thes_vocab.specs.TakingBack.{IsBeforeCreation};
 
 use crate::concepts;
+use crate::names::LabelledConcept;
 use crate::vocab::{Vocab, scheme_if_concept};
 use thes_base::data::LabelKind;
 use thes_base::number::ResNo;
@@ -25,6 +26,10 @@ impl Vocab {
         self.labels.remove(n, LabelKind::Pref, tag, text.as_str());
         let scheme = scheme_if_concept(&resource);
         let own = self.labels.of_owner(n);
-        self.names.forget(scheme, tag, text.as_str(), n, own);
+        let concept = LabelledConcept {
+            number: n,
+            labels: own,
+        };
+        self.names.forget(scheme, tag, text.as_str(), &concept);
     }
 }
