@@ -255,22 +255,33 @@ fn open_work(
     }
 }
 
+// A job over the store in a file.
+#[derive(Drop)]
+struct FileJob {
+    task: Task,
+    file: String,
+    setting: StoreSetting,
+}
+
 // Prepares the store in an open database for its task, and opens the task's file or socket. An
 // error is the fault of either.
 fn open_over<'r, S: Alter + Drop, O: HeldTables + Drop, L, D: Databases<Connection<S>, O, L>>(
     rt: &'r HostRuntime,
     databases: &D,
-    task: Task,
     mut store: StoreDatabase<'r, S>,
-    file: String,
-    setting: StoreSetting,
+    job: FileJob,
 ) -> Result<OpenJob<'r, S, O>, StartFailure>
-    requires opens { IsOpenedFor task store }
+    requires opens { IsOpenedFor job.task store }
     requires opened { D.opens store.conn }
     requires serves { ServesTables O.held (state S.Store store.conn) }
-    ensures opens { OpensJob S.Store D.opens (job_in_file task file setting) result }
+    ensures opens { OpensJob S.Store D.opens (job_in_file job.task job.file job.setting) result }
     ensures ready { IfOk result (IsReadyJob S.Store O.held) }
 {
+    let FileJob {
+        task,
+        file,
+        setting,
+    } = job;
     let StoreSetting { base, limits } = setting;
     let progress = screen_of(rt, &task);
     let reads_only = only_reads(&task);
@@ -312,17 +323,22 @@ fn open_in_file<'r, S: Alter + Drop, O: HeldTables + Drop, L, D: Databases<Conne
     rt: &'r HostRuntime,
     databases: &D,
     image: D::Image,
-    task: Task,
-    file: String,
-    setting: StoreSetting,
+    job: FileJob,
 ) -> Result<OpenJob<'r, S, O>, StartFailure>
     requires { OpensStores S.Store O.held D.opens }
-    ensures opens { OpensJob S.Store D.opens (job_in_file task file setting) result }
+    ensures opens { OpensJob S.Store D.opens (job_in_file job.task job.file job.setting) result }
     ensures ready { IfOk result (IsReadyJob S.Store O.held) }
 {
-    match open_store(rt, databases, image, &task, file.as_str()) {
-        Ok(store) => open_over(rt, databases, task, store, file, setting),
-        Err((trouble, fault)) => Err(StartFailure::InStore(file, trouble, fault)),
+    match open_store(rt, databases, image, &job.task, job.file.as_str()) {
+        Ok(store) => open_over(rt, databases, store, job),
+        Err((trouble, fault)) => {
+            let FileJob {
+                task: _,
+                file,
+                setting: _,
+            } = job;
+            Err(StartFailure::InStore(file, trouble, fault))
+        }
     }
 }
 
@@ -369,7 +385,14 @@ pub fn open_job<'r, S: Alter + Drop, O: HeldTables + Drop, L, D: Databases<Conne
                 setting,
             },
         ) => match file {
-            Some(file) => open_in_file(rt, databases, image, task, file, setting),
+            Some(file) => {
+                let job = FileJob {
+                    task,
+                    file,
+                    setting,
+                };
+                open_in_file(rt, databases, image, job)
+            }
             None => open_in_memory::<S, O, L, D>(rt, task, setting),
         },
         Err(early_exit) => Err(StartFailure::EarlyExit(early_exit)),

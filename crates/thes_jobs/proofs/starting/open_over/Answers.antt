@@ -28,7 +28,7 @@ returns-in-Some-clause-opens g c = record {
 
 pub returns-clause-opens : goal.returns-clause-opens
 returns-clause-opens g c = (
-  migrates _ _ c.args.task (is_some c.screen_of-progress.result) (rw c.in-None.is at c.in-Ok.ensures),
+  migrates _ _ c.args.job.task (is_some c.screen_of-progress.result) (rw c.in-None.is at c.in-Ok.ensures),
   refl,
   record {
     database = c.args.store;
