@@ -15,7 +15,7 @@ impl<K: Keeper> Office<K> {
     /// earlier request made. If each is accepted or repeats a known key, all changes are committed
     /// in one transaction; else the outcome is the first refusal, and nothing is changed. On a
     /// fault the tables are unchanged. It may be called with any list; a reference to nothing
-    /// leaves the number for which it stands.
+    /// leaves the number in whose place it is.
     pub fn run_plan(&mut self, plan: Vec<PlanRequest>) -> Result<PlanOutcome, Fault>
         ensures fault_behaviour { FaultBehaviour K.view self.old self.new result }
         ensures performed { RunPlanResult K.view self.old plan.items result self.new }

@@ -5,7 +5,7 @@ use thes_base::request::{Answer, Command};
 /// The greatest number of requests in a plan.
 pub const REQUEST_LIMIT: usize = 128;
 
-/// A request of a plan: a command, some of whose numbers stand for what earlier requests of the
+/// A request of a plan: a command, some of whose numbers refer to what earlier requests of the
 /// plan make.
 #[derive(Debug, Drop)]
 pub struct PlanRequest {

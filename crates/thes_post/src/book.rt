@@ -171,7 +171,7 @@ impl Book {
     }
 
     /// Takes back the count of `count` postings of the source that moved to the target, with one move
-    /// each; changes nothing if there can't be so many.
+    /// each; changes nothing if there are fewer.
     pub fn take_back_moves(
         &mut self,
         source: ResNo,

@@ -1,4 +1,4 @@
-//! Whether a database shows that changes were made, and which of several changes tells it, as all are
+//! Whether a database shows that changes were made, and which of several changes shows it, as all are
 //! made or none is.
 ghost use Rattle.thes_sql.specs.Reads.{LeavesTables};
 

@@ -27,7 +27,7 @@ MOST_CHANGED = 1000
 FORM = "back"
 # What the address of the journal may ask for.
 ASKED = ("concept", "by", "kind", "since", "until")
-# What stands for other programs among the users. (No user's name is so.)
+# The name of other programs among the users. (No user has it.)
 OTHERS = " "
 # The kinds of changes that one may ask for, with their requests.
 KINDS = {
