@@ -9,7 +9,7 @@ use thes_base::fault::PipeFault;
 use thes_base::pipe::Pipe;
 use thes_display::writing::{DisplayOutcome, write_display};
 use thes_export::writing::export;
-use thes_http::serve::{ConnectionEnd, serve_one};
+use thes_http::connection::{ConnectionEnd, serve_one};
 use thes_http::service::Service;
 use thes_http_request::endpoint::Routes;
 use thes_import::import;

@@ -84,8 +84,8 @@ module _ {S : Type 0} (g : Ghosts S) where
   module _ {F R W E : Type 0} (given : F → Option (List ℕ)) (remaining : R → Option (List ℕ))
       (out : W → Option (List ℕ)) (err : E → Option (List ℕ))
       (held : Schema → Tables → Type 0) where
-    -- If an office was opened, a run of the machine leads from the tables of the files to those of the storage; else they
-    -- are the same.
+    -- If an office was opened, a run of the machine leads from the tables of the files to those of the storage; else
+    -- they are the same.
     tables_lead : {O P L : Type 0} (job : DatabaseWork S O P F L) (old new : Streams R W E) (status : ℕ)
         (keeper : ReopeningView S) (schema : Schema) (t after : Tables) → held schema t
         → ServesTables held (state g job.conn) → IsKeeperStillUp g keeper → rows_still g keeper ≡ cells_of_tables after

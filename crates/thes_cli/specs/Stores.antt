@@ -85,8 +85,8 @@ module _ {S : Type 0} (store : Ghosts S) where
         is_clean files → ClosesStore (holds files) (state store conn)))
 
   -- The storage was up to the end of the work, so that all promises of the work hold. The files hold the tables that it
-  -- then had; if an office was opened, a run of the machine leads to these from the tables that the files held before, and
-  -- else they are the same.
+  -- then had; if an office was opened, a run of the machine leads to these from the tables that the files held before,
+  -- and else they are the same.
   pub record LeavesInFiles {A B : Type 0} (works : A ⊎ B) (limits : Limits) (t : Tables) (keeper : ReopeningView S)
       (holds : Tables → Type 0) : Type 0 where
     pub is_up : IsKeeperStillUp store keeper
@@ -128,8 +128,9 @@ module _ {F R W E : Type 0} (given : F → Option (List ℕ)) (remaining : R →
       pub returns : left.is_reopened ≡ false → ReturnsFirst store held keeper left.conn
       pub certain : left.is_reopened ≡ false → left.is_in_doubt ≡ false
 
-    -- The work was done on the tables of the database, and the database was closed. If no failure has shut it, the files
-    -- held a store and the closed files are clean, they hold the store after the work, and so after a run of the machine.
+    -- The work was done on the tables of the database, and the database was closed. If no failure has shut it, the
+    -- files held a store and the closed files are clean, they hold the store after the work, and so after a run of the
+    -- machine.
     pub record WorksToClosing {O P L C : Type 0} (held : Schema → Tables → Type 0) (is_clean : C → Type 0)
         (holds : C → Schema → Tables → Type 0) (job : DatabaseWork S O P F L) (old : Streams R W E) (status : ℕ)
         (closed : Closed C) (new : Streams R W E) : Type 0 where

@@ -16,7 +16,7 @@ use thes_command_line::printing::{print, report_fault, report_net_fault};
 use thes_http::connection_count::ConnectionCount;
 use thes_jobs::work::Listening;
 use thes_office::Office;
-use thes_requests::line::ShortLine;
+use thes_requests::short_line::ShortLine;
 use thes_service::plan_mode::{NoPlans, PlanMode, WithPlans};
 use thes_service::{OfficeHandler, office_serve};
 use thes_store::keeper::Keeper;

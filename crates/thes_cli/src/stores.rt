@@ -89,8 +89,8 @@ fn close_left<S: Alter, O, L, D: Databases<Connection<S>, O, L>>(
     }
 }
 
-/// Works over the store in a database, closes the database, and returns the exit status with what is
-/// left of its files. They hold the store after the work, if they held a store before.
+/// Works over the store in a database, closes the database, and returns the exit status with what
+/// is left of its files. They hold the store after the work, if they held a store before.
 pub fn work_and_close<
     N: Net + Clock,
     S: Alter + Drop,

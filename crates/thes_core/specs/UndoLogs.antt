@@ -27,15 +27,15 @@ IsAcceptedOnParts setting s (request.Post key rec concept) = Unit {0}
 IsAcceptedOnParts setting s (request.Withdraw posting) = Unit {0}
 IsAcceptedOnParts setting s command = IsAccepted setting s command
 
--- The parts are those of the state after the request, which the legal state `s` accepts, apart from the postings.
+-- Postings aside, the parts are those of the state after the request, which is accepted in the legal state `s`; the
+-- graph marks exactly the outside concepts.
 pub record ArePartsAfter (command : Command) (s : State) (t : Thesaurus) : Type 0 where
   pub legal : IsLegalState t.vocab.base s
   pub accepts : IsAcceptedOnParts (setting_of t) s command
   pub state : parts_state t [] ≡ without_postings (next_state command s)
   pub outside : MarksOutside t.vocab.resources t.graph
 
--- The parts are those of the legal state `s` after a resource other than an outside concept is created, apart from the
--- postings.
+-- Postings aside, the parts are those of the legal state `s` after a resource other than an outside concept is created.
 pub record ArePartsAfterCreation (tag text : List ℕ) (s : State) (t : Thesaurus) : Type 0 where
   pub legal : IsLegalState t.vocab.base s
   pub resource : Resource

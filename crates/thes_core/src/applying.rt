@@ -107,8 +107,8 @@ impl Thesaurus {
         self.vocab.drop_label(owner, label);
     }
 
-    // Replaces the owner's preferred label in the language, and keeps the old one as an alternative
-    // label if `keep` is true.
+    // Applies a Relabel request: replaces the owner's preferred label in the language, and keeps
+    // the old one as an alternative label if `keep` is true.
     fn relabel(
         &mut self,
         owner: ResNo,

@@ -7,6 +7,7 @@ use thes_base::text::Base;
 
 impl Core {
     /// Returns the base, the prefix of the IRIs of schemes, concepts and collections.
+    /// Answered by the core's vocabulary.
     pub fn base(&self) -> &Base
         requires { self.now.spent ≡ false }
         ensures { result.now ≡ self.now.setting.base }
@@ -15,6 +16,7 @@ impl Core {
     }
 
     /// Returns all resources, live and dead; number `n` is at index `n - 1`.
+    /// Answered by the core's vocabulary.
     pub fn resources(&self) -> &[Resource]
         requires { self.now.spent ≡ false }
         ensures all { result.now ≡ self.now.resources }

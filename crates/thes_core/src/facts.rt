@@ -8,7 +8,8 @@ use std::alloc::Global;
 use thes_base::number::PostNo;
 use thes_tables::rows::PostingRow;
 
-/// The facts on postings that the decision on a request needs, as the storage reports them.
+/// The facts on postings that the decision on a request needs, as the storage reports them. They
+/// are passed in, so that no device can make the core fail (DECISIONS.md, The core).
 #[derive(Debug, Drop)]
 pub struct Facts {
     /// For a Post, the posting with its key, if there is one.

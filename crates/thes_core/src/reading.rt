@@ -65,6 +65,7 @@ impl Core {
     }
 
     /// Returns the numbers of postings accepted, withdrawn, and not withdrawn.
+    /// Answered by the core's counts.
     pub fn totals(&self) -> Totals
         requires { self.now.spent ≡ false }
         ensures { AreTotalsOf self.now.posting_counts result }
@@ -73,6 +74,7 @@ impl Core {
     }
 
     /// Returns the number of postings assigned to a concept, 0 for other numbers.
+    /// Answered by the core's counts.
     pub fn count(&self, concept: ResNo) -> u64
         requires { self.now.spent ≡ false }
         ensures { result ≡ count_of self.now.posting_counts concept }
@@ -81,6 +83,7 @@ impl Core {
     }
 
     /// Returns the resource with this number, live or dead.
+    /// Answered by the core's vocabulary.
     pub fn resource(&self, n: ResNo) -> Option<&Resource>
         requires { self.now.spent ≡ false }
         ensures { option_copied result ≡ entry_at self.now.resources n }
@@ -89,6 +92,7 @@ impl Core {
     }
 
     /// Returns the chain of replacements of a concept in order, without the concept itself.
+    /// Answered by the core's vocabulary.
     pub fn replacements(&self, alloc: Global, concept: ResNo) -> Result<Vec<ResNo>, AllocError>
         requires { self.now.spent ≡ false }
         ensures { IfOk result (λ way. way.items ≡ replacements self.now.resources concept) }
@@ -97,6 +101,7 @@ impl Core {
     }
 
     /// Checks whether the number is that of a live resource.
+    /// Answered by the core's vocabulary.
     pub fn is_live(&self, n: ResNo) -> bool
         requires { self.now.spent ≡ false }
         ensures { IsTrue result ↔ IsLive self.now.resources n }
@@ -105,6 +110,7 @@ impl Core {
     }
 
     /// Returns the owner's preferred label in the language. There is at most one (SKOS S14).
+    /// Answered by the core's vocabulary.
     pub fn preferred(&self, owner: ResNo, tag: &Tag) -> Option<&Text>
         requires { self.now.spent ≡ false }
         ensures { option_copied result ≡ preferred_label_in self.now.labels owner tag.now }
@@ -113,6 +119,7 @@ impl Core {
     }
 
     /// Returns the owner's labels, sorted by kind, language and text.
+    /// Answered by the core's vocabulary.
     pub fn labels_of(&self, owner: ResNo) -> &[Label]
         requires { self.now.spent ≡ false }
         ensures { AreLabelsOf self.now.labels owner result.now }
@@ -121,6 +128,7 @@ impl Core {
     }
 
     /// Returns the live concept of the scheme that has this preferred label. There is at most one.
+    /// Answered by the core's vocabulary.
     pub fn holder(&self, scheme: ResNo, tag: &Tag, text: &Text) -> Option<ResNo>
         requires { self.now.spent ≡ false }
         ensures { let s = self.now in
@@ -131,6 +139,7 @@ impl Core {
     }
 
     /// Returns the number of the outside concept that has the IRI.
+    /// Answered by the core's vocabulary.
     pub fn outside(&self, iri: &Iri) -> Option<ResNo>
         requires { self.now.spent ≡ false }
         ensures { let has_iri = λ (n : ℕ). dict.get self.now.iris n ≡ Some iri.now in
@@ -140,6 +149,7 @@ impl Core {
     }
 
     /// Returns the IRI of an outside concept by its number.
+    /// Answered by the core's vocabulary.
     pub fn outside_iri(&self, n: ResNo) -> Option<&Iri>
         requires { self.now.spent ≡ false }
         ensures { option_copied result ≡ dict.get self.now.iris n }
@@ -149,6 +159,7 @@ impl Core {
 
     /// Checks whether the link is held in its normal form, so that a symmetric link may be stated
     /// from either end.
+    /// Answered by the core's links.
     pub fn has(&self, link: &Link) -> bool
         requires { self.now.spent ≡ false }
         ensures { let s = self.now in
@@ -159,6 +170,7 @@ impl Core {
 
     /// Returns the concepts broader than this one in its scheme, by links of any type, in ascending
     /// order.
+    /// Answered by the core's links.
     pub fn broader_of(&self, alloc: Global, n: ResNo) -> Result<Vec<ResNo>, AllocError>
         requires { self.now.spent ≡ false }
         ensures { let is_broader = HasBroader self.now.links n in
@@ -169,6 +181,7 @@ impl Core {
 
     /// Returns the concepts narrower than this one in its scheme, by links of any type, in
     /// ascending order.
+    /// Answered by the core's links.
     pub fn narrower_of(&self, alloc: Global, n: ResNo) -> Result<Vec<ResNo>, AllocError>
         requires { self.now.spent ≡ false }
         ensures { let is_narrower = λ (a : ℕ). HasBroader self.now.links a n in
@@ -178,6 +191,7 @@ impl Core {
     }
 
     /// Returns the concepts related to this one in its scheme, in ascending order.
+    /// Answered by the core's links.
     pub fn related_of(&self, alloc: Global, n: ResNo) -> Result<Vec<ResNo>, AllocError>
         requires { self.now.spent ≡ false }
         ensures { let has = HasLink self.now.links kinds.Related in
@@ -187,6 +201,7 @@ impl Core {
     }
 
     /// Returns the collections of which the concept is a member, in ascending order.
+    /// Answered by the core's links.
     pub fn collections_of(&self, alloc: Global, n: ResNo) -> Result<Vec<ResNo>, AllocError>
         requires { self.now.spent ≡ false }
         ensures { let has_member = λ (c : ℕ). HasLink self.now.links kinds.Member c n in
@@ -197,6 +212,7 @@ impl Core {
 
     /// Returns the mappings of the concept as seen from it, sorted by the names of their kinds and
     /// then by number.
+    /// Answered by the core's links.
     pub fn mappings(&self, alloc: Global, n: ResNo) -> Result<Vec<(LinkKind, ResNo)>, AllocError>
         requires { self.now.spent ≡ false }
         ensures { let is_mapping = IsMapping self.now.links n in
@@ -207,6 +223,7 @@ impl Core {
 
     /// Returns the typed hierarchical links of the concept as seen from it, sorted by the names of
     /// their types and then by number.
+    /// Answered by the core's links.
     pub fn typed_of(&self, alloc: Global, n: ResNo) -> Result<Vec<(TypedKind, ResNo)>, AllocError>
         requires { self.now.spent ≡ false }
         ensures { let is_typed = IsTypedLink self.now.links n in

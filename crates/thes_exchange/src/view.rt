@@ -119,7 +119,7 @@ trait Element {
     ghost data: { Self → Data };
 
     // Returns the element as JSON.
-    fn value(&self, alloc: Global) -> Result<Value, AllocError>
+    fn to_json(&self, alloc: Global) -> Result<Value, AllocError>
         ensures { IfOk result (λ v. view v ≡ Self.data self.now) };
 }
 
@@ -129,7 +129,7 @@ impl Element for ResNo {
 
     ghost data = { number_data };
 
-    fn value(&self, _: Global) -> Result<Value, AllocError> {
+    fn to_json(&self, _: Global) -> Result<Value, AllocError> {
         Ok(Value::from(self.get()))
     }
 }
@@ -141,7 +141,7 @@ impl Element for &Label {
 
     ghost data = { λ label. tagged_data (tagged_text label.now) };
 
-    fn value(&self, alloc: Global) -> Result<Value, AllocError> {
+    fn to_json(&self, alloc: Global) -> Result<Value, AllocError> {
         json!(in alloc; [self.tag.as_str(), self.text()])
     }
 }
@@ -159,7 +159,7 @@ impl Element for (LinkKind, ResNo) {
 
     ghost data = { mapping_data };
 
-    fn value(&self, alloc: Global) -> Result<Value, AllocError> {
+    fn to_json(&self, alloc: Global) -> Result<Value, AllocError> {
         let (kind, other) = *self;
         keyword_value(alloc, kind.name(), other)
     }
@@ -171,7 +171,7 @@ impl Element for (TypedKind, ResNo) {
 
     ghost data = { typed_data };
 
-    fn value(&self, alloc: Global) -> Result<Value, AllocError> {
+    fn to_json(&self, alloc: Global) -> Result<Value, AllocError> {
         let (kind, other) = *self;
         keyword_value(alloc, kind.name(), other)
     }
@@ -183,7 +183,7 @@ impl Element for Move {
 
     ghost data = { move_data };
 
-    fn value(&self, alloc: Global) -> Result<Value, AllocError> {
+    fn to_json(&self, alloc: Global) -> Result<Value, AllocError> {
         json!(in alloc; [self.number.get(), self.source.get(), self.target.get()])
     }
 }
@@ -206,7 +206,7 @@ impl Element for &History {
 
     ghost data = { λ history. row_data history.now };
 
-    fn value(&self, alloc: Global) -> Result<Value, AllocError> {
+    fn to_json(&self, alloc: Global) -> Result<Value, AllocError> {
         entry_value(alloc, self.number, &self.key, &self.rec)
     }
 }
@@ -226,7 +226,7 @@ fn array_value<T: Element>(alloc: Global, elements: &[T]) -> Result<Value, Alloc
 {
     let mut list = Vec::new(alloc);
     for element in elements {
-        push_value(&mut list, element.value(alloc))?;
+        push_value(&mut list, element.to_json(alloc))?;
     }
     Ok(Value::Array(list))
 }

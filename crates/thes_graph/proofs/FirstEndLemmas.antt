@@ -80,7 +80,7 @@ none_below links = record {
   complete = λ l held below. absurd (omega arith);
 }
 
--- With the links of its row whose first end it is, one more node is listed.
+-- The links listed below `n`, with those of node n's row that begin at n, are the links listed below `n + 1`.
 pub listed_more : (links : Links) (n : ℕ) (old new : List Link) → AreListedBelow links n old
     → AddsFirstEnds n (sided_links_at links n) old new → AreListedBelow links (n + 1) new
 listed_more links n old new below adds = record {

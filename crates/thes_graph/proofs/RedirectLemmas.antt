@@ -17,7 +17,7 @@ ends_equal : (s t a b c d : ℕ) → s ≢ t → (a ≡ s) ⊎ (b ≡ s) → (c 
 ends_equal s t a b c d apart p q two two' sent left right = (grind arith, grind arith)
 
 module _ (f : ℕ → Bool) where
-  -- A link isn't in normal form with its ends in either order, if they may be swapped.
+  -- A link between two nodes whose ends may be swapped isn't in normal form in both orders.
   one_order : (l : Link) → l.a ≢ l.b → is_symmetric (f l.a || f l.b) l.kind ≡ true → normal_form f l ≡ l
       → normal_form f (reversed_link l) ≡ reversed_link l → ⊥
   one_order l two flag this other =

@@ -17,7 +17,7 @@ ghost use Rattle.thes_graph.specs.MergeAdditions.{AreNormal, AreMergeAdditions, 
 
 use crate::first_ends::list_first_ends;
 use crate::mappings::{list_mapping, mapping_from, typed_link_from};
-use crate::neighbours::{NeighbourKind, direction_to, list_in};
+use crate::neighbours::{NeighbourKind, direction_to};
 use crate::sided_links::{SidedLink, count_before, count_until, sided_link_of};
 use crate::whole::check_listed_links;
 use std::alloc::{AllocError, Global};
@@ -31,7 +31,7 @@ use thes_links::links::Links;
 use thes_links::normal_form::normalize_ends;
 use thes_links::relation::lead;
 use thes_links::side::{Part, Side};
-use thes_lists::Lists;
+use thes_lists::{Lists, insert_sorted};
 
 // Reserves room for one more link in the rows of both its ends.
 fn reserve_ends(rows: &mut Lists<SidedLink>, link: &Link) -> Result<(), AllocError>
@@ -43,8 +43,8 @@ fn reserve_ends(rows: &mut Lists<SidedLink>, link: &Link) -> Result<(), AllocErr
     Ok(())
 }
 
-/// A set of links, indexed by their ends, and the resources marked as outside concepts. Each link has two different
-/// ends, and is held in normal form, whichever end it was stated from.
+/// A set of links, indexed by their ends, and the resources marked as outside concepts. Each link
+/// has two different ends, and is held in normal form, whichever end it was stated from.
 #[derive(Drop)]
 pub struct Graph {
     alloc: Global,
@@ -102,7 +102,8 @@ impl Graph {
         self.rows.at(n)
     }
 
-    // Returns the links with an end at the node of this number, sorted by the side of the node on which they lie.
+    // Returns the links with an end at the node of this number, sorted by the side of the node on
+    // which they lie.
     fn row_at(&self, number: usize) -> &[SidedLink]
         ensures { result.now ≡ sided_links_at self.now.links number }
     {
@@ -192,15 +193,16 @@ impl Graph {
         self.marked.contains(&n)
     }
 
-    /// Checks whether the resource is marked as an outside concept, so that mappings to it are held with their ends in
-    /// the order given.
+    /// Checks whether the resource is marked as an outside concept, so that mappings to it are held
+    /// with their ends in the order given.
     pub fn is_outside(&self, n: ResNo) -> bool
         ensures { result ≡ is_marked self.now n }
     {
         self.has_marked(n)
     }
 
-    /// Checks whether the link is held in its normal form, so that a symmetric link may be stated from either end.
+    /// Checks whether the link is held in its normal form, so that a symmetric link may be stated
+    /// from either end.
     pub fn has(&self, link: &Link) -> bool
         ensures { result ≡ contains self.now.links (normal_form (is_marked self.now) link.now) }
     {
@@ -229,13 +231,14 @@ impl Graph {
             let link = sided_link.link;
             let direction = direction_to(neighbours, link.kind);
             if let Some(m) = lead(direction, &link, n) {
-                list_in(&mut found, m)?;
+                insert_sorted(&mut found, m)?;
             }
         }
         Ok(found)
     }
 
-    /// Lists the concepts broader than this one in its scheme, by links of any type, in ascending order.
+    /// Lists the concepts broader than this one in its scheme, by links of any type, in ascending
+    /// order.
     pub fn broader_of(&self, alloc: Global, n: ResNo) -> Result<Vec<ResNo>, AllocError>
         ensures { IfOk result
             (λ found. IsListing nat_cmp (λ b. HasBroader self.now.links n b) found.items) }
@@ -243,7 +246,8 @@ impl Graph {
         self.neighbours(alloc, n, NeighbourKind::Broader)
     }
 
-    /// Lists the concepts narrower than this one in its scheme, by links of any type, in ascending order.
+    /// Lists the concepts narrower than this one in its scheme, by links of any type, in ascending
+    /// order.
     pub fn narrower_of(&self, alloc: Global, n: ResNo) -> Result<Vec<ResNo>, AllocError>
         ensures { IfOk result
             (λ found. IsListing nat_cmp (λ a. HasBroader self.now.links a n) found.items) }
@@ -268,7 +272,8 @@ impl Graph {
         self.neighbours(alloc, n, NeighbourKind::Collections)
     }
 
-    /// Lists the mappings of the concept as seen from it, sorted by the names of their kinds and then by number.
+    /// Lists the mappings of the concept as seen from it, sorted by the names of their kinds and
+    /// then by number.
     pub fn mappings(&self, alloc: Global, n: ResNo) -> Result<Vec<(LinkKind, ResNo)>, AllocError>
         ensures { IfOk result
             (λ found. IsListing mapping_cmp (IsMapping self.now.links n) found.items) }
@@ -282,8 +287,8 @@ impl Graph {
         Ok(found)
     }
 
-    /// Lists the typed hierarchical links of the concept as seen from it, sorted by the names of their types and then
-    /// by number.
+    /// Lists the typed hierarchical links of the concept as seen from it, sorted by the names of
+    /// their types and then by number.
     pub fn typed_of(&self, alloc: Global, n: ResNo) -> Result<Vec<(TypedKind, ResNo)>, AllocError>
         ensures { IfOk result
             (λ found. IsListing typed_cmp (IsTypedLink self.now.links n) found.items) }
@@ -291,7 +296,7 @@ impl Graph {
         let mut found = Vec::new(alloc);
         for sided_link in self.row_of_node(n) {
             if let Some(typed) = typed_link_from(&sided_link.link, n) {
-                list_in(&mut found, typed)?;
+                insert_sorted(&mut found, typed)?;
             }
         }
         Ok(found)
@@ -342,8 +347,8 @@ impl Graph {
         }
     }
 
-    // Returns the link in normal form as a merge adds it, or None if both its ends are then the target or it is held
-    // already.
+    // Returns the link in normal form as a merge adds it, or None if both its ends are then the
+    // target or it is held already.
     fn merge_addition(&self, link: &Link, source: ResNo, target: ResNo) -> Option<Link>
         ensures { result ≡ added_link self.now source target link.now }
     {
@@ -351,8 +356,8 @@ impl Graph {
         if self.holds(&new) { None } else { Some(new) }
     }
 
-    /// Returns the links that a merge adds in place of those at the source: those held after it, in normal form, and not
-    /// before.
+    /// Returns the links that a merge adds in place of those at the source: those held after it, in
+    /// normal form, and not before.
     pub fn merge_additions(&self, source: ResNo, target: ResNo) -> Result<Vec<Link>, AllocError>
         requires { source ≢ target }
         ensures merge_additions { IfOk result
@@ -369,8 +374,8 @@ impl Graph {
         Ok(merge_additions)
     }
 
-    // Adds these links, none of which is held yet; adds none if memory runs out.
-    fn add_all(&mut self, links: &[Link]) -> Result<(), AllocError>
+    /// Adds these links, none of which is held yet; adds none if memory runs out.
+    pub fn add_all(&mut self, links: &[Link]) -> Result<(), AllocError>
         requires { AreNew self.old links.now }
         ensures ok { OnOk result
             (self.new ≡ record self.old { links = with_all self.old.links links.now }) }
@@ -378,6 +383,7 @@ impl Graph {
     {
         for (i, link) in links.iter().enumerate() {
             if let Err(error) = self.add(link) {
+                // No link may be left, since each is held (DECISIONS.md, Links).
                 self.detach_all(&links[..i]);
                 return Err(error);
             }
@@ -385,8 +391,8 @@ impl Graph {
         Ok(())
     }
 
-    // Removes these links; it can't fail.
-    fn detach_all(&mut self, links: &[Link])
+    /// Removes these links, which are in normal form; it can't fail.
+    pub fn detach_all(&mut self, links: &[Link])
         ensures { self.new ≡ record self.old { links = without_links self.old.links links.now } }
     {
         for link in links {
@@ -415,7 +421,8 @@ impl Graph {
         }
     }
 
-    /// Replaces the source with the target in each link, and drops links whose two ends are then the target.
+    /// Replaces the source with the target in each link, and drops links whose two ends are then
+    /// the target.
     pub fn contract(&mut self, source: ResNo, target: ResNo) -> Result<(), AllocError>
         requires { source ≢ target }
         ensures ok { OnOk result (self.new ≡ record self.old {
@@ -431,8 +438,8 @@ impl Graph {
         Ok(())
     }
 
-    /// Marks a resource without links as an outside concept, so that mappings to it are held with their ends in the
-    /// order given.
+    /// Marks a resource without links as an outside concept, so that mappings to it are held with
+    /// their ends in the order given.
     pub fn mark_outside(&mut self, n: ResNo) -> Result<(), AllocError>
         requires { (l : Link) → Holds self.old.links l → HasEnd n l → ⊥ }
         ensures ok { OnOk result
@@ -441,6 +448,14 @@ impl Graph {
     {
         self.marked.insert(n)?;
         Ok(())
+    }
+
+    /// Removes the mark of a resource without links as an outside concept; it can't fail.
+    pub fn unmark_outside(&mut self, n: ResNo)
+        requires { (l : Link) → Holds self.old.links l → HasEnd n l → ⊥ }
+        ensures { self.new ≡ record self.old { outside = remove self.old.outside n } }
+    {
+        self.marked.remove(&n);
     }
 
     /// Returns a reader of the links, with its count of visits at 0.

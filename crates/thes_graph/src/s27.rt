@@ -1,6 +1,6 @@
 //! The check of S27 in all links: whether one of two related concepts is above the other. The check
 //! splits the related concepts into blocks: one pass down the hierarchy serves all concepts of a
-//! block.
+//! block, as bits of a word (DECISIONS.md, Links).
 ghost use Rattle.std.specs.Prelude.{◌≡◌, ◌<◌, ◌≤◌, ◌++◌, ℕ, Contains, OnOk, IfOk, MatchBool, length};
 ghost use Rattle.thes_base.specs.declared.data.Link.{Link};
 ghost use Rattle.thes_base.specs.Links.{Holds, S27};

@@ -43,7 +43,7 @@ fn is_before(sided_link: &SidedLink, number: u8) -> bool
 }
 
 // Checks whether the link lies on a side whose rank is at most `number`.
-fn is_until(sided_link: &SidedLink, number: u8) -> bool
+fn is_at_most(sided_link: &SidedLink, number: u8) -> bool
     ensures { result ≡ leb (side_no sided_link.now.side) number }
 {
     sided_link.side.number() <= number
@@ -70,8 +70,8 @@ pub fn count_until(row: &[SidedLink], number: u8) -> usize
     ensures place { IsPartitionIndex (λ s. leb (side_no s.side) number) row.now result }
 {
     match row.last() {
-        Some(last) if !is_until(last, number) => {
-            row.partition_point(|sided_link| is_until(sided_link, number))
+        Some(last) if !is_at_most(last, number) => {
+            row.partition_point(|sided_link| is_at_most(sided_link, number))
         }
         _ => row.len(),
     }

@@ -3,8 +3,8 @@ use Rattle.std.proofs.Common.{◌≡◌, Option, subst, refl, sym, ℕ, ◌+◌,
 use Rattle.thes_requests.specs.Script.{Session}
 use Rattle.thes_http.specs.Connection.{EndsAs}
 use Rattle.thes_http.specs.declared.response.Response.{Response}
-use Rattle.thes_http.specs.declared.serve.ConnectionEnd.{ConnectionEnd}
-use Rattle.thes_http.specs.declared.serve.ConnectionEnd.TheVariants.{Answered, Cut, ReadFault, WriteFault}
+use Rattle.thes_http.specs.declared.connection.ConnectionEnd.{ConnectionEnd}
+use Rattle.thes_http.specs.declared.connection.ConnectionEnd.TheVariants.{Answered, Cut, ReadFault, WriteFault}
 use Rattle.thes_http.specs.Server.{Exchange, AreAnswered, LeadsBy}
 use Rattle.thes_http.specs.ServiceBehaviour.{ServiceBehaviour}
 use Rattle.thes_http.specs.Serving.{Answers}

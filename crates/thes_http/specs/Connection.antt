@@ -9,8 +9,8 @@ use Rattle.thes_http_request.specs.declared.inbox.InputFault.{InputFault}
 use Rattle.thes_http_request.specs.declared.inbox.InputFault.TheVariants as input_fault
 use Rattle.thes_http.specs.declared.response.Status.{Status}
 use Rattle.thes_http.specs.declared.response.Response.{Response}
-use Rattle.thes_http.specs.declared.serve.ConnectionEnd.{ConnectionEnd}
-use Rattle.thes_http.specs.declared.serve.ConnectionEnd.TheVariants.{Answered, Cut, ReadFault, WriteFault}
+use Rattle.thes_http.specs.declared.connection.ConnectionEnd.{ConnectionEnd}
+use Rattle.thes_http.specs.declared.connection.ConnectionEnd.TheVariants.{Answered, Cut, ReadFault, WriteFault}
 use Rattle.thes_http.specs.Responses.{WritesPrefix, WritesResponse}
 use Rattle.thes_http.specs.ServiceBehaviour.{ServiceBehaviour}
 use Rattle.thes_http.specs.Serving.{Answers, IsCutRequest}

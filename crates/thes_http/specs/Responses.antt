@@ -135,9 +135,9 @@ pub record ResponseWriteOutcome {W : Type 0} (contents : W → Option (List ℕ)
   pub part : OnErr result (WritesPrefix contents r old new)
   pub frame : WriteFrame old new before after result
 
--- A response whose body is a line of JSON.
+-- The response with this status and this reply as its body, a line of JSON.
 abbrev pub reply_response : Status → Reply → Response
-reply_response s answer = record { status = s; media = media.Json; body = body.Reply answer }
+reply_response s reply = record { status = s; media = media.Json; body = body.Reply reply }
 
 -- A response with a page of this media type: 200.
 abbrev pub page_response : MediaType → List ℕ → Response

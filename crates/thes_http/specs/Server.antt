@@ -10,10 +10,10 @@ use Rattle.thes_requests.specs.Script.{session}
 use Rattle.thes_http.specs.Connection.{EndsAs}
 use Rattle.thes_http.specs.declared.deadline.TimedStream.{TimedStream}
 use Rattle.thes_http.specs.declared.response.Response.{Response}
-use Rattle.thes_http.specs.declared.serve.ConnectionEnd.{ConnectionEnd}
-use Rattle.thes_http.specs.declared.serve.ConnectionEnd.TheVariants.{Answered}
-use Rattle.thes_http.specs.declared.stream.Ends.{Ends}
-use Rattle.thes_http.specs.declared.stream.ServedStream.{ServedStream}
+use Rattle.thes_http.specs.declared.connection.ConnectionEnd.{ConnectionEnd}
+use Rattle.thes_http.specs.declared.connection.ConnectionEnd.TheVariants.{Answered}
+use Rattle.thes_http.specs.declared.timed_connection.Ends.{Ends}
+use Rattle.thes_http.specs.declared.timed_connection.ServedStream.{ServedStream}
 use Rattle.thes_http.specs.ServiceBehaviour.{ServiceBehaviour}
 use Rattle.thes_http.specs.Serving.{Answers}
 

@@ -2,7 +2,7 @@
 ghost use Rattle.std.specs.Prelude.{◌≡◌, ◌≢◌, ◌+◌, ◌<◌, ◌⊎◌, IfOk, MatchOption};
 ghost use Rattle.thes_http.specs.Server.{IsAcceptOutcome, cloned_ends};
 
-use crate::stream::{Ends, ServedStream, close_stream};
+use crate::timed_connection::{Ends, ServedStream, close_stream};
 use std::io;
 use std::io::{ErrorKind, Read};
 use std::marker::Model;

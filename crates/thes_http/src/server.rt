@@ -4,7 +4,7 @@ ghost use Rattle.thes_http.specs.Server.{LeadsBy};
 
 use crate::connection_count::ConnectionCount;
 use crate::service::Service;
-use crate::stream::serve_ends;
+use crate::timed_connection::serve_ends;
 use std::alloc::Global;
 use std::io;
 use std::io::ErrorKind;

@@ -40,8 +40,9 @@ impl From<InputFault> for BodyStop {
 }
 
 // Reserves capacity if none is left: for as many more bytes as the body has, plus 4,096, but at
-// most for `count` bytes in all.
-fn make_room(body: &mut Vec<u8>, count: usize) -> Result<(), AllocError>
+// most for `count` bytes in all. Not for all at once, as a client may announce what it never sends
+// (DECISIONS.md, Memory).
+fn reserve_body(body: &mut Vec<u8>, count: usize) -> Result<(), AllocError>
     requires short { vec_len body.old < count }
     requires room { HasBoundedCapacity count (vec_len body.old) (vec_capacity body.old) }
     ensures { GainsRoom count body.old body.new result }
@@ -110,7 +111,7 @@ pub fn read_body<R: Read>(
     add(body, &start[..here]);
     let mut chunk = [0u8; 4096];
     while body.len() < count {
-        make_room(body, count)?;
+        reserve_body(body, count)?;
         let room = (body.capacity() - body.len()).min(4096);
         if !read_more(reader, budget, &mut chunk[..room], body)? {
             return Err(BodyStop::InputFault(InputFault::Cut));

@@ -1,4 +1,4 @@
-//! HTTP requests as bytes: where their heads end, which endpoint they name, and their bodies.
+//! Reads HTTP requests from bytes: where their heads end, which endpoint they name, their bodies.
 #![tactic(auto)]
 
 pub mod body;

@@ -24,7 +24,8 @@ KeepsTables old new = IsUp new → (schema : Schema) (t : Tables)
     → (IsUp old → (old.now ≡ old.committed) × KeepsIn schema old.now t)
     → (new.now ≡ new.committed) × KeepsIn schema new.now t
 
--- A database was closed that was up. If it was a store with a schema and some tables, and nothing in it was uncommitted,
+-- A database was closed that was up. If it was a store with a schema and some tables, and nothing in it was
+-- uncommitted,
 -- `holds` is true of these.
 pub record ClosesStore (holds : Schema → Tables → Type 0) (s : State) : Type 0 where
   pub was_up : IsUp s

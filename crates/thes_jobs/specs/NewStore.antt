@@ -22,7 +22,8 @@ use Rattle.thes_command_line.specs.declared.trouble.StoreTrouble.TheVariants.{Un
 use Rattle.thes_jobs.specs.Trouble.{trouble_of}
 
 module _ {S : Type 0} (store : Ghosts S) where
-  -- The tables couldn't be made: the fault and its reason are those of an error, and a database that is up is unchanged.
+  -- The tables couldn't be made: the fault and its reason are those of an error, and a database that is up is
+  -- unchanged.
   pub record IsUnmade (old : Held S) (trouble : StoreTrouble) (fault : Fault) (new : Held S) : Type 0 where
     pub error : Error
     pub trouble_is : trouble ≡ trouble_of (error_cause error) Unwritable

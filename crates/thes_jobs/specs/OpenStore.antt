@@ -27,8 +27,8 @@ pub record IsUnopenedDatabase (reported : StoreTrouble × Fault) : Type 0 where
   pub trouble : reported.0 ≡ trouble_of cause Unwritable
   pub fault : reported.1 ≡ fault_of_cause cause
 
--- The trouble and the fault of a store whose database wasn't opened for a task: memory for the name of its mark ran out,
--- no way to open it was chosen, or the database couldn't be opened in the chosen way.
+-- The trouble and the fault of a store whose database wasn't opened for a task: memory for the name of its mark ran
+-- out, no way to open it was chosen, or the database couldn't be opened in the chosen way.
 pub data IsUnopenedStore (task : Task) (reported : StoreTrouble × Fault) : Type 0 where
   no_memory : reported ≡ (Unreadable, OutOfMemory) → IsUnopenedStore task reported
   unchosen : (found : FileState) → ChoosesOpening task found (Err reported) → IsUnopenedStore task reported

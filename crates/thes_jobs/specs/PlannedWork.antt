@@ -31,8 +31,8 @@ planned_work (tasks.Import file) = planned.Import file
 planned_work (tasks.Serve options) = planned.Serve options
 planned_work tasks.Migrate = planned.Migrate
 
--- The work of importing a posting file, or that the file couldn't be opened; the Boolean says whether to print the counts
--- of its rows.
+-- The work of importing a posting file, or that the file couldn't be opened; the Boolean says whether to print the
+-- counts of its rows.
 abbrev pub import_work : {F L : Type 0} → Result F Error → Bool → Result (Work F L) OpenFailure
 import_work (Ok file) prints_it = Ok (Output (output.Import file prints_it))
 import_work (Err error) prints_it = Err File

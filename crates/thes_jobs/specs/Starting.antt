@@ -49,8 +49,8 @@ abbrev pub job_in_memory : Task → StoreSetting → Job
 job_in_memory task setting = record { task = task; file = None; setting = setting }
 
 module _ {S : Type 0} (store : Ghosts S) (opens : Held S → Type 0) where
-  -- The connection is that of a database that was opened for the task, and in which nothing was done but that the tables
-  -- of a new store were made, with this base, if it was to have them.
+  -- The connection is that of a database that was opened for the task, and in which nothing was done but that the
+  -- tables of a new store were made, with this base, if it was to have them.
   pub record IsPreparedFor (task : Task) (base : List ℕ) (conn : Held S) : Type 0 where
     pub database : StoreDatabase S
     pub opens_it : IsOpenedFor task database
@@ -81,8 +81,8 @@ module _ {S : Type 0} (store : Ghosts S) (opens : Held S → Type 0) where
       (job.task ≡ Migrate) × (job.file ≡ Some file) × IsPreparedFor job.task job.setting.base conn
   IsOpenJob job Version = (job.task ≡ Migrate) × (job.file ≡ None)
 
-  -- The trouble and the fault of a store that couldn't be opened, or not prepared, for a task, or whose file's full path
-  -- wasn't found.
+  -- The trouble and the fault of a store that couldn't be opened, or not prepared, for a task, or whose file's full
+  -- path wasn't found.
   pub data IsUnpreparedStore (task : Task) (base : List ℕ) (reported : StoreTrouble × Fault) : Type 0 where
     unopened : IsUnopenedStore task reported → IsUnpreparedStore task base reported
     unprepared : (database : StoreDatabase S) → IsOpenedFor task database → opens database.conn → (back : Held S)

@@ -33,8 +33,8 @@ pub trait Databases<C, O, L> {
     // crash leaves of them.
     ghost holds: { L → Schema → Tables → Type 0 };
 
-    /// Opens the database in a file; if there is no such file, makes it. The image of what the files
-    /// held is consumed, so that one opening alone is of them.
+    /// Opens the database in a file; if there is no such file, makes it. The image of what the
+    /// files held is consumed, so that one opening alone is of them.
     fn open(&self, image: Self::Image, file: &str) -> Result<C, Cause>
         ensures { IfOk result Self.opens };
 

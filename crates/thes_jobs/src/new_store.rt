@@ -23,7 +23,8 @@ pub fn is_blank<S: Alter>(conn: &Connection<S>) -> bool
 }
 
 /// Makes the tables of a new store with this base in a database without tables, atomically. An
-/// error is the fault with its reason.
+/// error is the fault with its reason. A mark beside the file says that they are being made, as the
+/// file can't be renamed together with its log (DECISIONS.md, The tables).
 pub fn make_store<S: Alter>(
     conn: &mut Connection<S>,
     base: &Base,

@@ -54,8 +54,8 @@ pub fn open_database_files<S: Start>(
     without_rest(open_files(rt, file, image))
 }
 
-/// Closes a database and returns its files; None after an error. The log holds every change that was
-/// answered; if it can't be copied into the file now, the next run copies it.
+/// Closes a database and returns its files; None after an error. The log holds every change that
+/// was answered; if it can't be copied into the file now, the next run copies it.
 pub fn close_database_files<D: Disk + Drop>(conn: Connection<FileStore<D>>) -> Option<Files<D>>
     ensures { ClosesFrom D.Disk conn result }
 {

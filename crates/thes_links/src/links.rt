@@ -31,7 +31,8 @@ pub trait Links {
         ensures link { result ≡ slice_get (links_of (net self.old) node) i }
         ensures count { count self.new ≡ count_after_read (count self.old) result };
 
-    /// Returns the range of the node's links that lie on this side, without counting a visit.
+    /// Returns the range of the node's links that lie on this side, without counting a visit:
+    /// counted, these could double a search's (DECISIONS.md, Links).
     fn part(&self, node: ResNo, side: Side) -> Part
         ensures row { IsTwoEndedRow (net self.now).links node (links_of (net self.now) node) }
         ensures part { IsPart (links_of (net self.now) node) node side result };

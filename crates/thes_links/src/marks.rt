@@ -27,7 +27,7 @@ pub fn has_shared_bit(word: u64, n: ResNo) -> bool
     (word >> (n.get() % 64)) & 1 == 1
 }
 
-/// Returns the word with the number's bit set, too.
+/// Returns the word with the number's bit also set.
 #[inline(always)]
 pub fn with_shared_bit(word: u64, n: ResNo) -> u64
     ensures new { HasSharedBit result n }

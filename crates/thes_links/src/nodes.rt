@@ -8,7 +8,7 @@ use std::marker::Model;
 use thes_base::number::ResNo;
 
 /// The distinct nodes that a search has met, in the order in which it met them. A long list also
-/// has marks for fast look-up.
+/// has marks for fast look-up, made anew for each search (DECISIONS.md, Links).
 #[derive(Drop)]
 pub struct Nodes {
     list: Vec<ResNo>,

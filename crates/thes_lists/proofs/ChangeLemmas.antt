@@ -25,7 +25,7 @@ module _ {A : Type 0} (old new : Lists A) (n : ℕ) (v : Vec A Global) (written 
   rooms_elsewhere : (m : ℕ) → m ≢ n → HasSpare old m → HasSpare new m
   rooms_elsewhere m apart room = subst (λ o. IsSomeAnd o IsRoomy) (sym (elsewhere m apart)) room
 
-  -- Writing a list with the values that it had leaves the values under all numbers unchanged.
+  -- Writing a list with the same values leaves the values under all numbers unchanged.
   same_written : v.items ≡ listed_at old n → HaveSameValues old new
   same_written same m = elim (cases_eq m n) [
     | inl here ↦ ap (listed_at new) here ∙ changes_written.here ∙ same ∙ ap (listed_at old) (sym here)
@@ -40,7 +40,7 @@ module _ {A : Type 0} (old new : Lists A) (n : ℕ) (v : Vec A Global) (written 
     | inr apart ↦ rooms_elsewhere m apart room
   ]
 
-  -- Assumes that number n had the list `before`, which the written list replaces.
+  -- Assumes that the written list replaces the list `before` at number n.
   module _ (before : Vec A Global) (was : Some before ≡ slice_get old.lists.items n) where
     same_grown : v.items ≡ before.items → HaveSameValues old new
     same_grown same = same_written (same ∙ ap (λ o. option_map_or (λ (w : Vec A Global). w.items) o []) was)

@@ -12,7 +12,7 @@ use thes_base::number::ResNo;
 
 /// A sorted list of values for each number of a resource. Room for a value is reserved before its
 /// insertion, which then can't fail. Lists are indexed by number, so memory grows with the greatest
-/// number that has a list.
+/// number that has a list; numbers have no gaps (DECISIONS.md, Indexes).
 #[derive(Drop)]
 pub struct Lists<T> {
     alloc: Global,

@@ -22,7 +22,7 @@ use Rattle.thes_base.proofs.LegalResourceLemmas.{path_map}
 use Rattle.thes_base.proofs.ForwardingLemmas.{next_is, is_next}
 use Rattle.thes_load_rules.specs.Rules.{ResourceRule}
 use Rattle.thes_load_rows.specs.ResourceChecks.{SchemeFits, ReplacementFits, ResourceFits, EachResourceFits}
-use Rattle.thes_load_rows.specs.ResourceChecks.{NoneReplacesItself, HasReturn, HasReplacements, is_cycle}
+use Rattle.thes_load_rows.specs.ResourceChecks.{NoneReplacesItself, HasReplacementCycle, HasReplacements, is_cycle}
 
 -- The check of each resource accepts exactly legal resources.
 module _ (rs : List Resource) where
@@ -110,11 +110,11 @@ module _ (rs : List Resource) where
   cycle_of Held first is f = grind (arith, common_steps)
 
   pub return_found : (links : Links) (first : Option Refusal) → HasReplacements rs (length rs) links
-      → IsFirstBroken (Holds links) first → is_cycle first ≡ true → HasReturn rs true
+      → IsFirstBroken (Holds links) first → is_cycle first ≡ true → HasReplacementCycle rs true
   return_found links first has broken is = grind (arith, common_steps, broader_replaced, cycle_of, path_map)
 
   pub return_none : (links : Links) (first : Option Refusal) → HasReplacements rs (length rs) links
-      → IsFirstBroken (Holds links) first → is_cycle first ≡ false → HasReturn rs false
+      → IsFirstBroken (Holds links) first → is_cycle first ≡ false → HasReplacementCycle rs false
   return_none links first has broken differ n chain =
       (no_cycle_of (Holds links) first differ broken).none n (
         chain.0,
@@ -122,5 +122,5 @@ module _ (rs : List Resource) where
             chain.1,
       )
 
-  pub legal_all : length rs < 2 ^ 32 → EachResourceFits rs → HasReturn rs false → ResourceRule rs
+  pub legal_all : length rs < 2 ^ 32 → EachResourceFits rs → HasReplacementCycle rs false → ResourceRule rs
   legal_all few each none = record { few = few; each = each_legal each; no_return = none }

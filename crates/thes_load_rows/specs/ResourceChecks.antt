@@ -13,7 +13,7 @@ use Rattle.thes_base.specs.Links.{Links, Holds, Chain}
 use Rattle.thes_load_rows.specs.declared.rows.ResourceRow.{ResourceRow}
 
 -- The result of appending a row: true if it has the next number and its resource was appended, false if it has another
--- number.
+-- number (then nothing is said of the list).
 abbrev pub AppendResourceResult : List Resource → List Resource → ResourceRow → Bool → Type 0
 AppendResourceResult old new row true = (row.number ≡ length old + 1) × (new ≡ old ++ row.resource ∷ [])
 AppendResourceResult old new row false = row.number ≢ length old + 1
@@ -53,9 +53,9 @@ abbrev pub NoneReplacesItself : List Resource → Type 0
 NoneReplacesItself resources = (n m : ℕ) → replacement_of resources n ≡ Some m → n ≢ m
 
 -- The flag states whether replacements form a cycle.
-abbrev pub HasReturn : List Resource → Bool → Type 0
-HasReturn resources true = (n : ℕ) × Chain (IsReplacedBy resources) n n
-HasReturn resources false = (n : ℕ) → Chain (IsReplacedBy resources) n n → ⊥
+abbrev pub HasReplacementCycle : List Resource → Bool → Type 0
+HasReplacementCycle resources true = (n : ℕ) × Chain (IsReplacedBy resources) n n
+HasReplacementCycle resources false = (n : ℕ) → Chain (IsReplacedBy resources) n n → ⊥
 
 -- The links are broader links from resources to their replacements, with all those from the first `most` resources.
 pub record HasReplacements (resources : List Resource) (most : ℕ) (links : Links) : Type 0 where

@@ -5,9 +5,9 @@ ghost use Rattle.thes_base.specs.Resources.{IsScheme, scheme_of, replacement_of}
 ghost use Rattle.thes_load_rules.specs.Rules.{ResourceRule};
 ghost use Rattle.thes_tables.specs.Cells.{resource_rows};
 ghost use Rattle.thes_load_rows.specs.ReadResults.{ReadResult};
-ghost use Rattle.thes_load_rows.specs.ResourceChecks.{AppendResourceResult, SchemeFits, ReplacementFits, ResourceFits, EachResourceFits, NoneReplacesItself, HasReturn, is_cycle};
+ghost use Rattle.thes_load_rows.specs.ResourceChecks.{AppendResourceResult, SchemeFits, ReplacementFits, ResourceFits, EachResourceFits, NoneReplacesItself, HasReplacementCycle, is_cycle};
 
-use crate::ends::{is_concept, resource_at};
+use crate::ends::is_concept;
 use crate::rows::{ResourceRow, resource_in};
 use std::alloc::{AllocError, Global};
 use thes_base::data::{Link, LinkKind, Resource, ResourceKind};
@@ -15,6 +15,7 @@ use thes_base::fault::Refusal;
 use thes_base::number::ResNo;
 use thes_graph::graph::Graph;
 use thes_tables::cells::Cell;
+use thes_vocab::resource_at;
 
 /// The resources of the rows of table resource read so far.
 #[derive(Drop)]
@@ -76,7 +77,7 @@ fn are_legal(alloc: Global, resources: &[Resource]) -> Result<bool, AllocError>
     ensures { IfOk result (λ good. IsTrue good ↔ ResourceRule resources.now) }
 {
     if each_fits(resources) {
-        if returns(alloc, resources)? {
+        if has_replacement_cycle(alloc, resources)? {
             Ok(false)
         } else {
             Ok(true)
@@ -159,10 +160,10 @@ fn replacement_fits(resources: &[Resource], n: ResNo, r: &Resource) -> bool
 }
 
 // Checks whether replacements form a cycle: checks a graph in which each of them is a broader link.
-fn returns(alloc: Global, resources: &[Resource]) -> Result<bool, AllocError>
+fn has_replacement_cycle(alloc: Global, resources: &[Resource]) -> Result<bool, AllocError>
     requires few { length resources.now < 2 ^ 32 }
     requires apart { NoneReplacesItself resources.now }
-    ensures { IfOk result (HasReturn resources.now) }
+    ensures { IfOk result (HasReplacementCycle resources.now) }
 {
     let mut graph = Graph::new(alloc);
     for i in 0..resources.len() {

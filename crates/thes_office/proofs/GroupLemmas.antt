@@ -78,7 +78,7 @@ unmarked_is_new marks earlier key rec concept marked none = record {
   fresh = λ k d l p. none (marked.each k d l key p);
 }
 
--- Requests stay marked when one more key is marked, and the next is marked, too.
+-- Requests stay marked when another key is marked, and so is the next one.
 pub marked_more : (old new : List Bool) (earlier : List Command) (key rec : List ℕ) (concept : ℕ)
     → AreKeysMarked old earlier → ((other : List ℕ) → IsMarked old other → IsMarked new other) → IsMarked new key
     → AreKeysMarked new (earlier ++ request.Post key rec concept ∷ [])
@@ -100,7 +100,7 @@ group_push xs c group new i command at = elim (push_cases xs c command (suc i) a
       subst (λ (ys : List Command). IsNewPost ys command) (sym front) (subst (IsNewPost xs) (sym last.1) new)
 ]
 
--- A front that is a group, and the next request, which is a new post, are a group.
+-- A prefix that is a group, and the next request, which is a new post, are a group.
 pub group_grows : (commands : List Command) (n : ℕ) (command : Command) → slice_get commands n ≡ Some command
     → IsGroup (take n commands) → IsNewPost (take n commands) command → IsGroup (take (n + 1) commands)
 group_grows commands n command at group new =

@@ -45,7 +45,7 @@ use Rattle.thes_office.proofs.OfficeViewLemmas.{all_parts, run_push}
 use Rattle.thes_office.proofs.PlanFactLemmas.{rows_numbered}
 use Rattle.thes_office.proofs.StateTableLemmas.{same_tables_same_state, state_after_changes}
 
--- What is behind the front of a list.
+-- What follows a prefix of a list.
 pub drop_front : {A : Type 0} (xs ys zs : List A) (n : ℕ) → zs ≡ xs ++ ys → n ≡ length xs → drop n zs ≡ ys
 drop_front {A} xs ys zs n is count = ap (λ (l : List A). drop n l) is ∙ ap (λ k. drop k (xs ++ ys)) count ∙ go xs
   where

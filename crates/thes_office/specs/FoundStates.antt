@@ -10,7 +10,7 @@ use Rattle.thes_load_rules.specs.Verdicts.{HasVerdict}
 use Rattle.thes_office.specs.Office.{IsCopy}
 use Rattle.thes_office.specs.TablesOfState.{TablesOfState}
 
--- The core holds the state that rows encode which a load finds.
+-- The core holds the state of some rows that a load may find.
 abbrev pub IsCopyOfFound : (Raw → Type 0) → Limits → CoreView → Type 0
 IsCopyOfFound finds limits copy = (raw : Raw) × finds raw × IsCopy raw limits copy
 

@@ -83,8 +83,8 @@ fn mark(marks: &mut [bool], key: &Key) -> bool
     was
 }
 
-// Checks whether a request is a Post, and none of the earlier requests is a Post with its key; marks its key. It is
-// compared with the others only if its place was marked.
+// Checks whether a request is a Post, and none of the earlier requests is a Post with its key;
+// marks its key. It is compared with the others only if its place was marked.
 #[tactic(auto, using(crate::proofs::GroupLemmas::unmarked_is_new, crate::proofs::GroupLemmas::marked_more))]
 fn is_new_post(earlier: &[Command], marks: &mut [bool], command: &Command) -> bool
     requires size { length marks.old ≡ PLACES }
@@ -119,8 +119,8 @@ fn may_grow(commands: &[Command], marks: &mut [bool], count: usize) -> bool
     is_new_post(&commands[..count], marks, command)
 }
 
-/// Returns the number of requests at the front of the list that make a group: at most 128 posts
-/// with different keys, or 1 if the first request isn't a Post.
+/// Returns the length of the longest prefix of the list that is a group: at most 128 posts with
+/// different keys, or 1 if the first request isn't a Post.
 #[tactic(auto, using(crate::proofs::GroupLemmas::group_empty, crate::proofs::GroupLemmas::marked_none))]
 pub fn group_length(commands: &[Command]) -> usize
     requires { 0 < length commands.now }
@@ -244,6 +244,7 @@ pub fn commit_changes<K: Keeper>(keeper: &mut K, delta: Delta) -> Result<(), Fau
         → RawAfterChanges delta (K.view keeper.old).rows (K.view keeper.new).rows) }
     ensures keeps { CommitFrame (K.view keeper.old) (K.view keeper.new) result }
 {
+    // A request that is answered again needs no commit (DECISIONS.md, The office).
     if delta.as_slice().is_empty() {
         return Ok(());
     }

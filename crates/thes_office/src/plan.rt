@@ -1,5 +1,5 @@
-//! Plans: each request is decided on the state that those before it make, and the changes of all are
-//! committed in one transaction.
+//! Plans: each request is decided on the state that those before it make, and the changes of all
+//! are committed in one transaction.
 //! A request is moved from its plan into the log, and never copied.
 ghost use Rattle.std.specs.Prelude.{◌≡◌, ◌≤◌, ◌++◌, ◌∷◌, [], List, drop, length, false, true, IfOk, IfErr, OnOk, OnErr};
 ghost use Rattle.thes_base.specs.declared.request.Answer.{Answer};
@@ -198,8 +198,8 @@ fn decide_request<K: Keeper>(
     }
 }
 
-// Decides the requests of a plan in order, and applies them to the core. At the first that is refused
-// it takes those before it back; the core is unusable if that fails.
+// Decides the requests of a plan in order, and applies them to the core. At the first that is
+// refused it takes those before it back; the core is unusable if that fails.
 fn decide_plan<K: Keeper>(
     alloc: Global,
     keeper: &mut K,
@@ -244,8 +244,8 @@ fn decide_plan<K: Keeper>(
 
 /// Performs the requests of a plan in order: each is decided in the state that the core holds after
 /// those before it. If all are accepted, their changes are committed in one transaction. If one is
-/// refused, the tables are unchanged, and those before it are taken back in the core, or the core is
-/// unusable until reloaded. On a fault the tables are unchanged, and the core is unusable.
+/// refused, the tables are unchanged, and those before it are taken back in the core, or the core
+/// is unusable until reloaded. On a fault the tables are unchanged, and the core is unusable.
 pub fn perform_plan<K: Keeper>(
     alloc: Global,
     keeper: &mut K,

@@ -1,4 +1,4 @@
--- Proves how a plan goes on by one more request, and that a refused request changes nothing.
+-- Proves what one more request of a plan adds to it, and that a refused request changes nothing.
 use Rattle.std.proofs.lemmas.Grind.{common_steps}
 use Rattle.std.proofs.Common.{◌≡◌, ◌++◌, ◌∷◌, [], ◌∙◌, List, length, sym, ap, arith, inl, inr, append-nil}
 use Rattle.std.proofs.Common.{append_assoc}

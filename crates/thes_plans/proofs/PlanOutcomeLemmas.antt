@@ -24,7 +24,7 @@ use Rattle.thes_plans.specs.Resolving.{resolved_command, resolved_commands, reso
 use Rattle.thes_plans.proofs.PlanLawLemmas.{forms_stay, run_legal}
 use Rattle.thes_plans.proofs.PlanLemmas.{refused_stays}
 
--- The commands of the front of a plan, as far as there are answers, are those of the plan.
+-- The commands of a prefix of a plan, as far as there are answers, are those of the plan.
 resolved_front : (before : List Answer) (plan : List PlanRequest) (answers : List Answer)
     → resolved_commands before (take (length answers) plan) answers ≡ resolved_commands before plan answers
 resolved_front before [] [] = refl

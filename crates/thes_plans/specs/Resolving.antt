@@ -25,7 +25,7 @@ abbrev pub answer_number_at : List Answer → Number → ℕ → Number
 answer_number_at answers own place =
     elim (entry_at answers place) [ None ↦ own | Some answer ↦ number_or own (answer_number answer) ]
 
--- The number for which the reference stands; `own` if there is no reference.
+-- The number to which the reference refers; `own` if there is no reference.
 abbrev pub resolved_number : List Answer → Option ℕ → Number → Number
 resolved_number answers None own = own
 resolved_number answers (Some place) own = answer_number_at answers own place
@@ -34,7 +34,7 @@ resolved_number answers (Some place) own = answer_number_at answers own place
 abbrev pub reference_of : List (Option ℕ) → ℕ → Option ℕ
 reference_of references index = elim (slice_get references index) [ None ↦ None | Some reference ↦ reference ]
 
--- The numbers for which the references stand; a number beyond the references stays.
+-- The numbers to which the references refer; a number beyond the references stays.
 abbrev pub resolved_numbers : List Answer → List (Option ℕ) → List Number → List Number
 resolved_numbers answers references [] = []
 resolved_numbers answers [] (own ∷ owns) = own ∷ owns

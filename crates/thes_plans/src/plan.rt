@@ -9,7 +9,7 @@ pub const REQUEST_LIMIT: usize = 128;
 /// plan make.
 #[derive(Debug, Drop)]
 pub struct PlanRequest {
-    /// The command. A number for which a reference stands is replaced when the plan is performed.
+    /// The command. A number that a reference replaces is filled in when the plan is performed.
     pub command: Command,
     /// The place (from 1) of the request that makes the resource or posting for the command's first
     /// number.

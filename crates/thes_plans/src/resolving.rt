@@ -25,7 +25,8 @@ fn answer_at(answers: &[Answer], place: u32) -> Option<Answer>
     answers.get((place as usize).checked_sub(1)?).copied()
 }
 
-// Returns the number for which the reference stands; `own` if there is no reference, or no number for it.
+// Returns the number to which the reference refers; `own` if there is no reference, or no number
+// for it.
 fn number_for<S>(answers: &[Answer], reference: Option<u32>, own: Number<S>) -> Number<S>
     ensures { result ≡ resolved_number answers.now reference own }
 {
@@ -69,8 +70,9 @@ fn postings_for(
     Ok(numbers)
 }
 
-/// Returns the command of a request, with each reference replaced by the number that the answers to the requests before
-/// it have. A number stays, if the answers have none for its reference. Texts are moved, not copied.
+/// Returns the command of a request, with each reference replaced by the number that the answers to
+/// the requests before it have. A number stays, if the answers have none for its reference. Texts
+/// are moved, not copied.
 pub fn resolve(alloc: Global, answers: &[Answer], asked: PlanRequest) -> Result<Command, AllocError>
     ensures { IfOk result (λ command. command ≡ resolved_command answers.now asked) }
 {

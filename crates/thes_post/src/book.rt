@@ -1,7 +1,7 @@
 //! The counts of postings, kept in memory; the postings themselves are in the storage.
-ghost use Rattle.std.specs.Prelude.{◌≡◌, ◌≢◌, ◌<◌, ◌+◌, ◌-◌, ◌^◌, ℕ, [], length, slice_index, IfOk, OnOk, OnErr};
+ghost use Rattle.std.specs.Prelude.{◌≡◌, ◌≢◌, ◌<◌, ◌≤◌, ◌+◌, ◌-◌, ◌^◌, ℕ, [], length, slice_index, IfOk, OnOk, OnErr};
 ghost use Rattle.thes_post.specs.PostingCounts.{count_of, HasRoomForPost, HasPostingToWithdraw, HasRoomForMoves, CountsAfterPost, CountsAfterWithdrawal, CountsAfterMoves};
-ghost use Rattle.thes_post.specs.PostingCounts.{HasMovesToTakeBack, HasPostToTakeBack, HasWithdrawalToTakeBack};
+ghost use Rattle.thes_post.specs.PostingCounts.{HasMovesToTakeBack, HasPostToTakeBack, HasWithdrawalToTakeBack, ShiftsCounts};
 
 use std::alloc::{AllocError, Global};
 use std::marker::Model;
@@ -55,6 +55,20 @@ fn grow_counts(counts: &mut Vec<u32>, place: usize) -> Result<(), AllocError>
     Ok(())
 }
 
+// Moves `count` of the entry at the index `from` to the one at `to`, which saturates at 2³² - 1;
+// after an error the counts are as before.
+fn shift_counts(counts: &mut Vec<u32>, from: usize, to: usize, count: u32) -> Result<(), AllocError>
+    requires has { (0 < count) × (count ≤ slice_index counts.old.items from) }
+    requires ends { (from ≢ to) × (to < 2 ^ 32) }
+    ensures ok { OnOk result (ShiftsCounts from to count counts.old.items counts.new.items) }
+    ensures err { OnErr result (counts.new.items ≡ counts.old.items) }
+{
+    grow_counts(counts, to)?;
+    counts[from] -= count;
+    counts[to] = counts[to].saturating_add(count);
+    Ok(())
+}
+
 impl Book {
     /// Creates counts that are all 0, without allocating.
     pub fn new(alloc: Global) -> Book
@@ -104,8 +118,9 @@ impl Book {
     /// Takes back the count of a posting that is assigned to the concept after `moves` moves;
     /// changes nothing if there can't be one.
     pub fn take_back_post(&mut self, concept: ResNo, moves: u64)
-        ensures { HasPostToTakeBack concept moves self.old
+        ensures counted { HasPostToTakeBack concept moves self.old
             → CountsAfterPost concept moves self.new self.old }
+        ensures none { (HasPostToTakeBack concept moves self.old → ⊥) → self.new ≡ self.old }
     {
         let place = concept.get() as usize;
         let count = count_at(self.counts.as_slice(), place);
@@ -156,22 +171,20 @@ impl Book {
         requires apart { source ≢ target }
         ensures ok { OnOk result (HasRoomForMoves source target count self.old
             → CountsAfterMoves source target count self.old self.new) }
+        ensures fewer { count_of self.old source < count → self.new ≡ self.old }
         ensures err { OnErr result (self.new ≡ self.old) }
     {
-        let standing = count_at(self.counts.as_slice(), source.get() as usize);
-        if count == 0 || standing < count {
+        let (from, to) = (source.get() as usize, target.get() as usize);
+        if count == 0 || count_at(self.counts.as_slice(), from) < count {
             return Ok(());
         }
-        let place = target.get() as usize;
-        grow_counts(&mut self.counts, place)?;
-        self.counts[source.get() as usize] = standing - count;
-        self.counts[place] = self.counts[place].saturating_add(count);
+        shift_counts(&mut self.counts, from, to, count)?;
         self.moves = self.moves.saturating_add(count);
         Ok(())
     }
 
-    /// Takes back the count of `count` postings of the source that moved to the target, with one move
-    /// each; changes nothing if there are fewer.
+    /// Takes back the count of `count` postings of the source that moved to the target, with one
+    /// move each; changes nothing if there are fewer.
     pub fn take_back_moves(
         &mut self,
         source: ResNo,
@@ -181,16 +194,14 @@ impl Book {
         requires apart { source ≢ target }
         ensures ok { OnOk result (HasMovesToTakeBack source target count self.old
             → CountsAfterMoves source target count self.new self.old) }
+        ensures fewer { count_of self.old target < count → self.new ≡ self.old }
         ensures err { OnErr result (self.new ≡ self.old) }
     {
-        let there = count_at(self.counts.as_slice(), target.get() as usize);
-        if count == 0 || there < count || self.moves < count {
+        let (from, to) = (target.get() as usize, source.get() as usize);
+        if count == 0 || count_at(self.counts.as_slice(), from) < count || self.moves < count {
             return Ok(());
         }
-        let place = source.get() as usize;
-        grow_counts(&mut self.counts, place)?;
-        self.counts[target.get() as usize] = there - count;
-        self.counts[place] = self.counts[place].saturating_add(count);
+        shift_counts(&mut self.counts, from, to, count)?;
         self.moves -= count;
         Ok(())
     }

@@ -23,7 +23,7 @@ use Rattle.thes_requests.specs.Script.{outcome_text, script_text, end_after_outc
 use Rattle.thes_requests.specs.Script.{Session, session, StopsWithinAnswer, ExceedsLimits, IsCause, Completes, Stops}
 use Rattle.thes_requests.specs.ScriptSteps.{OutcomeWritten, StopsWithOutcome, ScriptProgress}
 use Rattle.thes_requests.specs.declared.script.ScriptEnd.{ScriptEnd}
-use Rattle.thes_requests.specs.declared.serve.LineOutcome.{LineOutcome}
+use Rattle.thes_requests.specs.declared.line_serving.LineOutcome.{LineOutcome}
 use Rattle.thes_requests.proofs.LineLemmas.{lines-more, raw_lines-more, line_whole, ends_line_after_line}
 
 -- One more line adds its outcome, its effect and its answer to those of the lines before.

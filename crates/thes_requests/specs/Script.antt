@@ -15,10 +15,10 @@ use Rattle.thes_requests.specs.LineBuffer.{has_newline, line_limit}
 use Rattle.thes_requests.specs.Serving.{LineBehaviour, line_answer_text}
 use Rattle.thes_requests.specs.declared.answer.Reply.TheVariants as reply
 use Rattle.thes_requests.specs.declared.plan_reply.PlanReply.TheVariants as plan
-use Rattle.thes_requests.specs.declared.serve.LineAnswer.{LineAnswer}
-use Rattle.thes_requests.specs.declared.serve.LineAnswer.TheVariants.{Reply, View, Plan}
-use Rattle.thes_requests.specs.declared.serve.LineOutcome.{LineOutcome}
-use Rattle.thes_requests.specs.declared.serve.LineOutcome.TheVariants.{Skipped, Unheld, Answered}
+use Rattle.thes_requests.specs.declared.line_serving.LineAnswer.{LineAnswer}
+use Rattle.thes_requests.specs.declared.line_serving.LineAnswer.TheVariants.{Reply, View, Plan}
+use Rattle.thes_requests.specs.declared.line_serving.LineOutcome.{LineOutcome}
+use Rattle.thes_requests.specs.declared.line_serving.LineOutcome.TheVariants.{Skipped, Unheld, Answered}
 use Rattle.thes_requests.specs.declared.script.ScriptEnd.{ScriptEnd}
 
 -- The greatest number of lines in a script.

@@ -13,9 +13,9 @@ use Rattle.thes_requests.specs.Script.{ServesLines, EndsLine, Session, raw_lines
 use Rattle.thes_requests.specs.Script.{end_after_outcome, end_of_outcomes, lines_limit}
 use Rattle.thes_requests.specs.declared.line_buffer.LineSearch.{LineSearch}
 use Rattle.thes_requests.specs.declared.line_buffer.LineSearch.TheVariants.{End}
-use Rattle.thes_requests.specs.declared.lines.ScriptLines.{ScriptLines}
+use Rattle.thes_requests.specs.declared.script_lines.ScriptLines.{ScriptLines}
 use Rattle.thes_requests.specs.declared.script.ScriptEnd.{ScriptEnd}
-use Rattle.thes_requests.specs.declared.serve.LineOutcome.{LineOutcome}
+use Rattle.thes_requests.specs.declared.line_serving.LineOutcome.{LineOutcome}
 
 -- The search for the next line of a script found the line and counted it, found the end of the input, or stopped. The
 -- bytes that are left are those of the buffer, and then the unread ones of the reader.

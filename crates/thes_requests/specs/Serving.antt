@@ -18,8 +18,8 @@ use Rattle.thes_requests.specs.declared.plan_reply.PlanReply.{PlanReply}
 use Rattle.thes_requests.specs.declared.plan_reply.PlanReply.TheVariants.{Bad}
 use Rattle.thes_requests.specs.declared.request.Query.{Query}
 use Rattle.thes_requests.specs.declared.request.Request.TheVariants.{Do, Get}
-use Rattle.thes_requests.specs.declared.serve.LineAnswer.{LineAnswer}
-use Rattle.thes_requests.specs.declared.serve.LineAnswer.TheVariants.{Reply, View, Plan}
+use Rattle.thes_requests.specs.declared.line_serving.LineAnswer.{LineAnswer}
+use Rattle.thes_requests.specs.declared.line_serving.LineAnswer.TheVariants.{Reply, View, Plan}
 use Rattle.thes_requests.specs.AnswerTexts.{reply_text}
 use Rattle.thes_requests.specs.Readings.{ReadsAs}
 use Rattle.thes_requests.specs.RequestBehaviour.{RequestBehaviour}

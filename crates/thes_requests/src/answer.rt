@@ -5,7 +5,7 @@ ghost use Rattle.thes_base.specs.FaultNames.{form_code, refusal_code, fault_code
 ghost use Rattle.thes_base.specs.Pipe.{written_bytes, IsFresh, IsPartialWrite, KeepsCallLimit};
 ghost use Rattle.thes_requests.specs.AnswerTexts.{answer_text, fault_reply_text, form_fault_text, refusal_text, reply_text};
 
-use crate::line::ShortLine;
+use crate::short_line::ShortLine;
 use std::io::Write;
 use thes_base::fault::{Fault, FormFault, PipeFault, Refusal};
 use thes_base::pipe::Pipe;

@@ -6,9 +6,9 @@ ghost use Rattle.thes_base.specs.PipeFrames.{WriteFrame};
 ghost use Rattle.thes_requests.specs.PlanTexts.{answers_text, item_text, items_text, place_text, plan_fault_text, plan_refusal_text, plan_reply_text, reply_of_outcome, separator_before, IsRoomFor};
 
 use crate::answer::{Reply, reply_line};
-use crate::line::ShortLine;
 use crate::page::Page;
 use crate::plan::PlanFault;
+use crate::short_line::ShortLine;
 use std::alloc::{AllocError, Global};
 use std::io::Write;
 use thes_base::fault::Refusal;

@@ -8,10 +8,10 @@ ghost use Rattle.thes_requests.specs.ScriptSteps.{OutcomeWritten, StopsWithOutco
 use crate::answer::Reply;
 use crate::handler::RequestHandler;
 use crate::line_buffer::LineSearch;
-use crate::lines::ScriptLines;
+use crate::line_serving::{LineAnswer, LineOutcome, serve_line};
 use crate::plan_reply::PlanReply;
 use crate::request::RequestScratch;
-use crate::serve::{LineAnswer, LineOutcome, serve_line};
+use crate::script_lines::ScriptLines;
 use std::alloc::Global;
 use std::io::{Read, Write};
 use thes_base::fault::{Fault, PipeFault};

@@ -20,11 +20,11 @@ use Rattle.thes_requests.specs.declared.handler.QueryAnswer.{QueryAnswer}
 use Rattle.thes_requests.specs.declared.handler.QueryAnswer.TheVariants as viewed
 use Rattle.thes_requests.specs.declared.request.Request.{Request}
 use Rattle.thes_requests.specs.declared.request.Request.TheVariants.{Do, Get}
-use Rattle.thes_requests.specs.declared.serve.LineAnswer.{LineAnswer}
+use Rattle.thes_requests.specs.declared.line_serving.LineAnswer.{LineAnswer}
 use Rattle.thes_requests.specs.declared.plan_reply.PlanReply.{PlanReply}
-use Rattle.thes_requests.specs.declared.serve.LineAnswer.TheVariants.{Reply, View, Plan}
-use Rattle.thes_requests.specs.declared.serve.LineOutcome.{LineOutcome}
-use Rattle.thes_requests.specs.declared.serve.LineOutcome.TheVariants.{Skipped, Unheld, Answered}
+use Rattle.thes_requests.specs.declared.line_serving.LineAnswer.TheVariants.{Reply, View, Plan}
+use Rattle.thes_requests.specs.declared.line_serving.LineOutcome.{LineOutcome}
+use Rattle.thes_requests.specs.declared.line_serving.LineOutcome.TheVariants.{Skipped, Unheld, Answered}
 use Rattle.thes_requests.specs.Readings.{ReadsAs, ◌>>=◌}
 use Rattle.thes_requests.specs.PlanReadings.{is_array_value}
 use Rattle.thes_requests.specs.Requests.{json_in, json_of, request_in, request_of}

@@ -19,13 +19,13 @@ use Rattle.thes_office.specs.Office.{FaultBehaviour, TablesAfterRun, OfficeView,
 use Rattle.thes_office.specs.TablesOfState.{TablesOfState}
 use Rattle.thes_office.proofs.OfficeViewLemmas.{run_of_one_more, run_of_more, empty_run}
 use Rattle.thes_requests.specs.declared.answer.Reply.TheVariants as reply
-use Rattle.thes_requests.specs.declared.serve.LineAnswer.{LineAnswer}
+use Rattle.thes_requests.specs.declared.line_serving.LineAnswer.{LineAnswer}
 use Rattle.thes_requests.specs.declared.plan_reply.PlanReply.{PlanReply}
 use Rattle.thes_requests.specs.declared.plan_reply.PlanReply.TheVariants as planned
-use Rattle.thes_requests.specs.declared.serve.LineAnswer.TheVariants.{Reply, View, Plan}
+use Rattle.thes_requests.specs.declared.line_serving.LineAnswer.TheVariants.{Reply, View, Plan}
 use Rattle.thes_requests.specs.declared.script.ScriptEnd.{ScriptEnd}
-use Rattle.thes_requests.specs.declared.serve.LineOutcome.{LineOutcome}
-use Rattle.thes_requests.specs.declared.serve.LineOutcome.TheVariants.{Skipped, Unheld, Answered}
+use Rattle.thes_requests.specs.declared.line_serving.LineOutcome.{LineOutcome}
+use Rattle.thes_requests.specs.declared.line_serving.LineOutcome.TheVariants.{Skipped, Unheld, Answered}
 use Rattle.thes_requests.specs.Requests.{json_in}
 use Rattle.thes_requests.specs.Script.{StepLine, RunLines, Session, EndsScript}
 use Rattle.thes_requests.specs.Serving.{ServesPlan}

@@ -10,9 +10,9 @@ use Rattle.thes_office.specs.Office.{OfficeView}
 use Rattle.thes_office.specs.TablesOfState.{TablesOfState}
 use Rattle.thes_import.specs.OneImport.{EncodeOneState}
 use Rattle.thes_requests.specs.declared.answer.Reply.TheVariants as reply
-use Rattle.thes_requests.specs.declared.serve.LineAnswer.TheVariants.{Reply}
-use Rattle.thes_requests.specs.declared.serve.LineOutcome.{LineOutcome}
-use Rattle.thes_requests.specs.declared.serve.LineOutcome.TheVariants.{Unheld, Answered}
+use Rattle.thes_requests.specs.declared.line_serving.LineAnswer.TheVariants.{Reply}
+use Rattle.thes_requests.specs.declared.line_serving.LineOutcome.{LineOutcome}
+use Rattle.thes_requests.specs.declared.line_serving.LineOutcome.TheVariants.{Unheld, Answered}
 use Rattle.thes_requests.specs.Script.{ServesLines}
 use Rattle.thes_http.specs.declared.response.Response.{Response}
 use Rattle.thes_http.specs.Responses.{fault_response}

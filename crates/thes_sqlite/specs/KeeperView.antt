@@ -85,8 +85,8 @@ IsKeeperUp g k = IsStore (state g k.first) × IsUp (state g k.conn)
 abbrev pub storage_view : {S : Type 0} → Ghosts S → KeeperView S → StorageView
 storage_view g k = record { rows = raw_of_keeper g k; is_up = IsKeeperUp g k; failures = k.failures }
 
--- The storage is new: it keeps the tables of a store without rows, in the schema that the program makes, and has counted no
--- failures.
+-- The storage is new: it keeps the tables of a store without rows, in the schema that the program makes, and has
+-- counted no failures.
 pub record IsNewKeeper {S : Type 0} (g : Ghosts S) (base : List ℕ) (k : KeeperView S) : Type 0 where
   pub rows : IsUp (state g k.conn) → raw_of_keeper g k ≡ cells_of_tables (empty_tables base)
   pub store : IsStore (state g k.first)

@@ -94,7 +94,8 @@ FindsOfFirst g v raw = FindsIn (database_of_first g v.first) raw
 abbrev pub FindsStill : {S : Type 0} → Ghosts S → ReopeningView S → Raw → Type 0
 FindsStill g v raw = IsStillOpen g v × FindsOfFirst g v raw
 
--- The first connection, if there is one, was opened in files that held a store with a schema and tables that satisfy `held`.
+-- The first connection, if there is one, was opened in files that held a store with a schema and tables that satisfy
+-- `held`.
 abbrev pub IsOfFiles : {S : Type 0} → Ghosts S → (Schema → Tables → Type 0) → Option (KeeperView S) → Type 0
 IsOfFiles g held None = Unit {0}
 IsOfFiles g held (Some k) = ServesTables held (state g k.first)
@@ -120,8 +121,8 @@ pub record ReturnsFirst {S : Type 0} (g : Ghosts S) (held : Schema → Tables �
   pub of_files : ServesTables held (state g keeper.first)
   pub kept : IsKeeperState (state g keeper.first) (state g keeper.conn)
 
--- A call writes nothing through the first connection: if that is open afterwards, it was before, and its database is the
--- same.
+-- A call writes nothing through the first connection: if that is open afterwards, it was before, and its database is
+-- the same.
 pub record LeavesFirst {S : Type 0} (g : Ghosts S) (old new : ReopeningView S) : Type 0 where
   pub was : IsStillOpen g new → IsStillOpen g old
   pub same : IsStillOpen g new → database_of_first g new.first ≡ database_of_first g old.first

@@ -17,6 +17,7 @@ fn any_cell_of(alloc: Global, value: ValueRef<'_>) -> Result<Cell, AllocError>
     match value {
         ValueRef::Null => Ok(Cell::Null),
         ValueRef::Int(n) => Ok(Cell::Int(n)),
+        // What is no cell is read as -1, which no column allows (DECISIONS.md, Storage).
         ValueRef::Text(bytes) => match std::str::from_utf8(bytes) {
             Ok(text) => Ok(Cell::Text(CellText::new(alloc, text)?)),
             Err(_) => Ok(Cell::Int(-1)),

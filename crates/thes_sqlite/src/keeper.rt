@@ -183,8 +183,8 @@ impl<S: Alter> SqlKeeper<S> {
         }
     }
 
-    /// Applies all changes, or none of them and returns a fault. The changes needn't fit the tables,
-    /// so what the storage promises begins anew with the database as they leave it.
+    /// Applies all changes, or none of them and returns a fault. The changes needn't fit the
+    /// tables, so what the storage promises begins anew with the database as they leave it.
     pub(crate) fn commit_anew(&mut self, changes: &[Change]) -> Result<(), Fault>
         ensures database { DatabaseFrame S.Store self.old.conn self.new.conn result }
         ensures first { self.new.first ≡ self.new.conn }

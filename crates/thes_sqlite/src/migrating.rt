@@ -101,8 +101,8 @@ fn judge_version<S: Alter>(
     }
 }
 
-// Returns `BadStore` of link if the answer to whether table link can be queried is no, or the fault of
-// the error, whose cause is recorded.
+// Returns `BadStore` of link if the answer to whether table link can be queried is no, or the fault
+// of the error, whose cause is recorded.
 fn links_verdict(there: Result<bool, Error>, cause: &mut Cause) -> Result<(), Fault>
     ensures is { result ≡ links_verdict_of there }
     ensures faults { IfErr result IsMigrateFault }
@@ -115,8 +115,8 @@ fn links_verdict(there: Result<bool, Error>, cause: &mut Cause) -> Result<(), Fa
     }
 }
 
-// Returns `BadStore` of hier if the answer to whether there is a table hier is yes, or the fault of the
-// error, whose cause is recorded.
+// Returns `BadStore` of hier if the answer to whether there is a table hier is yes, or the fault of
+// the error, whose cause is recorded.
 fn hier_verdict(there: Result<bool, Error>, cause: &mut Cause) -> Result<(), Fault>
     ensures is { result ≡ hier_verdict_of there }
     ensures faults { IfErr result IsMigrateFault }

@@ -1,5 +1,5 @@
-//! What opens a database again, and what its files held: traits, since a proof over a connection to a
-//! file goes through all its parts.
+//! What opens a database again, and what its files held: traits, since a proof over a connection to
+//! a file goes through all its parts.
 ghost use Rattle.sqlite.specs.Schema.{Schema};
 ghost use Rattle.thes_tables.specs.Tables.{Tables};
 

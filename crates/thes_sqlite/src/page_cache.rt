@@ -13,7 +13,7 @@ const SPARE_PAGES: u64 = 2_000;
 // The page size of a new file.
 const NEW_SIZE: usize = 4_096;
 
-// Returns the number at bytes 16 and 17, where 1 stands for 65,536; 0 if there are no such bytes.
+// Returns the number at bytes 16 and 17, where 1 means 65,536; 0 if there are no such bytes.
 fn number_of_size(head: &[u8]) -> usize
     ensures { result ≡ size_in_file head.now }
 {

@@ -39,8 +39,8 @@ fn yield_row<R: RowSink>(alloc: Global, name: Table, row: &Row, sink: &mut R) ->
     sink.row(name, cells.as_slice())
 }
 
-// Passes the rows of a table to a sink as they are read. If the table can't be queried, reports that
-// to the sink instead. Records the cause of an error of the database.
+// Passes the rows of a table to a sink as they are read. If the table can't be queried, reports
+// that to the sink instead. Records the cause of an error of the database.
 fn yield_rows<S: Alter, R: RowSink>(
     alloc: Global,
     conn: &mut Connection<S>,

@@ -16,7 +16,7 @@ pub trait AddedRow {
     ghost added_row: { Change → Option Self };
 
     /// Checks whether the change inserts a row into this table.
-    fn is_added(change: &Change) -> bool
+    fn inserts_row(change: &Change) -> bool
         ensures { result ≡ is_some (added_row change.now) };
 }
 
@@ -25,7 +25,7 @@ impl AddedRow for Resource {
 
     ghost added_row = { added_resource };
 
-    fn is_added(change: &Change) -> bool {
+    fn inserts_row(change: &Change) -> bool {
         matches!(change, Change::AddResource(_, _))
     }
 }
@@ -35,7 +35,7 @@ impl AddedRow for OutsideRow {
 
     ghost added_row = { added_outside };
 
-    fn is_added(change: &Change) -> bool {
+    fn inserts_row(change: &Change) -> bool {
         matches!(change, Change::AddOutside(_, _))
     }
 }
@@ -45,7 +45,7 @@ impl AddedRow for PackedLabel {
 
     ghost added_row = { added_label };
 
-    fn is_added(change: &Change) -> bool {
+    fn inserts_row(change: &Change) -> bool {
         matches!(change, Change::AddLabel(_))
     }
 }
@@ -55,7 +55,7 @@ impl AddedRow for Link {
 
     ghost added_row = { inserted_link };
 
-    fn is_added(change: &Change) -> bool {
+    fn inserts_row(change: &Change) -> bool {
         matches!(change, Change::AddLink(_))
     }
 }
@@ -65,7 +65,7 @@ impl AddedRow for HierRow {
 
     ghost added_row = { added_hier };
 
-    fn is_added(change: &Change) -> bool {
+    fn inserts_row(change: &Change) -> bool {
         matches!(change, Change::AddHier(_))
     }
 }
@@ -75,7 +75,7 @@ impl AddedRow for PostingRow {
 
     ghost added_row = { added_posting };
 
-    fn is_added(change: &Change) -> bool {
+    fn inserts_row(change: &Change) -> bool {
         matches!(change, Change::AddPosting(_))
     }
 }
@@ -85,7 +85,7 @@ impl AddedRow for MoveRow {
 
     ghost added_row = { added_move };
 
-    fn is_added(change: &Change) -> bool {
+    fn inserts_row(change: &Change) -> bool {
         matches!(change, Change::AddMove(_))
     }
 }
@@ -96,7 +96,7 @@ pub fn count_added<T: AddedRow>(changes: &[Change]) -> usize
 {
     let mut count = 0;
     for change in changes {
-        if T::is_added(change) {
+        if T::inserts_row(change) {
             count += 1;
         }
     }

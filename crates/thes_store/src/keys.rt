@@ -31,12 +31,12 @@ impl Keys {
     }
 
     /// Inserts a position under a key, by its digest if that is free, or else by its text.
-    pub fn insert(&mut self, alloc: Global, key: &Key, place: usize) -> Result<(), AllocError>
+    pub fn insert(&mut self, alloc: Global, key: &Key, position: usize) -> Result<(), AllocError>
         ensures keeps { KeepsOtherKeys key.now self.old self.new }
-        ensures ok { OnOk result (KeyHasPosition self.new key.now place) }
+        ensures ok { OnOk result (KeyHasPosition self.new key.now position) }
     {
-        if !insert_digest(&mut self.numbers, digest(key), place)? {
-            self.rest.insert(key.try_clone(alloc)?, place)?;
+        if !insert_digest(&mut self.numbers, digest_of(key), position)? {
+            self.rest.insert(key.try_clone(alloc)?, position)?;
         }
         Ok(())
     }
@@ -45,7 +45,7 @@ impl Keys {
     pub fn position_by_digest(&self, key: &Key) -> Option<usize>
         ensures { result ≡ hash.get nat_eq self.now.numbers (digest_of key.now) }
     {
-        self.numbers.get(&digest(key)).copied()
+        self.numbers.get(&digest_of(key)).copied()
     }
 
     /// Returns the position under the key's text, if another key has its digest.
@@ -60,24 +60,24 @@ impl Keys {
 fn insert_digest(
     numbers: &mut HashMap<u64, usize>,
     number: u64,
-    place: usize,
+    position: usize,
 ) -> Result<bool, AllocError>
     ensures keeps { KeepsDigests numbers.old numbers.new }
     ensures ok { IfOk result (λ leads. leads ≡ true
-        → hash.get nat_eq numbers.new number ≡ Some place) }
+        → hash.get nat_eq numbers.new number ≡ Some position) }
 {
     match numbers.entry(number)? {
         Entry::Occupied(_) => Ok(false),
         Entry::Vacant(entry) => {
-            entry.insert(place);
+            entry.insert(position);
             Ok(true)
         }
     }
 }
 
-// Returns a 64-bit digest of a key. Different keys may have the same digest.
+/// Returns a 64-bit digest of a key. Different keys may have the same digest.
 #[tactic(auto, unfolding(crate::specs::Keys::digest_of))]
-fn digest(key: &Key) -> u64
+pub fn digest_of(key: &Key) -> u64
     ensures { result ≡ digest_of key.now }
 {
     let mut hasher = FoldHasher::default();

@@ -34,7 +34,7 @@ abbrev pub other_end : ℕ → Link → ℕ
 other_end n l = if l.a == n then l.b else l.a
 
 -- The node to which a held link at `at` leads from x after the edit, where x replaces `at`: the other end, or the node
--- that replaces it; None if that is x, too.
+-- that replaces it; None if that is also x.
 abbrev pub far_node_after : LinkEdit → (at x : ℕ) → Link → Option ℕ
 far_node_after NoEdit at x l = Some (other_end at l)
 far_node_after (WithLink new) at x l = Some (other_end at l)

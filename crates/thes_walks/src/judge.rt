@@ -137,7 +137,8 @@ fn check_normal_link<L: Links>(
 /// Checks a merge of the source into the target: returns the first rule that the links after it
 /// would break.
 ///
-/// The visits are bounded by the links near the two concepts.
+/// The visits are bounded by the links near the two concepts. The searches are those of the target
+/// alone (DECISIONS.md, Links).
 pub fn judge_contract<L: Links>(
     alloc: Global,
     links: &mut L,

@@ -7,7 +7,7 @@ use std::process::Abort;
 use test_devices::{Filling, Halting};
 use thes_base::pipe::Pipe;
 use thes_http::Status;
-use thes_http::serve::ConnectionEnd;
+use thes_http::connection::ConnectionEnd;
 
 // A row of a table: a request, the status of its response, the number of operations performed, and
 // the response.

@@ -7,7 +7,7 @@ use std::io::{Read, Write};
 use thes_base::fault::{Fault, Refusal};
 use thes_base::pipe::Pipe;
 use thes_base::request::{Answer, Command};
-use thes_http::serve::{ConnectionEnd, serve_one};
+use thes_http::connection::{ConnectionEnd, serve_one};
 use thes_http::service::Service;
 use thes_http_request::endpoint::Routes;
 use thes_plans::plan::{PlanOutcome, PlanRequest};

@@ -4,7 +4,7 @@ use std::alloc::{AllocError, Global};
 use std::process::Abort;
 use thes_base::pipe::Pipe;
 use thes_http::Status;
-use thes_http::serve::ConnectionEnd;
+use thes_http::connection::ConnectionEnd;
 
 // Serves a request that is only a head, and returns the outcome of the connection.
 fn serve_head(alloc: Global, request: &[u8]) -> ConnectionEnd {

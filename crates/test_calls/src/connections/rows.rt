@@ -4,7 +4,7 @@ use std::alloc::Global;
 use std::process::Abort;
 use thes_base::pipe::Pipe;
 use thes_http::Status;
-use thes_http::serve::ConnectionEnd;
+use thes_http::connection::ConnectionEnd;
 
 // A row of a table: a request, the outcome of its connection, the number of operations performed,
 // and the bytes written.

@@ -5,7 +5,7 @@ use crate::failing::script::FAULT;
 use std::alloc::Global;
 use test_office::Store;
 use test_office::ways::connect_in;
-use thes_http::serve::ConnectionEnd;
+use thes_http::connection::ConnectionEnd;
 
 /// The line that follows each request.
 pub const BEHIND: &str = "%\n";

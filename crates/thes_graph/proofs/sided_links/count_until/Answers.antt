@@ -12,4 +12,4 @@ returns-in-Some-clause-place c = λ by.
 pub returns-in_default-clause-place : goal.returns-in_default-clause-place
 returns-in_default-clause-place c =
     all_pass (λ s. leb (number_of s) c.args.number) c.args.row.now c.in-Some.last.now (sym c.in-Some.ensures.value)
-    (sym c.is_until.ensures ∙ c.if-not-is_until.false)
+    (sym c.is_at_most.ensures ∙ c.if-not-is_at_most.false)

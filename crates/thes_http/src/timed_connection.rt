@@ -1,0 +1,137 @@
+//! Serves one connection over the two ends of its stream, with limits of time, and discards what
+//! the client still sends after the response.
+ghost use Rattle.std.specs.Prelude.{◌≡◌, ◌↔◌, ◌≤◌, true, IsTrue};
+ghost use Rattle.std.specs.Duration.{as_nanos};
+ghost use Rattle.thes_http.specs.Server.{IsServedBy, LeadsBy, is_complete, is_wait};
+
+use crate::connection::{ConnectionEnd, serve_one};
+use crate::deadline::TimedStream;
+use crate::service::Service;
+use std::alloc::Global;
+use std::io::{ErrorKind, Read, Write};
+use std::net::{OpenStream, Shutdown};
+use std::rt::Clock;
+use std::time::{Duration, Instant};
+use thes_base::pipe::Pipe;
+use thes_http_request::endpoint::Routes;
+
+// The greatest number of reads, of 16 KiB each, that discard input after the response.
+const READS: u32 = 32_768;
+
+// The greatest number of these reads that may time out, after 4 ms each.
+const WAITS: u32 = 256;
+
+// The greatest time for all of these reads, in seconds.
+const SEE_OFF: u64 = 2;
+
+/// The two ends of a connection: one to read from, and one to write to.
+#[derive(Drop)]
+pub(crate) struct Ends<T> {
+    pub(crate) input: T,
+    pub(crate) output: T,
+}
+
+/// A connection that was served: its outcome, and its reader and writer. Only `serve_ends` makes
+/// one.
+#[derive(Drop)]
+pub(crate) struct ServedStream<'c, C, T> {
+    end: ConnectionEnd,
+    reader: Pipe<TimedStream<'c, C, T>>,
+    writer: Pipe<TimedStream<'c, C, T>>,
+}
+
+/// Reads a request from one end of a connection, performs it, and writes the response to the other
+/// end. Reads and writes fail once the client exceeds its time.
+pub(crate) fn serve_ends<'c, C: Clock, T: Read + Write + OpenStream + Drop, S: Service>(
+    alloc: Global,
+    routes: &Routes,
+    clock: &'c C,
+    ends: Ends<T>,
+    service: &mut S,
+) -> ServedStream<'c, C, T>
+    requires { S.is_open service.old ≡ true }
+    ensures served { IsServedBy T.remaining T.contents S.behaviour ends service.old result
+        service.new }
+    ensures leads { LeadsBy S.behaviour 1 service.old service.new }
+{
+    let Ends { input, output } = ends;
+    let mut reader = Pipe::new(TimedStream::new(input, clock));
+    let mut writer = Pipe::new(TimedStream::new(output, clock));
+    let end = serve_one(alloc, Some(routes), &mut reader, &mut writer, service);
+    ServedStream {
+        end,
+        reader,
+        writer,
+    }
+}
+
+// Returns whether the time for discarding input has passed, or the clock fails.
+fn is_over<C: Clock>(clock: &C, start: Instant) -> bool {
+    match start.elapsed(clock) {
+        Ok(passed) => is_long(passed),
+        Err(_) => true,
+    }
+}
+
+// Returns whether input was discarded for two seconds.
+fn is_long(passed: Duration) -> bool
+    ensures { IsTrue result ↔ 2_000_000_000 ≤ as_nanos passed }
+{
+    passed >= Duration::from_secs(SEE_OFF)
+}
+
+// Shuts down the sending side, and discards what the client still sends, for two seconds at most,
+// so that the client gets the response before the connection closes.
+fn drain_input<C: Clock, T: Read + OpenStream + Drop>(clock: &C, mut stream: T) {
+    let wait = Some(Duration::from_millis(4));
+    if stream.shutdown(Shutdown::Write).is_err() || stream.set_read_timeout(wait).is_err() {
+        return;
+    }
+    let Ok(start) = Instant::now(clock) else {
+        return;
+    };
+    let mut buffer = [0u8; 16_384];
+    let mut waits = 0;
+    for _ in 0..READS {
+        if is_over(clock, start) {
+            return;
+        }
+        match stream.read(&mut buffer) {
+            Ok(0) => return,
+            Ok(_) => {}
+            Err(error) if waits < WAITS && has_waited(error.kind()) => waits += 1,
+            Err(_) => return,
+        }
+    }
+}
+
+// Returns whether a read timed out or was interrupted, so that it may be repeated.
+fn has_waited(kind: ErrorKind) -> bool
+    ensures { result ≡ is_wait kind }
+{
+    matches!(
+        kind,
+        ErrorKind::WouldBlock | ErrorKind::TimedOut | ErrorKind::Interrupted
+    )
+}
+
+// Returns whether the response was written completely.
+fn is_answered(end: ConnectionEnd) -> bool
+    ensures { result ≡ is_complete end }
+{
+    match end {
+        ConnectionEnd::Answered(_) => true,
+        ConnectionEnd::WriteFault | ConnectionEnd::Cut | ConnectionEnd::ReadFault => false,
+    }
+}
+
+/// Closes a connection; if the response was written, it first discards what the client still sends.
+pub(crate) fn close_stream<C: Clock, T: Read + OpenStream + Drop>(
+    clock: &C,
+    served: ServedStream<'_, C, T>,
+) {
+    // Else an early answer would be lost while the client still sends (DECISIONS.md, HTTP).
+    if is_answered(served.end) {
+        drain_input(clock, served.reader.into_device().into_stream());
+    }
+}
