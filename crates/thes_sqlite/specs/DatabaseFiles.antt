@@ -1,5 +1,5 @@
 -- Stores in the two files of a database: what opening finds, and what closing leaves.
-use Rattle.std.specs.Prelude.{◌≡◌, []}
+use Rattle.std.specs.Prelude.{◌≡◌, ◌⊎◌, ℕ, List, []}
 use Rattle.sqlite_disk.specs.declared.Disk.{Ghosts}
 use Rattle.sqlite_disk.specs.declared.Files.{Files}
 use Rattle.sqlite_wal.specs.Recovery.{Image}
@@ -9,10 +9,10 @@ use Rattle.sqlite.specs.Files.{HoldsDatabase, image_of}
 use Rattle.sqlite.specs.Schema.{Schema}
 use Rattle.sqlite.specs.Start.{FindsIn}
 use Rattle.sqlite.specs.State.{State}
-use Rattle.thes_tables.specs.Tables.{Tables}
-use Rattle.thes_sql.specs.Schema.{empty_schema}
+use Rattle.thes_tables.specs.Tables.{Tables, empty_tables}
+use Rattle.thes_sql.specs.Schema.{empty_schema, store_schema}
 use Rattle.thes_sql.specs.StoredRows.{KeepsIn}
-use Rattle.thes_sqlite.specs.KeeperView.{IsUp}
+use Rattle.thes_sqlite.specs.KeeperView.{IsUp, ServesTables}
 
 -- The contents of the two files are a database that is a store with this schema and these tables.
 pub record HoldsStore (image : Image) (schema : Schema) (t : Tables) : Type 0 where
@@ -24,6 +24,16 @@ pub record HoldsStore (image : Image) (schema : Schema) (t : Tables) : Type 0 wh
 -- The file of a database is absent or empty, whatever its log holds.
 abbrev pub IsNewFile : Image → Type 0
 IsNewFile image = image.db ≡ []
+
+-- Work with this base over files with these contents begins with a store with this schema and these tables: the one that
+-- the files hold, or, in a new file, an empty one as the program makes it.
+abbrev pub BeginsWith : Image → List ℕ → Schema → Tables → Type 0
+BeginsWith image base schema t =
+    HoldsStore image schema t ⊎ (IsNewFile image × (schema ≡ store_schema) × (t ≡ empty_tables base))
+
+-- For some base, the database is the store with which work over files with these contents begins.
+abbrev pub ServesFiles : Image → State → Type 0
+ServesFiles image s = (base : List ℕ) × ServesTables (BeginsWith image base) s
 
 -- A database was opened in files with these contents, which may be anything. If they are a store, the database is this
 -- store, and nothing in it is uncommitted. In a new file it has no tables.

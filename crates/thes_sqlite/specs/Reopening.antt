@@ -3,16 +3,15 @@ use Rattle.std.specs.Prelude.{◌≡◌, ℕ, Bool, true, false, Option, None, S
 use Rattle.std.specs.Coded.{Coded, code_by, coded×, coded_ℕ, coded_option}
 use Rattle.sqlite.specs.Effect.{Database}
 use Rattle.sqlite.specs.Held.{Held, state}
-use Rattle.sqlite.specs.Schema.{Schema}
 use Rattle.sqlite.specs.State.{HasCleanDisk}
 use Rattle.sqlite_trees.specs.declared.store.Store.{Ghosts}
+use Rattle.sqlite_wal.specs.Recovery.{Image}
 use Rattle.thes_base.specs.declared.fault.Fault.{Fault}
 use Rattle.thes_tables.specs.Cells.{Raw}
-use Rattle.thes_tables.specs.Tables.{Tables}
 use Rattle.thes_store.specs.Storage.{StorageView, KeepsStorage}
+use Rattle.thes_sqlite.specs.DatabaseFiles.{ServesFiles}
 use Rattle.thes_sqlite.specs.FoundRows.{FindsTables, IsKeeperOpen}
 use Rattle.thes_sqlite.specs.KeeperView.{KeeperView, keeper_view_code, raw_of_keeper, IsKeeperState, IsKeeperUp}
-use Rattle.thes_sqlite.specs.KeeperView.{ServesTables}
 
 -- The storage over a connection, before any call.
 abbrev pub keeper_of_connection : {S : Type 0} → Held S → KeeperView S
@@ -94,10 +93,10 @@ FindsOfFirst g v raw = FindsIn (database_of_first g v.first) raw
 abbrev pub FindsStill : {S : Type 0} → Ghosts S → ReopeningView S → Raw → Type 0
 FindsStill g v raw = IsStillOpen g v × FindsOfFirst g v raw
 
--- The first connection, if there is one, was opened in files that held a store with a schema and tables that satisfy `held`.
-abbrev pub IsOfFiles : {S : Type 0} → Ghosts S → (Schema → Tables → Type 0) → Option (KeeperView S) → Type 0
-IsOfFiles g held None = Unit {0}
-IsOfFiles g held (Some k) = ServesTables held (state g k.first)
+-- The database of the first connection, if there is one, began as that of files with these contents.
+abbrev pub IsOfFiles : {S : Type 0} → Ghosts S → Image → Option (KeeperView S) → Type 0
+IsOfFiles g image None = Unit {0}
+IsOfFiles g image (Some k) = ServesFiles image (state g k.first)
 
 -- No request is in doubt while there is a first connection.
 abbrev pub IsCertain : {S : Type 0} → Option (KeeperView S) → Bool → Type 0
@@ -110,15 +109,15 @@ abbrev pub IsLostShut : {S : Type 0} → Ghosts S → KeeperView S → Option (H
 IsLostShut g k None = ⊥
 IsLostShut g k (Some conn) = HasCleanDisk (state g conn) → (state g k.conn).is_open ≡ false
 
--- The first connection is returned, which no failure is known to have shut. At the start it served the tables that its
--- files held, and it has kept the invariant of storage since then.
-pub record ReturnsFirst {S : Type 0} (g : Ghosts S) (held : Schema → Tables → Type 0) (v : ReopeningView S)
-    (conn : Option (Held S)) : Type 0 where
-  pub keeper : KeeperView S
-  pub first_is : v.first ≡ Some keeper
-  pub conn_is : conn ≡ Some keeper.conn
-  pub of_files : ServesTables held (state g keeper.first)
-  pub kept : IsKeeperState (state g keeper.first) (state g keeper.conn)
+-- The first connection is returned, which no failure is known to have shut. At the start its database was that of files
+-- with these contents, and it has kept the invariant of storage since then.
+pub record ReturnsFirst {S : Type 0} (g : Ghosts S) (image : Image) (v : ReopeningView S) (conn : Option (Held S)) : Type 0
+  where
+    pub keeper : KeeperView S
+    pub first_is : v.first ≡ Some keeper
+    pub conn_is : conn ≡ Some keeper.conn
+    pub of_files : ServesFiles image (state g keeper.first)
+    pub kept : IsKeeperState (state g keeper.first) (state g keeper.conn)
 
 -- A call writes nothing through the first connection: if that is open afterwards, it was before, and its database is the
 -- same.

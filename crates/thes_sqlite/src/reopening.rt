@@ -5,7 +5,7 @@ ghost use Rattle.thes_store.specs.FoundLoads.{PassesFound};
 ghost use Rattle.thes_store.specs.Sinks.{SinkOutcome, sink_rows};
 ghost use Rattle.thes_store.specs.Storage.{DeltaFitsStorage, RawAfterChanges};
 ghost use Rattle.thes_sqlite.specs.Faults.{IsKeeperFault};
-ghost use Rattle.thes_sqlite.specs.KeeperView.{ServesTables};
+ghost use Rattle.thes_sqlite.specs.DatabaseFiles.{ServesFiles};
 ghost use Rattle.thes_sqlite.specs.Reopening.{IsKeeperStillUp, rows_still, storage_still, keeper_of_connection};
 ghost use Rattle.thes_sqlite.specs.Reopening.{FindsOfFirst, IsLostShut, IsStillOpen, KeepsOnFault, KeepsStill};
 ghost use Rattle.thes_sqlite.specs.Reopening.{LeavesFirst, ReturnsFirst};
@@ -56,7 +56,7 @@ impl<S: Alter, O: Reopen<Connection<S>> + HeldTables> Model for ReopeningKeeper<
       failures = k.failures;
     } };
 
-    ghost invariant = { λ k. IsOfFiles S.Store O.held (first_storage k.is_reopened k.storage)
+    ghost invariant = { λ k. IsOfFiles S.Store O.image (first_storage k.is_reopened k.storage)
         × IsCertain (first_storage k.is_reopened k.storage) k.is_in_doubt };
 }
 
@@ -74,7 +74,7 @@ impl<S: Alter + Drop, O: Reopen<Connection<S>> + HeldTables> ReopeningKeeper<S, 
     /// Takes over a connection without reading from it.
     pub fn new(alloc: Global, conn: Connection<S>, opener: O) -> ReopeningKeeper<S, O>
         requires idle { conn.in_transaction ≡ false }
-        requires of_files { ServesTables O.held (state S.Store conn) }
+        requires of_files { ServesFiles O.image (state S.Store conn) }
         ensures { result ≡ record { first = Some (keeper_of_connection conn); failures = 0 } }
     {
         ReopeningKeeper {
@@ -95,7 +95,7 @@ impl<S: Alter + Drop, O: Reopen<Connection<S>> + HeldTables> ReopeningKeeper<S, 
         ensures first { IfSome self.first (λ k. (result.conn ≡ Some k.conn)
             × (result.is_reopened ≡ false)) }
         ensures returns { result.is_reopened ≡ false
-            → ReturnsFirst S.Store O.held self result.conn }
+            → ReturnsFirst S.Store O.image self result.conn }
         ensures certain { result.is_reopened ≡ false → result.is_in_doubt ≡ false }
     {
         let ReopeningKeeper {
