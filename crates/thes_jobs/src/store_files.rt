@@ -1,7 +1,7 @@
 //! The files of a store, which are opened and closed, and can be opened again by their names.
 ghost use Rattle.std.specs.Prelude.{◌≡◌, Ok, IfOk};
+ghost use Rattle.sqlite.specs.Files.{over_files};
 ghost use Rattle.sqlite_wal.specs.Files.{image_at};
-ghost use Rattle.thes_sqlite.specs.DatabaseFiles.{HoldsStore};
 ghost use Rattle.thes_jobs.specs.Databases.{ClosesFrom, OpensFrom};
 
 use sqlite::{Connection, FileFrom, FileStore, Start, Unknown};
@@ -49,7 +49,7 @@ pub fn open_database_files<S: Start>(
     image: S,
     file: &str,
 ) -> Result<Connection<FileStore<FileFrom<S>>>, Cause>
-    ensures { IfOk result (OpensFrom (image_at S.Start)) }
+    ensures { IfOk result (OpensFrom over_files (image_at S.Start)) }
 {
     without_rest(open_files(rt, file, image))
 }
@@ -128,7 +128,7 @@ impl<'r, S> StoreFiles<'r, S> {
 }
 
 impl<S: Start> HeldTables for StoreFiles<'_, S> {
-    ghost held = { HoldsStore (image_at S.Start) };
+    ghost image = { image_at S.Start };
 }
 
 impl<S: Start + ReopenedImage> Reopen<Connection<FileStore<FileFrom<S>>>> for StoreFiles<'_, S> {

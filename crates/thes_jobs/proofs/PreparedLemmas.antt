@@ -1,0 +1,51 @@
+-- Proves that a database which was prepared is the store with which work over its files begins.
+use Rattle.std.proofs.Common.{◌≡◌, Bool, true, false, IsTrue, List, ℕ, Ok, sym, subst, inl, inr}
+use Rattle.sqlite.specs.Held.{Held, state}
+use Rattle.sqlite.specs.Schema.{Schema}
+use Rattle.sqlite.specs.State.{HasCleanDisk}
+use Rattle.sqlite_trees.specs.declared.store.Store.{Ghosts}
+use Rattle.sqlite_wal.specs.Recovery.{Image}
+use Rattle.thes_tables.specs.Tables.{Tables, empty_tables}
+use Rattle.thes_sql.specs.Schema.{empty_schema, store_schema}
+use Rattle.thes_sql.specs.StoredRows.{KeepsIn}
+use Rattle.thes_sql.specs.TransactionEffects.{IsEmpty}
+use Rattle.thes_sqlite.specs.DatabaseFiles.{BeginsWith, HoldsStore}
+use Rattle.thes_sqlite.specs.KeeperView.{ServesTables}
+use Rattle.thes_command_line.specs.Opening.{preparation_of}
+use Rattle.thes_command_line.specs.declared.opening.Opening.{Opening}
+use Rattle.thes_command_line.specs.declared.opening.Opening.TheVariants.{New, Existing}
+use Rattle.thes_jobs.specs.Databases.{KeepsTables, OpensFrom, Settles}
+use Rattle.thes_jobs.specs.NewStore.{Prepares, PreparesStore}
+use Rattle.thes_jobs.proofs.DatabaseLemmas.{serves_after}
+
+module _ {S : Type 0} (g : Ghosts S) where
+  -- A preparation that succeeds in a blank database has made its tables.
+  made_in_blank : (opening : Opening) (is_blank reads_only : Bool) (base : List ℕ) (old new : Held S) → IsTrue is_blank
+      → Prepares g (preparation_of opening is_blank reads_only) is_blank base old (Ok tt) new
+      → HasCleanDisk (state g new) → IsEmpty empty_schema (state g old).now
+      → KeepsIn store_schema (state g new).now (empty_tables base)
+  made_in_blank New true reads_only base old new blank prepares clean empty =
+      let made = prepares clean empty in made.1
+  made_in_blank Existing true true base old new blank prepares clean empty = absurd (let never = prepares.0 in cc)
+  made_in_blank Existing true false base old new blank prepares clean empty = absurd (let never = prepares.0 in cc)
+  made_in_blank opening false reads_only base old new blank prepares clean empty = absurd cc
+
+  -- A database that was opened in files and prepared is the store with which work over them begins.
+  pub prepared_serves : (image : Image) (opening : Opening) (reads_only : Bool) (base : List ℕ) (old new : Held S)
+      → OpensFrom g image old → PreparesStore g opening reads_only base old (Ok tt) new
+      → KeepsTables (state g old) (state g new) → Settles (state g old) (state g new)
+      → ServesTables (BeginsWith image base) (state g new)
+  prepared_serves image opening reads_only base old new opens prepares keeps settles = serves
+    where
+      serves : ServesTables (BeginsWith image base) (state g new)
+      serves up schema t (inl held) =
+          serves_after (HoldsStore image) (state g old) (state g new) opens.serves keeps up schema t held
+      serves up schema t (inr begins) =
+          let was = settles.was up in
+          let none = opens.empty was begins.0 in
+          let made = made_in_blank opening prepares.is_blank reads_only base old new (prepares.blank.1 none)
+          prepares.prepares up.0 (none, tt) in (
+            settles.settled up (opens.settled was),
+            subst (λ (schema : Schema). KeepsIn schema (state g new).now t) (sym begins.1.0)
+                (subst (λ (t : Tables). KeepsIn store_schema (state g new).now t) (sym begins.1.1) made),
+          )
