@@ -4,6 +4,7 @@ use Rattle.std.specs.Prelude.{◌≡◌, ◌⊎◌, ℕ, List, Option, None, Som
 use Rattle.sqlite.specs.Held.{Held, state}
 use Rattle.sqlite.specs.Schema.{Schema}
 use Rattle.sqlite_trees.specs.declared.store.Store.{Ghosts}
+use Rattle.sqlite_wal.specs.Recovery.{Image}
 use Rattle.thes_base.specs.State.{empty_state}
 use Rattle.thes_base.specs.declared.data.Limits.{Limits}
 use Rattle.thes_base.specs.declared.fault.Fault.{Fault}
@@ -15,6 +16,7 @@ use Rattle.thes_base.specs.declared.request.Command.{Command}
 use Rattle.thes_tables.specs.Cells.{cells_of_tables}
 use Rattle.thes_tables.specs.Tables.{Tables, empty_tables}
 use Rattle.thes_store.specs.Storage.{StorageView}
+use Rattle.thes_sqlite.specs.DatabaseFiles.{BeginsWith}
 use Rattle.thes_sqlite.specs.Reopening.{ReopeningView, keeper_of_connection, storage_still, IsStillOpen, FindsStill}
 use Rattle.thes_sqlite.specs.Reopening.{IsKeeperStillUp, ReturnsFirst, rows_still}
 use Rattle.thes_sqlite.specs.declared.cause.Cause.{Cause}
@@ -58,8 +60,8 @@ pub record PrintsUnopened {E : Type 0} (err : E → Option (List ℕ)) (old new 
   pub prints_it : Prints err old new (fault_lines file (trouble_of cause Unreadable) fault)
   pub status_is : status ≡ 3
 
--- The files, which held a store with the tables `t`, hold a store with tables to which a run of the machine leads from
--- `t`; or a fault of opening the store is printed, and they hold what they held.
+-- The files, whose work began with the tables `t`, hold a store with tables to which a run of the machine leads from `t`;
+-- or a fault of opening the store is printed, and they hold these tables.
 pub record LeadsInFiles {E : Type 0} (err : E → Option (List ℕ)) (old new : Pipe E) (status : ℕ) (t : Tables)
     (holds : Tables → Type 0) : Type 0 where
   pub limits : Limits
@@ -67,13 +69,16 @@ pub record LeadsInFiles {E : Type 0} (err : E → Option (List ℕ)) (old new : 
   pub run : RunLeads limits t tables_after ⊎ (PrintsUnopened err old new status × (tables_after ≡ t))
   pub holds_after : holds tables_after
 
--- If no failure has shut the database, the files held a store, and they are clean now, they hold the store after a run
--- of the machine.
-abbrev pub LeadsIfClosed : {E C : Type 0} → (E → Option (List ℕ)) → (Schema → Tables → Type 0) → (C → Type 0)
-    → (C → Schema → Tables → Type 0) → Pipe E → Pipe E → ℕ → Closed C → Type 0
-LeadsIfClosed err held is_clean holds old new status closed =
+-- If no failure has shut the database, and its files are clean now, `Ends` is true of them and of the store with which the
+-- work began: the one that the files held, or, in new files, an empty one with this base.
+abbrev pub EndsIfClosed : {C : Type 0} → Image → List ℕ → (C → Type 0) → Closed C → (C → Schema → Tables → Type 0) → Type 0
+EndsIfClosed image base is_clean closed Ends =
     closed.is_reopened ≡ false → IfSome closed.files (λ files. is_clean files → (schema : Schema) (t : Tables)
-    → held schema t → LeadsInFiles err old new status t (holds files schema))
+    → BeginsWith image base schema t → Ends files schema t)
+
+-- The database of a job was closed that left this connection, if it left one, and that no failure has shut.
+abbrev pub closed_from : {S : Type 0} → Option (Held S) → Leaving S
+closed_from conn = record { conn = conn; is_in_doubt = false; is_reopened = false }
 
 module _ {S : Type 0} (store : Ghosts S) where
   -- The database was closed, if there is one.
@@ -85,7 +90,7 @@ module _ {S : Type 0} (store : Ghosts S) where
         is_clean files → ClosesStore (holds files) (state store conn)))
 
   -- The storage was up to the end of the work, so that all promises of the work hold. The files hold the tables that it
-  -- then had; if an office was opened, a run of the machine leads to these from the tables that the files held before, and
+  -- then had; if an office was opened, a run of the machine leads to these from the tables with which the work began, and
   -- else they are the same.
   pub record LeavesInFiles {A B : Type 0} (works : A ⊎ B) (limits : Limits) (t : Tables) (keeper : ReopeningView S)
       (holds : Tables → Type 0) : Type 0 where
@@ -108,36 +113,37 @@ module _ {F R W E : Type 0} (given : F → Option (List ℕ)) (remaining : R →
   -- it ran out.
   pub record WorksInMemory {P L : Type 0} (job : MemoryWork P F L) (old : Streams R W E) (status : ℕ)
       (new : Streams R W E) : Type 0 where
-    pub shows : TablesOfState (cells_of_tables (empty_tables job.base)) job.base empty_state
+    pub shows : TablesOfState (cells_of_tables (empty_tables job.setting.base)) job.setting.base empty_state
     pub nothing : sizes_of empty_state ≡ no_sizes
     pub tables_after : Tables
     pub works :
-        WorksOpened storage_in_memory given remaining out err job.work job.limits
-        (empty_tables job.base) old status tables_after new
+        WorksOpened storage_in_memory given remaining out err job.work job.setting.limits
+        (empty_tables job.setting.base) old status tables_after new
         ⊎ ReportsNoMemory old status new
 
   module _ {S : Type 0} (store : Ghosts S) where
     -- The work was done on the tables of the database, through the storage over this connection.
-    pub record WorksInDatabase {O P L : Type 0} (held : Schema → Tables → Type 0) (job : DatabaseWork S O P F L)
-        (old : Streams R W E) (status : ℕ) (left : Leaving S) (new : Streams R W E) : Type 0 where
+    pub record WorksInDatabase {O P L : Type 0} (image : Image) (job : DatabaseWork S O P F L) (old : Streams R W E)
+        (status : ℕ) (left : Leaving S) (new : Streams R W E) : Type 0 where
       pub keeper : ReopeningView S
       pub works : WorksOverKeeper (storage_still store) (IsStillOpen store) (FindsStill store) given remaining out err
-          job.work (Some (string_bytes job.file)) job.limits (storage_of_connection job.conn) old status keeper new
+          job.work (Some (string_bytes job.file)) job.setting.limits (storage_of_connection job.conn) old status keeper new
       -- The first connection is returned, unless a failure has closed it.
       pub back_is : IfSome keeper.first (λ k. (left.conn ≡ Some k.conn) × (left.is_reopened ≡ false))
-      pub returns : left.is_reopened ≡ false → ReturnsFirst store held keeper left.conn
+      pub returns : left.is_reopened ≡ false → ReturnsFirst store image keeper left.conn
       pub certain : left.is_reopened ≡ false → left.is_in_doubt ≡ false
 
-    -- The work was done on the tables of the database, and the database was closed. If no failure has shut it, the files
-    -- held a store and the closed files are clean, they hold the store after the work, and so after a run of the machine.
-    pub record WorksToClosing {O P L C : Type 0} (held : Schema → Tables → Type 0) (is_clean : C → Type 0)
+    -- The work was done on the tables of the database, and the database was closed. If no failure has shut it, and the
+    -- closed files are clean, they hold the store after the work, and so after a run of the machine.
+    pub record WorksToClosing {O P L C : Type 0} (image : Image) (is_clean : C → Type 0)
         (holds : C → Schema → Tables → Type 0) (job : DatabaseWork S O P F L) (old : Streams R W E) (status : ℕ)
         (closed : Closed C) (new : Streams R W E) : Type 0 where
       pub leaving : Leaving S
-      pub works : WorksInDatabase held job old status leaving new
+      pub works : WorksInDatabase image job old status leaving new
       pub closes : ClosesLeft store is_clean holds leaving closed
       -- A request is in doubt only if a failure has shut the database.
       pub certain : closed.is_reopened ≡ false → closed.is_in_doubt ≡ false
-      pub leaves : closed.is_reopened ≡ false → IfSome closed.files (λ files. is_clean files → (schema : Schema) (t : Tables)
-          → held schema t → LeavesInFiles store works.works.0 job.limits t works.keeper (holds files schema))
-      pub leads : LeadsIfClosed err held is_clean holds old.errors new.errors status closed
+      pub leaves : EndsIfClosed image job.setting.base is_clean closed (λ files schema t.
+          LeavesInFiles store works.works.0 job.setting.limits t works.keeper (holds files schema))
+      pub leads : EndsIfClosed image job.setting.base is_clean closed (λ files schema t.
+          LeadsInFiles err old.errors new.errors status t (holds files schema))

@@ -1,6 +1,6 @@
 //! Work over the stores of the program: in a database, and in memory.
-ghost use Rattle.thes_jobs.specs.Databases.{ClosesStores, IsReadyConnection};
-ghost use Rattle.thes_cli.specs.Stores.{ClosesLeft, WorksInDatabase, WorksInMemory, WorksToClosing};
+ghost use Rattle.thes_jobs.specs.Databases.{IsReadyConnection};
+ghost use Rattle.thes_cli.specs.Stores.{ClosesLeft, WorksInDatabase, WorksInMemory, WorksToClosing, closed_from};
 ghost use Rattle.thes_cli.specs.Streams.{AreFresh};
 
 use crate::closing::Closed;
@@ -11,6 +11,7 @@ use std::alloc::Global;
 use std::io::{Read, Write};
 use std::net::Net;
 use std::rt::Clock;
+use thes_command_line::arguments::StoreSetting;
 use thes_jobs::databases::Databases;
 use thes_jobs::progress::Progress;
 use thes_jobs::work::{DatabaseWork, MemoryWork};
@@ -35,15 +36,15 @@ pub fn work_in_database<
     job: DatabaseWork<S, O, P, F, N::Listener>,
     streams: &mut Streams<R, W, E>,
 ) -> (u8, Leaving<S>)
-    requires ready { IsReadyConnection S.Store O.held job.conn }
+    requires ready { IsReadyConnection S.Store O.image job.setting.base job.conn }
     requires streams { AreFresh streams.old }
-    ensures { WorksInDatabase F.remaining R.remaining W.contents E.contents S.Store O.held job
+    ensures { WorksInDatabase F.remaining R.remaining W.contents E.contents S.Store O.image job
         streams.old result.0 result.1 streams.new }
 {
     let DatabaseWork {
         work,
         file,
-        limits,
+        setting,
         conn,
         opener,
         progress,
@@ -55,7 +56,7 @@ pub fn work_in_database<
         work,
         keeper,
         progress,
-        limits,
+        setting.limits,
         Some(file),
         streams,
     );
@@ -63,12 +64,8 @@ pub fn work_in_database<
 }
 
 // Closes the database that work over a store leaves, if there is one.
-fn close_left<S: Alter, O, L, D: Databases<Connection<S>, O, L>>(
-    databases: &D,
-    left: Leaving<S>,
-) -> Closed<L>
-    requires { ClosesStores S.Store D.closes D.is_clean D.holds }
-    ensures { ClosesLeft S.Store D.is_clean D.holds left result }
+fn close_left<D: Databases>(databases: &D, left: Leaving<D::Engine>) -> Closed<D::Left>
+    ensures { ClosesLeft D.Engine.Store D.is_clean D.holds left result }
 {
     let Leaving {
         conn,
@@ -89,14 +86,26 @@ fn close_left<S: Alter, O, L, D: Databases<Connection<S>, O, L>>(
     }
 }
 
+/// Closes a database that no failure has shut, if there is one.
+pub fn close_open<D: Databases>(
+    databases: &D,
+    conn: Option<Connection<D::Engine>>,
+) -> Closed<D::Left>
+    ensures { ClosesLeft D.Engine.Store D.is_clean D.holds (closed_from conn) result }
+{
+    let left = Leaving {
+        conn,
+        is_in_doubt: false,
+        is_reopened: false,
+    };
+    close_left(databases, left)
+}
+
 /// Works over the store in a database, closes the database, and returns the exit status with what is
-/// left of its files. They hold the store after the work, if they held a store before.
+/// left of its files. They hold the store after the work.
 pub fn work_and_close<
     N: Net + Clock,
-    S: Alter + Drop,
-    O: Reopen<Connection<S>> + HeldTables + Drop,
-    L,
-    D: Databases<Connection<S>, O, L>,
+    D: Databases,
     P: Progress,
     F: Read + Drop,
     R: Read,
@@ -106,17 +115,17 @@ pub fn work_and_close<
     alloc: Global,
     clock: &N,
     databases: &D,
-    job: DatabaseWork<S, O, P, F, N::Listener>,
+    job: DatabaseWork<D::Engine, D::Opener, P, F, N::Listener>,
     streams: &mut Streams<R, W, E>,
-) -> (u8, Closed<L>)
-    requires closes { ClosesStores S.Store D.closes D.is_clean D.holds }
-    requires ready { IsReadyConnection S.Store O.held job.conn }
+) -> (u8, Closed<D::Left>)
+    requires ready { IsReadyConnection D.Engine.Store D.Opener.image job.setting.base job.conn }
     requires streams { AreFresh streams.old }
-    ensures { WorksToClosing F.remaining R.remaining W.contents E.contents S.Store O.held
-        D.is_clean D.holds job streams.old result.0 result.1 streams.new }
+    ensures { WorksToClosing F.remaining R.remaining W.contents E.contents D.Engine.Store
+        D.Opener.image D.is_clean D.holds job streams.old result.0 result.1 streams.new }
 {
-    let (status, left) = work_in_database::<N, S, O, P, F, R, W, E>(alloc, clock, job, streams);
-    (status, close_left::<S, O, L, D>(databases, left))
+    let (status, left) =
+        work_in_database::<N, D::Engine, D::Opener, P, F, R, W, E>(alloc, clock, job, streams);
+    (status, close_left(databases, left))
 }
 
 /// Works over a new store in memory with this base and these limits, and returns the exit status.
@@ -132,10 +141,10 @@ pub fn work_in_memory<N: Net + Clock, P: Progress, F: Read + Drop, R: Read, W: W
 {
     let MemoryWork {
         work,
-        base,
-        limits,
+        setting,
         progress,
     } = job;
+    let StoreSetting { base, limits } = setting;
     // No effect; states for the proof that the base has its form.
     let _ = base.as_str();
     let keeper = MemKeeper::new(alloc, base);

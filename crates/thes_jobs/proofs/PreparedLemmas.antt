@@ -11,11 +11,15 @@ use Rattle.thes_sql.specs.StoredRows.{KeepsIn}
 use Rattle.thes_sql.specs.TransactionEffects.{IsEmpty}
 use Rattle.thes_sqlite.specs.DatabaseFiles.{BeginsWith, HoldsStore}
 use Rattle.thes_sqlite.specs.KeeperView.{ServesTables}
-use Rattle.thes_command_line.specs.Opening.{preparation_of}
+use Rattle.thes_command_line.specs.Opening.{only_reads, preparation_of}
+use Rattle.thes_command_line.specs.declared.arguments.Task.{Task}
 use Rattle.thes_command_line.specs.declared.opening.Opening.{Opening}
 use Rattle.thes_command_line.specs.declared.opening.Opening.TheVariants.{New, Existing}
 use Rattle.thes_jobs.specs.Databases.{KeepsTables, OpensFrom, Settles}
 use Rattle.thes_jobs.specs.NewStore.{Prepares, PreparesStore}
+use Rattle.thes_jobs.specs.OpenStore.{IsOpenedFor}
+use Rattle.thes_jobs.specs.Starting.{IsPreparedFor}
+use Rattle.thes_jobs.specs.declared.starting.StoreDatabase.{StoreDatabase}
 use Rattle.thes_jobs.proofs.DatabaseLemmas.{serves_after}
 
 module _ {S : Type 0} (g : Ghosts S) where
@@ -49,3 +53,21 @@ module _ {S : Type 0} (g : Ghosts S) where
             subst (λ (schema : Schema). KeepsIn schema (state g new).now t) (sym begins.1.0)
                 (subst (λ (t : Tables). KeepsIn store_schema (state g new).now t) (sym begins.1.1) made),
           )
+
+  -- A database that was opened for a task and prepared is ready for it.
+  pub is_prepared : (image : Image) (task : Task) (base : List ℕ) (database : StoreDatabase S) (reads_only : Bool)
+      (conn : Held S) → reads_only ≡ only_reads task → IsOpenedFor task database → OpensFrom g image database.conn
+      → PreparesStore g database.opening reads_only base database.conn (Ok tt) conn → conn.in_transaction ≡ false
+      → KeepsTables (state g database.conn) (state g conn) → Settles (state g database.conn) (state g conn)
+      → IsPreparedFor g image task base conn
+  is_prepared image task base database reads_only conn reads opens opened prepares idle keeps settles = record {
+    database = database;
+    opens_it = opens;
+    is_opened = opened;
+    prepares = subst (λ (reads_only : Bool). PreparesStore g database.opening reads_only base database.conn (Ok tt) conn)
+        reads prepares;
+    ready = record {
+      idle = idle;
+      serves = prepared_serves image database.opening reads_only base database.conn conn opened prepares keeps settles;
+    };
+  }

@@ -1,5 +1,5 @@
 -- The jobs that the program opens.
-use Rattle.std.specs.Prelude.{◌≡◌, Bool, List, ℕ, IfSome, is_some, Option, Some, None, Result, Ok, Err}
+use Rattle.std.specs.Prelude.{◌≡◌, Bool, false, List, ℕ, IfSome, is_some, Option, Some, None, Result, Ok, Err}
 use Rattle.std.specs.Global.{Global}
 use Rattle.std.specs.declared.fs.File.{File}
 use Rattle.std.specs.declared.net.tcp.TcpListener.{TcpListener}
@@ -30,12 +30,13 @@ use Rattle.thes_jobs.specs.declared.starting.StoreDatabase.{StoreDatabase}
 use Rattle.thes_jobs.specs.declared.work.DatabaseWork.{DatabaseWork}
 use Rattle.thes_jobs.specs.declared.work.MemoryWork.{MemoryWork}
 
--- The connection of a job over a store in files with these contents is ready for it, with this base.
-abbrev pub IsReadyJob : {S O : Type 0} → Ghosts S → Image → List ℕ → OpenJob S O → Type 0
-IsReadyJob g image base (InFile work) = IsReadyConnection g image base work.conn
-IsReadyJob g image base (InMemory work) = Unit {0}
-IsReadyJob g image base (Migration file conn) = IsReadyConnection g image base conn
-IsReadyJob g image base Version = Unit {0}
+-- The connection of work over a store in files with these contents is ready for it, and that of a migration is in no
+-- transaction.
+abbrev pub IsReadyJob : {S O : Type 0} → Ghosts S → Image → OpenJob S O → Type 0
+IsReadyJob g image (InFile work) = IsReadyConnection g image work.setting.base work.conn
+IsReadyJob g image (InMemory work) = Unit {0}
+IsReadyJob g image (Migration file conn) = conn.in_transaction ≡ false
+IsReadyJob g image Version = Unit {0}
 
 -- A listener for progress, if there is one, reports the rows of an import exactly when the task is one.
 abbrev pub ListensTo : {R : Type 0} → Task → Option (Screen R) → Type 0
@@ -50,12 +51,13 @@ job_in_memory task setting = record { task = task; file = None; setting = settin
 
 module _ {S : Type 0} (store : Ghosts S) (image : Image) where
   -- The connection is that of a database that was opened for the task, and in which nothing was done but that the tables
-  -- of a new store were made, with this base, if it was to have them.
+  -- of a new store were made, with this base, if it was to have them. It is ready for the task.
   pub record IsPreparedFor (task : Task) (base : List ℕ) (conn : Held S) : Type 0 where
     pub database : StoreDatabase S
     pub opens_it : IsOpenedFor task database
     pub is_opened : OpensFrom store image database.conn
     pub prepares : PreparesStore store database.opening (only_reads task) base database.conn (Ok tt) conn
+    pub ready : IsReadyConnection store image base conn
 
   -- The work over the store in the file of a job.
   pub record IsDatabaseWork {O R F L : Type 0} (job : Job) (work : DatabaseWork S O (Option (Screen R)) F L) : Type 0 where
@@ -117,8 +119,3 @@ module _ {S : Type 0} (store : Ghosts S) (image : Image) where
   abbrev pub OpensPlan : {O : Type 0} → Result Job EarlyExit → Result (OpenJob S O) (FailedStart S) → Type 0
   OpensPlan (Ok job) opened = OpensJob job opened
   OpensPlan (Err early_exit) opened = opened ≡ Err (record { failure = failures.EarlyExit early_exit; conn = None })
-
--- The job of a command line, if it was opened, is ready with the base of its setting.
-abbrev pub IsReadyPlan : {S O : Type 0} → Ghosts S → Image → Result Job EarlyExit → OpenJob S O → Type 0
-IsReadyPlan g image (Ok job) opened = IsReadyJob g image job.setting.base opened
-IsReadyPlan g image (Err early_exit) opened = ⊥

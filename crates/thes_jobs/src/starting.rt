@@ -8,7 +8,7 @@ ghost use Rattle.thes_jobs.specs.NewStore.{MakesStore, PreparesStore};
 ghost use Rattle.thes_jobs.specs.OpenStore.{ChoosesOpening, IsOpenedFor, IsUnopenedDatabase, OpensStore};
 ghost use Rattle.thes_jobs.specs.PlannedWork as work;
 ghost use Rattle.thes_jobs.specs.PlannedWork.{IsSocketFailure, OpensPlanned};
-ghost use Rattle.thes_jobs.specs.Starting.{IsReadyJob, IsReadyPlan, ListensTo, OpensJob, OpensPlan, job_in_file, job_in_memory};
+ghost use Rattle.thes_jobs.specs.Starting.{IsReadyJob, ListensTo, OpensJob, OpensPlan, job_in_file, job_in_memory};
 
 use crate::databases::Databases;
 use crate::making::MakingMark;
@@ -304,7 +304,7 @@ fn open_over<'r, D: Databases>(
     requires opened { OpensFrom D.Engine.Store D.Opener.image store.conn }
     ensures opens { OpensJob D.Engine.Store D.Opener.image
         (job_in_file job.task job.file job.setting) result }
-    ensures ready { IfOk result (IsReadyJob D.Engine.Store D.Opener.image job.setting.base) }
+    ensures ready { IfOk result (IsReadyJob D.Engine.Store D.Opener.image) }
     ensures serves { IfErr result (λ failed.
         ServesIfOpen D.Engine.Store D.Opener.image failed.conn) }
 {
@@ -356,7 +356,7 @@ fn open_in_file<'r, D: Databases>(
 ) -> Result<OpenJob<'r, D::Engine, D::Opener>, FailedStart<D::Engine>>
     ensures opens { OpensJob D.Engine.Store D.Opener.image
         (job_in_file job.task job.file job.setting) result }
-    ensures ready { IfOk result (IsReadyJob D.Engine.Store D.Opener.image job.setting.base) }
+    ensures ready { IfOk result (IsReadyJob D.Engine.Store D.Opener.image) }
     ensures serves { IfErr result (λ failed.
         ServesIfOpen D.Engine.Store D.Opener.image failed.conn) }
 {
@@ -383,7 +383,7 @@ fn open_in_memory<D: Databases>(
     setting: StoreSetting,
 ) -> Result<OpenJob<'_, D::Engine, D::Opener>, FailedStart<D::Engine>>
     ensures opens { OpensJob D.Engine.Store D.Opener.image (job_in_memory task setting) result }
-    ensures ready { IfOk result (IsReadyJob D.Engine.Store D.Opener.image setting.base) }
+    ensures ready { IfOk result (IsReadyJob D.Engine.Store D.Opener.image) }
     ensures serves { IfErr result (λ failed.
         ServesIfOpen D.Engine.Store D.Opener.image failed.conn) }
 {
@@ -412,7 +412,7 @@ pub fn open_job<'r, D: Databases>(
     planned: Result<Job, EarlyExit>,
 ) -> Result<OpenJob<'r, D::Engine, D::Opener>, FailedStart<D::Engine>>
     ensures opens { OpensPlan D.Engine.Store D.Opener.image planned result }
-    ensures ready { IfOk result (IsReadyPlan D.Engine.Store D.Opener.image planned) }
+    ensures ready { IfOk result (IsReadyJob D.Engine.Store D.Opener.image) }
     ensures serves { IfErr result (λ failed.
         ServesIfOpen D.Engine.Store D.Opener.image failed.conn) }
 {

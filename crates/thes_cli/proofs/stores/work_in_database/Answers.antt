@@ -10,7 +10,7 @@ returns g c = record {
   works = subst (λ (k : ReopeningView _).
       WorksOverKeeper (storage_still g.S.Store) (IsStillOpen g.S.Store) (FindsStill g.S.Store) g.F.Read.remaining
       g.R.Read.remaining g.W.Write.contents g.E.Write.contents c.args.job.work (Some (string_bytes c.args.job.file))
-      c.args.job.limits k c.args.streams.now c.work_with_progress-status.result.0 c.work_with_progress-status.result.1
+      c.args.job.setting.limits k c.args.streams.now c.work_with_progress-status.result.0 c.work_with_progress-status.result.1
       c.work_with_progress-status.new.streams) c.new-keeper.ensures c.work_with_progress-status.ensures;
   back_is = c.leave.ensures.first;
   returns = c.leave.ensures.returns;

@@ -15,6 +15,6 @@ returns g c =
     (subst IsBase c.as_str.ensures.text c.as_str.ensures.form)
     (subst (λ (t : Tables). WorksOverKeeper storage_in_memory (λ (t : Tables). Unit {0})
     (λ (t : Tables) (raw : Raw). raw ≡ cells_of_tables t) g.F.Read.remaining g.R.Read.remaining
-    g.W.Write.contents g.E.Write.contents c.args.job.work None c.args.job.limits t c.args.streams.now
+    g.W.Write.contents g.E.Write.contents c.args.job.work None c.args.job.setting.limits t c.args.streams.now
     c.work_with_progress-status.result.0 c.work_with_progress-status.result.1 c.work_with_progress-status.new.streams)
     c.new-keeper.ensures c.work_with_progress-status.ensures)

@@ -3,7 +3,7 @@ use Rattle.sqlite.specs.Held.{state}
 use Rattle.thes_sqlite.specs.DatabaseFiles.{HoldsStore}
 use Rattle.thes_jobs.specs.Starting.{lost, unprepared}
 use Rattle.thes_jobs.proofs.DatabaseLemmas.{serves_after}
-use Rattle.thes_jobs.proofs.PreparedLemmas.{prepared_serves}
+use Rattle.thes_jobs.proofs.PreparedLemmas.{is_prepared, prepared_serves}
 use Rattle.thes_jobs.proofs.StartingLemmas.{migrates}
 use Rattle.thes_jobs.proofs.starting.open_over.Goals as goal
 
@@ -34,12 +34,11 @@ returns-in-Err-prepare_store-clause-serves g c = rw c.failed_over-in-Err-prepare
 pub returns-in-Err-reopener-clause-opens : goal.returns-in-Err-reopener-clause-opens
 returns-in-Err-reopener-clause-opens g c = rw c.failed_over-in-Err-reopener.ensures (
   refl,
-  lost refl c.prepare_store.new.store.conn refl (record {
-    database = c.args.store;
-    opens_it = c.requires.opens;
-    is_opened = c.requires.opened;
-    prepares = rw (← c.only_reads-reads_only.ensures) c.in-Ok-prepare_store.ensures.prepares;
-  }),
+  lost refl c.prepare_store.new.store.conn refl
+      (is_prepared g.D.Databases.Engine.Store g.D.Databases.Opener.HeldTables.image c.args.job.task
+      c.args.job.setting.base c.args.store c.only_reads-reads_only.result c.prepare_store.new.store.conn
+      c.only_reads-reads_only.ensures c.requires.opens c.requires.opened c.in-Ok-prepare_store.ensures.prepares
+      c.prepare_store.ensures.idle c.prepare_store.ensures.keeps c.prepare_store.ensures.settles),
 )
 
 pub returns-in-Err-reopener-clause-serves : goal.returns-in-Err-reopener-clause-serves
@@ -52,12 +51,10 @@ returns-in-Some-clause-opens g c = rw c.into_connection-conn.ensures (record {
   does = rw c.in-Some.is at c.in-Ok.ensures;
   file = refl;
   setting = refl;
-  connects = record {
-    database = c.args.store;
-    opens_it = c.requires.opens;
-    is_opened = c.requires.opened;
-    prepares = rw (← c.only_reads-reads_only.ensures) c.in-Ok-prepare_store.ensures.prepares;
-  };
+  connects = is_prepared g.D.Databases.Engine.Store g.D.Databases.Opener.HeldTables.image c.args.job.task
+      c.args.job.setting.base c.args.store c.only_reads-reads_only.result c.prepare_store.new.store.conn
+      c.only_reads-reads_only.ensures c.requires.opens c.requires.opened c.in-Ok-prepare_store.ensures.prepares
+      c.prepare_store.ensures.idle c.prepare_store.ensures.keeps c.prepare_store.ensures.settles;
   listens = c.screen_of-progress.ensures;
 })
 
@@ -65,25 +62,14 @@ pub returns-clause-opens : goal.returns-clause-opens
 returns-clause-opens g c = rw c.into_connection-conn.ensures (
   migrates _ _ c.args.job.task (is_some c.screen_of-progress.result) (rw c.in-None.is at c.in-Ok.ensures),
   refl,
-  record {
-    database = c.args.store;
-    opens_it = c.requires.opens;
-    is_opened = c.requires.opened;
-    prepares = rw (← c.only_reads-reads_only.ensures) c.in-Ok-prepare_store.ensures.prepares;
-  },
+  is_prepared g.D.Databases.Engine.Store g.D.Databases.Opener.HeldTables.image c.args.job.task
+      c.args.job.setting.base c.args.store c.only_reads-reads_only.result c.prepare_store.new.store.conn
+      c.only_reads-reads_only.ensures c.requires.opens c.requires.opened c.in-Ok-prepare_store.ensures.prepares
+      c.prepare_store.ensures.idle c.prepare_store.ensures.keeps c.prepare_store.ensures.settles,
 )
 
 pub returns-in-Some-clause-ready : goal.returns-in-Some-clause-ready
 returns-in-Some-clause-ready g c = rw c.into_connection-conn.ensures (record {
-  idle = c.prepare_store.ensures.idle;
-  serves = prepared_serves g.D.Databases.Engine.Store g.D.Databases.Opener.HeldTables.image c.args.store.opening
-      c.only_reads-reads_only.result c.args.job.setting.base c.args.store.conn c.prepare_store.new.store.conn
-      c.requires.opened c.in-Ok-prepare_store.ensures.prepares c.prepare_store.ensures.keeps
-      c.prepare_store.ensures.settles;
-})
-
-pub returns-clause-ready : goal.returns-clause-ready
-returns-clause-ready g c = rw c.into_connection-conn.ensures (record {
   idle = c.prepare_store.ensures.idle;
   serves = prepared_serves g.D.Databases.Engine.Store g.D.Databases.Opener.HeldTables.image c.args.store.opening
       c.only_reads-reads_only.result c.args.job.setting.base c.args.store.conn c.prepare_store.new.store.conn
