@@ -1,6 +1,10 @@
 -- Proves how the files of a job end, whether its work was done, couldn't begin, or was a migration.
 use Rattle.std.proofs.Common.{◌≡◌, ◌∙◌, inl, inr, refl, sym, ap, subst, ℕ, List, Option, Some, None, Result, Ok, Err, false, arith}
 use Rattle.std.specs.Prelude.{IfOk, IfSome, IsSomeAnd, MatchOption}
+use Rattle.std.specs.Global.{Global}
+use Rattle.std.specs.declared.fs.File.{File}
+use Rattle.std.specs.declared.net.tcp.TcpListener.{TcpListener}
+use Rattle.std.specs.declared.string.String.{String}
 use Rattle.sqlite.specs.Effect.{Database}
 use Rattle.sqlite.specs.Held.{Held, state}
 use Rattle.sqlite.specs.Schema.{Schema}
@@ -23,6 +27,7 @@ use Rattle.thes_jobs.specs.Starting.{IsOpenFailure, OpensPlan}
 use Rattle.thes_jobs.specs.declared.starting.FailedStart.{FailedStart}
 use Rattle.thes_jobs.specs.declared.starting.OpenJob.{OpenJob}
 use Rattle.thes_jobs.specs.declared.starting.OpenJob.TheVariants.{InFile, InMemory, Migration, Version}
+use Rattle.thes_jobs.specs.declared.work.DatabaseWork.{DatabaseWork}
 use Rattle.thes_cli.specs.Running.{EndsInFiles, LeadsIfClosed, LeavesNoFiles, MigratesInFile, PrintsStartFault}
 use Rattle.thes_cli.specs.Running.{ReportsNoJob, by_migration, by_work, without_work}
 use Rattle.thes_cli.specs.Stores.{ClosesLeft, EndsIfClosed, LeadsInFiles, WorksToClosing, closed_from}
@@ -105,7 +110,7 @@ module _ {S : Type 0} (g : Ghosts S) (image : Image) {E C : Type 0} (err : E →
 
   -- Files whose store was migrated hold a store of version 2 as before.
   pub leads_by_migration : {R W O : Type 0} (out : W → Option (List ℕ)) (planned : Result Job EarlyExit)
-      (old new : Streams R W E) (status : ℕ) (file : _) (conn : Held S) (closed : Closed C)
+      (old new : Streams R W E) (status : ℕ) (file : String Global) (conn : Held S) (closed : Closed C)
       → OpensPlan g image {O = O} planned (Ok (Migration file conn))
       → MigratesInFile out err g old status new is_clean holds file conn closed
       → LeadsIfClosed err image is_clean holds planned old.errors new.errors status closed
@@ -124,9 +129,9 @@ module _ {S : Type 0} (g : Ghosts S) (image : Image) {E C : Type 0} (err : E →
       migrates.closes_it.files)
 
   -- The files of a job whose work was done end as those of this work.
-  pub leads_by_work : {F R W O : Type 0} (given : F → Option (List ℕ)) (remaining : R → Option (List ℕ))
+  pub leads_by_work : {R W O : Type 0} (given : File → Option (List ℕ)) (remaining : R → Option (List ℕ))
       (out : W → Option (List ℕ)) (planned : Result Job EarlyExit) (old new : Streams R W E) (status : ℕ)
-      (work : _) (closed : Closed C) → OpensPlan g image {O = O} planned (Ok (InFile work))
+      (work : DatabaseWork S O _ File TcpListener) (closed : Closed C) → OpensPlan g image {O = O} planned (Ok (InFile work))
       → WorksToClosing given remaining out err g image is_clean holds work old status closed new
       → LeadsIfClosed err image is_clean holds planned old.errors new.errors status closed
   leads_by_work given remaining out (Err early_exit) old new status work closed opens works = tt

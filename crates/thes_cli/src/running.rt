@@ -89,7 +89,10 @@ fn run_job<D: Databases, R: Read, W: Write, E: Write>(
     match open_job(rt, databases, image, planned) {
         Ok(OpenJob::InFile(job)) => work_and_close(rt.alloc(), rt, databases, job, streams),
         Ok(OpenJob::InMemory(job)) => {
-            (work_in_memory(rt.alloc(), rt, job, streams), without_files())
+            (
+                work_in_memory(rt.alloc(), rt, job, streams),
+                without_files(),
+            )
         }
         Ok(OpenJob::Migration(file, conn)) => migrate(rt, databases, file, conn, streams),
         Ok(OpenJob::Version) => {

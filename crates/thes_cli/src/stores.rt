@@ -123,8 +123,9 @@ pub fn work_and_close<
     ensures { WorksToClosing F.remaining R.remaining W.contents E.contents D.Engine.Store
         D.Opener.image D.is_clean D.holds job streams.old result.0 result.1 streams.new }
 {
-    let (status, left) =
-        work_in_database::<N, D::Engine, D::Opener, P, F, R, W, E>(alloc, clock, job, streams);
+    let (status, left) = work_in_database::<N, D::Engine, D::Opener, P, F, R, W, E>(
+        alloc, clock, job, streams,
+    );
     (status, close_left(databases, left))
 }
 

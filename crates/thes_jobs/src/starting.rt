@@ -319,7 +319,13 @@ fn open_over<'r, D: Databases>(
         Ok(work) => work,
         Err(unopened) => return Err(failed_over(StartFailure::Unopened(unopened), store)),
     };
-    match prepare_store(&mut store, reads_only, progress, file.as_str(), &setting.base) {
+    match prepare_store(
+        &mut store,
+        reads_only,
+        progress,
+        file.as_str(),
+        &setting.base,
+    ) {
         Ok(()) => {}
         Err((trouble, fault)) => {
             return Err(failed_over(StartFailure::InStore(file, trouble, fault), store));
