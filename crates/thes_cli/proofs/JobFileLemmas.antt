@@ -1,6 +1,6 @@
 -- Proves how the files of a job end, whether its work was done, couldn't begin, or was a migration.
 use Rattle.std.proofs.Common.{◌≡◌, ◌∙◌, inl, inr, refl, sym, ap, subst, ℕ, List, Option, Some, None, Result, Ok, Err, false, arith}
-use Rattle.std.specs.Prelude.{IfOk, IfSome, IsSomeAnd, MatchOption}
+use Rattle.std.specs.Prelude.{IfOk, IfSome, IsSomeAnd, MatchOption, string_bytes}
 use Rattle.std.specs.Global.{Global}
 use Rattle.std.specs.declared.fs.File.{File}
 use Rattle.std.specs.declared.net.tcp.TcpListener.{TcpListener}
@@ -17,9 +17,10 @@ use Rattle.thes_sql.specs.StoredRows.{KeepsIn}
 use Rattle.thes_sqlite.specs.DatabaseFiles.{IsInitialStore, HoldsStore}
 use Rattle.thes_sqlite.specs.KeeperView.{IsUp, ServesTables}
 use Rattle.thes_sqlite.specs.MigrationEffects.{IsUnwritten, Migrates}
-use Rattle.thes_command_line.specs.StartFailure.{ReportsStartFailure}
+use Rattle.thes_command_line.specs.Printing.{file_fault_lines, open_failure_line}
 use Rattle.thes_command_line.specs.declared.arguments.EarlyExit.{EarlyExit}
 use Rattle.thes_command_line.specs.declared.arguments.Job.{Job}
+use Rattle.thes_command_line.specs.declared.arguments.StoreSetting.{StoreSetting}
 use Rattle.thes_command_line.specs.declared.start_failure.StartFailure.{StartFailure}
 use Rattle.thes_command_line.specs.declared.start_failure.StartFailure.TheVariants as failures
 use Rattle.thes_jobs.specs.Databases.{ClosesStore, ServesIfOpen}
@@ -30,7 +31,7 @@ use Rattle.thes_jobs.specs.declared.starting.OpenJob.TheVariants.{InFile, InMemo
 use Rattle.thes_jobs.specs.declared.work.DatabaseWork.{DatabaseWork}
 use Rattle.thes_cli.specs.Running.{EndsInFiles, LeadsIfClosed, LeavesNoFiles, MigratesInFile, PrintsStartFault}
 use Rattle.thes_cli.specs.Running.{ReportsNoJob, by_migration, by_work, without_work}
-use Rattle.thes_cli.specs.Stores.{ClosesLeft, EndsIfClosed, LeadsInFiles, WorksToClosing, closed_from}
+use Rattle.thes_cli.specs.Stores.{ClosesLeft, EndsIfClosed, LeadsInFiles, WorksToClosing, open_leaving}
 use Rattle.thes_cli.specs.declared.closing.Closed.{Closed}
 use Rattle.thes_cli.specs.declared.streams.Streams.{Streams}
 
@@ -38,13 +39,18 @@ if_some_weaker : {A : Type 0} (o : Option A) (P Q : A → Type 0) → ((x : A) �
 if_some_weaker None P Q so is = tt
 if_some_weaker (Some x) P Q so is = so x is
 
+if_some : {A : Type 0} (o : Option A) (P : A → Type 0) → IsSomeAnd o P → IfSome o P
+if_some None P is = tt
+if_some (Some x) P is = is
+
 -- What holds of each connection that was closed holds of the files that are left.
-of_closed : {A C : Type 0} (conn : Option A) (files : Option C) (Closes : A → C → Type 0) (P : A → Type 0) (Q : C → Type 0)
+of_closed : {A C : Type 0} (conn : Option A) (files : Option C) (Closes : A → C → Type 0) (P : A → Type 0)
+    (Q : C → Type 0)
     → ((a : A) (f : C) → P a → Closes a f → Q f) → IfSome conn P
     → MatchOption conn (files ≡ None) (λ a. IsSomeAnd files (Closes a)) → IfSome files Q
-of_closed None files Closes P Q so is closes = subst (λ o. IfSome o Q) (sym closes) tt
-of_closed (Some a) None Closes P Q so is closes = tt
-of_closed (Some a) (Some f) Closes P Q so is closes = so a f is closes
+of_closed {A} {C} None files Closes P Q so is closes = subst (λ (o : Option C). IfSome o Q) (sym closes) tt
+of_closed {A} {C} (Some a) None Closes P Q so is closes = tt
+of_closed {A} {C} (Some a) (Some f) Closes P Q so is closes = so a f is closes
 
 module _ {S : Type 0} (g : Ghosts S) (image : Image) {E C : Type 0} (err : E → Option (List ℕ))
     (is_clean : C → Type 0) (holds : C → Schema → Tables → Type 0) where
@@ -63,14 +69,14 @@ module _ {S : Type 0} (g : Ghosts S) (image : Image) {E C : Type 0} (err : E →
       → ReportsNoJob out err g old status new failure → PrintsStartFault err old.errors new.errors status
   prints_fault out old new status job (failures.EarlyExit early_exit) conn failed reports = absurd failed
   prints_fault out old new status job (failures.Unopened failure) conn failed reports = record {
-    text = _;
+    text = open_failure_line failure;
     is_fault = inl (failure, refl);
     prints_it = reports.reports.0;
     status_is = reports.reports.1.1;
   }
   prints_fault out old new status job (failures.InStore file trouble fault) conn failed reports = record {
-    text = _;
-    is_fault = inr (_, trouble, fault, refl);
+    text = file_fault_lines (string_bytes file) trouble fault;
+    is_fault = inr (string_bytes file, trouble, fault, refl);
     prints_it = reports.reports.0;
     status_is = reports.reports.1.1;
   }
@@ -79,7 +85,7 @@ module _ {S : Type 0} (g : Ghosts S) (image : Image) {E C : Type 0} (err : E →
   pub leads_without_work : {R W O : Type 0} (out : W → Option (List ℕ)) (planned : Result Job EarlyExit)
       (old new : Streams R W E) (status : ℕ) (failed : FailedStart S) (closed : Closed C)
       → OpensPlan g image {O = O} planned (Err failed) → ServesIfOpen g image failed.conn
-      → ReportsNoJob out err g old status new failed.failure → ClosesLeft g is_clean holds (closed_from failed.conn) closed
+      → ReportsNoJob out err g old status new failed.failure → ClosesLeft g is_clean holds (open_leaving failed.conn) closed
       → LeadsIfClosed err image is_clean holds planned old.errors new.errors status closed
   leads_without_work out (Err early_exit) old new status failed closed opens serves reports closes = tt
   leads_without_work out (Ok job) old new status failed closed opens serves reports closes = λ kept.
@@ -102,9 +108,9 @@ module _ {S : Type 0} (g : Ghosts S) (image : Image) {E C : Type 0} (err : E →
       let same = migrates.none up in
       subst (λ (d : Database). KeepsIn schema d t) (sym same.0) keeps
 
-  was_up : (conn back : Held S) (result : Result ℕ Fault) → Migrates g conn back result → IsUp (state g back)
+  was_up_before : (conn back : Held S) (result : Result ℕ Fault) → Migrates g conn back result → IsUp (state g back)
       → IsUp (state g conn)
-  was_up conn back result migrates up =
+  was_up_before conn back result migrates up =
       let doubt = migrates.crash.clean in
       let clean = up.0 in (omega (arith, doubt, clean), migrates.was up)
 
@@ -120,12 +126,11 @@ module _ {S : Type 0} (g : Ghosts S) (image : Image) {E C : Type 0} (err : E →
       (λ files closes clean schema t begins. by_migration opens.0 (
       let closing = closes clean in
       let does = migrates.migrates in
-      let up = was_up conn migrates.conn_after does.result does.migrates closing.was_up in
+      let up = was_up_before conn migrates.conn_after does.result does.migrates closing.was_up in
       let store = opens.1.1.ready.serves up schema t begins in
       closing.leaves (does.migrates.settled closing.was_up) schema t
       (unwritten conn migrates.conn_after does.result schema t does.migrates closing.was_up store.1)))
-      (of_closed (Some migrates.conn_after) closed.files _ (λ conn. conn ≡ migrates.conn_after) _
-      (λ conn files is closes. subst (λ conn. is_clean files → ClosesStore (holds files) (state g conn)) is closes) refl
+      (if_some closed.files (λ files. is_clean files → ClosesStore (holds files) (state g migrates.conn_after))
       migrates.closes_it.files)
 
   -- The files of a job whose work was done end as those of this work.
@@ -137,5 +142,6 @@ module _ {S : Type 0} (g : Ghosts S) (image : Image) {E C : Type 0} (err : E →
   leads_by_work given remaining out (Err early_exit) old new status work closed opens works = tt
   leads_by_work given remaining out (Ok job) old new status work closed opens works = λ kept.
       if_some_weaker closed.files _ _ (λ files leads clean schema t begins.
-      by_work (leads clean schema t (subst (λ setting. IsInitialStore image setting.base schema t) (sym opens.setting) begins)))
+      by_work (leads clean schema t (subst (λ (setting : StoreSetting). IsInitialStore image setting.base
+      schema t) (sym opens.setting) begins)))
       (works.leads kept)

@@ -24,7 +24,7 @@ use Rattle.thes_jobs.specs.Starting.{IsReadyJob, OpensPlan}
 use Rattle.thes_jobs.specs.declared.starting.FailedStart.{FailedStart}
 use Rattle.thes_jobs.specs.declared.starting.OpenJob.{OpenJob}
 use Rattle.thes_jobs.specs.declared.starting.OpenJob.TheVariants.{InFile, InMemory, Migration, Version}
-use Rattle.thes_cli.specs.Stores.{ClosesLeft, EndsIfClosed, LeadsInFiles, WorksInMemory, WorksToClosing, closed_from}
+use Rattle.thes_cli.specs.Stores.{ClosesLeft, EndsIfClosed, LeadsInFiles, WorksInMemory, WorksToClosing, open_leaving}
 use Rattle.thes_cli.specs.declared.closing.Closed.{Closed}
 use Rattle.thes_cli.specs.declared.streams.Streams.{Streams}
 
@@ -66,7 +66,7 @@ module _ {R W E S : Type 0} (out : W → Option (List ℕ)) (err : E → Option 
       (file : String Global) (conn : Held S) (closed : Closed C) : Type 0 where
     pub input : new.input ≡ old.input
     pub conn_after : Held S
-    pub closes_it : ClosesLeft store is_clean holds (closed_from (Some conn_after)) closed
+    pub closes_it : ClosesLeft store is_clean holds (open_leaving (Some conn_after)) closed
     pub migrates : MigratesDatabase out err old.output new.output old.errors new.errors store (string_bytes file) conn
         status conn_after
 
@@ -96,7 +96,7 @@ module _ {R W E S C : Type 0} (given : File → Option (List ℕ)) (remaining : 
   DoesOpened (Ok Version) old status closed new = PrintsVersion out err store old status new × LeavesNoFiles closed
   DoesOpened (Err failed) old status closed new =
       ReportsNoJob out err store old status new failed.failure
-      × ClosesLeft store is_clean holds (closed_from failed.conn) closed
+      × ClosesLeft store is_clean holds (open_leaving failed.conn) closed
 
   -- The job of a command line was opened as the command line says, and done. The database of work over a store is the
   -- one that was opened in files with these contents.

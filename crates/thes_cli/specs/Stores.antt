@@ -76,9 +76,9 @@ EndsIfClosed image base is_clean closed Ends =
     closed.is_reopened ≡ false → IfSome closed.files (λ files. is_clean files → (schema : Schema) (t : Tables)
     → IsInitialStore image base schema t → Ends files schema t)
 
--- The database of a job was closed that left this connection, if it left one, and that no failure has shut.
-abbrev pub closed_from : {S : Type 0} → Option (Held S) → Leaving S
-closed_from conn = record { conn = conn; is_in_doubt = false; is_reopened = false }
+-- What a job leaves whose database no failure has shut: this connection, if there is one.
+abbrev pub open_leaving : {S : Type 0} → Option (Held S) → Leaving S
+open_leaving conn = record { conn = conn; is_in_doubt = false; is_reopened = false }
 
 module _ {S : Type 0} (store : Ghosts S) where
   -- The database was closed, if there is one.

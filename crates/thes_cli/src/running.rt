@@ -4,7 +4,7 @@ ghost use Rattle.sqlite_wal.specs.Files.{image_at};
 ghost use Rattle.thes_jobs.specs.Databases.{AreCleanFiles, HoldTables};
 ghost use Rattle.thes_jobs.specs.declared.store_files.StoreFiles.{StoreFiles};
 ghost use Rattle.thes_cli.specs.Running.{LeadsIfClosed, LeavesNoFiles, MigratesInFile, ReportsNoJob, RunsPlan};
-ghost use Rattle.thes_cli.specs.Stores.{ClosesLeft, closed_from};
+ghost use Rattle.thes_cli.specs.Stores.{ClosesLeft, open_leaving};
 ghost use Rattle.thes_cli.specs.Streams.{AreFresh};
 
 use crate::closing::Closed;
@@ -51,7 +51,7 @@ fn report_no_job<D: Databases, R, W: Write, E: Write>(
     requires { AreFresh streams.old }
     ensures reports { ReportsNoJob W.contents E.contents D.Engine.Store streams.old result.0
         streams.new failed.failure }
-    ensures closes { ClosesLeft D.Engine.Store D.is_clean D.holds (closed_from failed.conn)
+    ensures closes { ClosesLeft D.Engine.Store D.is_clean D.holds (open_leaving failed.conn)
         result.1 }
 {
     let FailedStart { failure, conn } = failed;

@@ -1,6 +1,6 @@
 //! Work over the stores of the program: in a database, and in memory.
 ghost use Rattle.thes_jobs.specs.Databases.{IsReadyConnection};
-ghost use Rattle.thes_cli.specs.Stores.{ClosesLeft, WorksInDatabase, WorksInMemory, WorksToClosing, closed_from};
+ghost use Rattle.thes_cli.specs.Stores.{ClosesLeft, WorksInDatabase, WorksInMemory, WorksToClosing, open_leaving};
 ghost use Rattle.thes_cli.specs.Streams.{AreFresh};
 
 use crate::closing::Closed;
@@ -91,7 +91,7 @@ pub fn close_open<D: Databases>(
     databases: &D,
     conn: Option<Connection<D::Engine>>,
 ) -> Closed<D::Left>
-    ensures { ClosesLeft D.Engine.Store D.is_clean D.holds (closed_from conn) result }
+    ensures { ClosesLeft D.Engine.Store D.is_clean D.holds (open_leaving conn) result }
 {
     let left = Leaving {
         conn,

@@ -1,14 +1,5 @@
-use Rattle.std.proofs.Common.{Ok, Err}
 use Rattle.thes_cli.proofs.JobFileLemmas.{leads_by_migration, leads_by_work, leads_without_files, leads_without_work}
 use Rattle.thes_cli.proofs.running.run_job.Goals as goal
-
-pub returns-in-Ok-InFile-clause-runs : goal.returns-in-Ok-InFile-clause-runs
-returns-in-Ok-InFile-clause-runs g c = record {
-  open_job = Ok c.in-Ok-InFile.field-0;
-  opens_it = c.in-Ok-InFile.ensures.opens;
-  ready = c.in-Ok-InFile.ensures.ready;
-  does = rw c.in-Ok-InFile.field-0-is c.work_and_close.ensures;
-}
 
 pub returns-in-Ok-InFile-clause-leads : goal.returns-in-Ok-InFile-clause-leads
 returns-in-Ok-InFile-clause-leads g c =
