@@ -319,13 +319,8 @@ fn open_over<'r, D: Databases>(
         Ok(work) => work,
         Err(unopened) => return Err(failed_over(StartFailure::Unopened(unopened), store)),
     };
-    match prepare_store(
-        &mut store,
-        reads_only,
-        progress,
-        file.as_str(),
-        &setting.base,
-    ) {
+    let base = &setting.base;
+    match prepare_store(&mut store, reads_only, progress, file.as_str(), base) {
         Ok(()) => {}
         Err((trouble, fault)) => {
             return Err(failed_over(StartFailure::InStore(file, trouble, fault), store));
