@@ -33,12 +33,6 @@ if_some_weaker (Some x) P Q so is = so x is
 the_value : {A : Type 0} {x y : A} → (let a : Option A = Some x in a) ≡ Some y → x ≡ y
 the_value same = cc
 
--- Work over the same files with another base begins with a store in the same schema.
-is_initial_also : (image : Image) (base other : List ℕ) (schema : Schema) (t : Tables) → IsInitialStore image base schema t
-    → (also : Tables) × IsInitialStore image other schema also
-is_initial_also image base other schema t (inl held) = (t, inl held)
-is_initial_also image base other schema t (inr new) = (empty_tables other, inr (new.0, (new.1.0, refl)))
-
 module _ {S : Type 0} (g : Ghosts S) where
   open_first : (first : Option (KeeperView S)) → IsServingFirst g first → IsOpenFirst g first
   open_first None up = up
@@ -56,18 +50,16 @@ module _ {S : Type 0} (g : Ghosts S) where
       (conn : Held S) (schema : Schema) (t : Tables) → ReturnsFirst g image keeper back → back ≡ Some conn
       → IsUp (state g conn) → IsInitialStore image base schema t → ServesReturned schema keeper conn
   returned_serves image base keeper back conn schema t returns is up begins =
-      let other = returns.of_files.0 in
-      let also = is_initial_also image base other schema t begins in
       let one : returns.keeper.conn ≡ conn = the_value (sym returns.conn_is ∙ is) in
       let up_then : IsUp (state g returns.keeper.conn) = subst (λ (c : Held S). IsUp (state g c)) (sym one) up in
       let known : IsStore (state g returns.keeper.first) =
-      λ up_first. let x = returns.of_files.1 up_first schema also.0 also.1 in
-      record { settled = x.0; keeps = (also.0, x.1.keeps) } in
+      λ up_first. let x = returns.of_files up_first base schema t begins in
+      record { settled = x.settled; keeps = (x.tables, x.keeps.keeps) } in
       let store = returns.kept.served known up_then in
       let keeps = store.keeps in
       let same = returns.kept.same known up_then in
       let keeps_in : KeepsIn schema (state g returns.keeper.conn).now keeps.0 = record {
-        schema_is = same.1 ∙ (returns.of_files.1 same.0 schema also.0 also.1).1.schema_is;
+        schema_is = same.1 ∙ (returns.of_files same.0 base schema t begins).keeps.schema_is;
         keeps = keeps.1;
       } in record {
         is_up = subst (IsServingFirst g) (sym returns.first_is) (known, up_then);

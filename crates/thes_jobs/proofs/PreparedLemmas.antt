@@ -1,15 +1,15 @@
 -- Proves that a database which was prepared is the store with which work over its files begins.
-use Rattle.std.proofs.Common.{◌≡◌, Bool, true, false, IsTrue, List, ℕ, Ok, sym, subst, inl, inr}
+use Rattle.std.proofs.Common.{◌≡◌, Bool, true, false, IsTrue, List, ℕ, Ok, refl, sym, subst, inl, inr}
 use Rattle.sqlite.specs.Held.{Held, state}
 use Rattle.sqlite.specs.Schema.{Schema}
-use Rattle.sqlite.specs.State.{HasCleanDisk}
+use Rattle.sqlite.specs.State.{State, HasCleanDisk}
 use Rattle.sqlite_trees.specs.declared.store.Store.{Ghosts}
 use Rattle.sqlite_wal.specs.Recovery.{Image}
 use Rattle.thes_tables.specs.Tables.{Tables, empty_tables}
 use Rattle.thes_sql.specs.Schema.{empty_schema, store_schema}
 use Rattle.thes_sql.specs.StoredRows.{KeepsIn}
 use Rattle.thes_sql.specs.TransactionEffects.{IsEmpty}
-use Rattle.thes_sqlite.specs.DatabaseFiles.{IsInitialStore, HoldsStore}
+use Rattle.thes_sqlite.specs.DatabaseFiles.{IsInitialStore, HoldsStore, ServesFiles}
 use Rattle.thes_sqlite.specs.KeeperView.{ServesTables}
 use Rattle.thes_command_line.specs.Opening.{only_reads, preparation_of}
 use Rattle.thes_command_line.specs.declared.arguments.Task.{Task}
@@ -71,3 +71,21 @@ module _ {S : Type 0} (g : Ghosts S) where
       serves = prepared_serves image database.opening reads_only base database.conn conn opened prepares keeps settles;
     };
   }
+
+-- Work over the same files with another base begins with a store in the same schema.
+is_initial_also : (image : Image) (base other : List ℕ) (schema : Schema) (t : Tables)
+    → IsInitialStore image base schema t → (also : Tables) × IsInitialStore image other schema also
+is_initial_also image base other schema t (inl held) = (t, inl held)
+is_initial_also image base other schema t (inr new) = (empty_tables other, inr (new.0, (new.1.0, refl)))
+
+-- A database that is the store with which work with some base begins is that of its files.
+pub serves_files : (image : Image) (base : List ℕ) (s : State) → ServesTables (IsInitialStore image base) s
+    → ServesFiles image s
+serves_files image base s serves = λ up other schema t initial.
+    let also = is_initial_also image other base schema t initial in
+    let store = serves up schema also.0 also.1 in record {
+      settled = store.0;
+      tables = also.0;
+      keeps = store.1;
+      held = λ held. let same = serves up schema t (inl held) in same.1;
+    }

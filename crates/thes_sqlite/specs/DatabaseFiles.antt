@@ -12,7 +12,7 @@ use Rattle.sqlite.specs.State.{State}
 use Rattle.thes_tables.specs.Tables.{Tables, empty_tables}
 use Rattle.thes_sql.specs.Schema.{empty_schema, store_schema}
 use Rattle.thes_sql.specs.StoredRows.{KeepsIn}
-use Rattle.thes_sqlite.specs.KeeperView.{IsUp, ServesTables}
+use Rattle.thes_sqlite.specs.KeeperView.{IsUp}
 
 -- The contents of the two files are a database that is a store with this schema and these tables.
 pub record HoldsStore (image : Image) (schema : Schema) (t : Tables) : Type 0 where
@@ -31,9 +31,19 @@ abbrev pub IsInitialStore : Image → List ℕ → Schema → Tables → Type 0
 IsInitialStore image base schema t =
     HoldsStore image schema t ⊎ (IsNewFile image × (schema ≡ store_schema) × (t ≡ empty_tables base))
 
--- For some base, the database is the store with which work over files with these contents begins.
+-- Nothing in a database is uncommitted, and it is a store with this schema and some tables: with these, if files with
+-- these contents hold them.
+pub record ServesInitial (image : Image) (schema : Schema) (t : Tables) (s : State) : Type 0 where
+  pub settled : s.now ≡ s.committed
+  pub tables : Tables
+  pub keeps : KeepsIn schema s.now tables
+  pub held : HoldsStore image schema t → KeepsIn schema s.now t
+
+-- If the disk hasn't failed silently and the database is open, it is the store that files with these contents hold or, if
+-- they are new, one as the program makes it.
 abbrev pub ServesFiles : Image → State → Type 0
-ServesFiles image s = (base : List ℕ) × ServesTables (IsInitialStore image base) s
+ServesFiles image s = IsUp s → (base : List ℕ) (schema : Schema) (t : Tables) → IsInitialStore image base schema t
+    → ServesInitial image schema t s
 
 -- A database was opened in files with these contents, which may be anything. If they are a store, the database is this
 -- store, and nothing in it is uncommitted. In a new file it has no tables.
