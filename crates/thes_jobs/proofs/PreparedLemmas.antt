@@ -87,5 +87,5 @@ serves_files image base s serves = λ up other schema t initial.
       settled = store.0;
       tables = also.0;
       keeps = store.1;
-      held = λ held. let same = serves up schema t (inl held) in same.1;
+      keeps_held = λ held. let same = serves up schema t (inl held) in same.1;
     }

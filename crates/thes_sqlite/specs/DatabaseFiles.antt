@@ -37,7 +37,7 @@ pub record ServesInitial (image : Image) (schema : Schema) (t : Tables) (s : Sta
   pub settled : s.now ≡ s.committed
   pub tables : Tables
   pub keeps : KeepsIn schema s.now tables
-  pub held : HoldsStore image schema t → KeepsIn schema s.now t
+  pub keeps_held : HoldsStore image schema t → KeepsIn schema s.now t
 
 -- If the disk hasn't failed silently and the database is open, it is the store that files with these contents hold or, if
 -- they are new, one as the program makes it.
