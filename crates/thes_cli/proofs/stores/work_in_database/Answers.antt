@@ -1,6 +1,8 @@
 use Rattle.std.proofs.Common.{subst}
 use Rattle.std.specs.Prelude.{Some, string_bytes}
+use Rattle.sqlite.specs.Held.{state}
 use Rattle.thes_sqlite.specs.Reopening.{ReopeningView, storage_still, IsStillOpen, FindsStill}
+use Rattle.thes_jobs.proofs.PreparedLemmas.{serves_files}
 use Rattle.thes_cli.specs.Work.{WorksOverKeeper}
 use Rattle.thes_cli.proofs.stores.work_in_database.Goals as goal
 
@@ -16,3 +18,7 @@ returns g c = record {
   returns = c.leave.ensures.returns;
   certain = c.leave.ensures.certain;
 }
+
+pub new-keeper-requires-clause-of_files : goal.new-keeper-requires-clause-of_files
+new-keeper-requires-clause-of_files g c =
+    serves_files g.O.HeldTables.image c.args.job.setting.base (state g.S.Store c.args.job.conn) c.requires.ready.serves
