@@ -4,8 +4,10 @@ ghost use Rattle.thes_base.specs.State.{State};
 ghost use Rattle.thes_core.specs.CoreView.{IsViewOf};
 ghost use Rattle.thes_command_line.specs.Printing.{AreFreshOutputs};
 ghost use Rattle.thes_cli.specs.Checking.{sizes_of, ChecksStore, FindsSizes, ReportsSizes};
+ghost use Rattle.thes_cli.specs.Streams.{AreFresh};
 
 use crate::ending::sizes_line;
+use crate::streams::{Devices, Given};
 use std::alloc::Global;
 use std::io::Write;
 use thes_base::fault::{Fault, PipeFault};
@@ -56,16 +58,14 @@ fn report_sizes<W: Write, E: Write>(
 
 /// Prints the numbers of resources, labels, links, postings and moves in the store, and returns the
 /// exit status 0; after a fault, prints the fault and returns 3.
-pub fn check_store<K: Keeper, W: Write, E: Write>(
-    alloc: Global,
-    office: &mut Office<K>,
-    output: &mut Pipe<W>,
-    errors: &mut Pipe<E>,
-) -> u8
-    requires { AreFreshOutputs output.old errors.old }
-    ensures { ChecksStore K.view W.contents E.contents office.old output.old
-        output.new errors.old errors.new result office.new }
+pub fn check_store<T: Devices, K: Keeper>(given: &mut Given<'_, T>, office: &mut Office<K>) -> u8
+    requires { AreFresh given.old.streams }
+    ensures input { given.new.streams.input ≡ given.old.streams.input }
+    ensures checks { ChecksStore K.view T.Output.Write.contents T.Errors.Write.contents office.old
+        given.old.streams.output given.new.streams.output given.old.streams.errors
+        given.new.streams.errors result office.new }
 {
     let sizes = office_sizes(office);
-    report_sizes(alloc, sizes, output, errors)
+    let (output, errors) = (&mut given.streams.output, &mut given.streams.errors);
+    report_sizes(given.alloc, sizes, output, errors)
 }

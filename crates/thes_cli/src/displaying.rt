@@ -1,9 +1,10 @@
 //! The commands `alphabetical` and `hierarchical`: write a display of a scheme in a language.
-ghost use Rattle.std.specs.Prelude.{Ok};
+ghost use Rattle.std.specs.Prelude.{◌≡◌, Ok};
 ghost use Rattle.thes_base.specs.Pipe.{IsFresh};
-ghost use Rattle.thes_command_line.specs.Printing.{AreFreshOutputs};
 ghost use Rattle.thes_cli.specs.Displaying.{DisplaysStore, EndsDisplay, WritesDisplay};
+ghost use Rattle.thes_cli.specs.Streams.{AreFresh};
 
+use crate::streams::{Devices, Given};
 use std::alloc::Global;
 use std::io::Write;
 use thes_base::fault::PipeFault;
@@ -58,18 +59,18 @@ fn report_display<E: Write>(errors: &mut Pipe<E>, shown: Result<DisplayOutcome, 
 
 /// Writes a display, and returns the exit status 0. After a
 /// refusal or a fault, prints it and returns 1 or 3.
-pub fn display_store<K: Keeper, W: Write, E: Write>(
-    alloc: Global,
+pub fn display_store<T: Devices, K: Keeper>(
+    given: &mut Given<'_, T>,
     office: &mut Office<K>,
     wanted: &DisplayRequest<'_>,
-    output: &mut Pipe<W>,
-    errors: &mut Pipe<E>,
 ) -> u8
-    requires { AreFreshOutputs output.old errors.old }
-    ensures { let asked = wanted.now in
-        DisplaysStore K.view W.contents asked.kind asked.scheme asked.tag.now E.contents
-        office.old output.old output.new errors.old errors.new result office.new }
+    requires { AreFresh given.old.streams }
+    ensures input { given.new.streams.input ≡ given.old.streams.input }
+    ensures displays { let asked = wanted.now in
+        DisplaysStore K.view T.Output.Write.contents asked.kind asked.scheme asked.tag.now
+        T.Errors.Write.contents office.old given.old.streams.output given.new.streams.output
+        given.old.streams.errors given.new.streams.errors result office.new }
 {
-    let shown = write_office_display(alloc, office, wanted, output);
-    report_display(errors, shown)
+    let shown = write_office_display(given.alloc, office, wanted, &mut given.streams.output);
+    report_display(&mut given.streams.errors, shown)
 }

@@ -1,8 +1,10 @@
 //! The command `export`: writes the triples of a store as N-Triples.
+ghost use Rattle.std.specs.Prelude.{◌≡◌};
 ghost use Rattle.thes_base.specs.Pipe.{IsFresh};
-ghost use Rattle.thes_command_line.specs.Printing.{AreFreshOutputs};
 ghost use Rattle.thes_cli.specs.Exporting.{ExportsStore, WritesExport};
+ghost use Rattle.thes_cli.specs.Streams.{AreFresh};
 
+use crate::streams::{Devices, Given};
 use std::alloc::Global;
 use std::io::Write;
 use thes_base::fault::PipeFault;
@@ -28,18 +30,15 @@ fn write_export<K: Keeper, W: Write>(
 
 /// Writes the triples of the store as N-Triples, and returns the exit status 0; after a fault,
 /// prints the fault and returns 3.
-pub fn export_store<K: Keeper, W: Write, E: Write>(
-    alloc: Global,
-    office: &mut Office<K>,
-    output: &mut Pipe<W>,
-    errors: &mut Pipe<E>,
-) -> u8
-    requires { AreFreshOutputs output.old errors.old }
-    ensures { ExportsStore K.view W.contents E.contents office.old output.old
-        output.new errors.old errors.new result office.new }
+pub fn export_store<T: Devices, K: Keeper>(given: &mut Given<'_, T>, office: &mut Office<K>) -> u8
+    requires { AreFresh given.old.streams }
+    ensures input { given.new.streams.input ≡ given.old.streams.input }
+    ensures exports { ExportsStore K.view T.Output.Write.contents T.Errors.Write.contents
+        office.old given.old.streams.output given.new.streams.output given.old.streams.errors
+        given.new.streams.errors result office.new }
 {
-    match write_export(alloc, office, output) {
+    match write_export(given.alloc, office, &mut given.streams.output) {
         Ok(()) => 0,
-        Err(fault) => report_fault(errors, fault),
+        Err(fault) => report_fault(&mut given.streams.errors, fault),
     }
 }

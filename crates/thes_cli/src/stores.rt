@@ -4,16 +4,13 @@ ghost use Rattle.thes_cli.specs.Stores.{ClosesLeft, WorksInDatabase, WorksInMemo
 ghost use Rattle.thes_cli.specs.Streams.{AreFresh};
 
 use crate::closing::Closed;
-use crate::streams::Streams;
+use crate::streams::{Devices, Given};
 use crate::work::work_with_progress;
 use sqlite::{Alter, Connection};
-use std::alloc::Global;
-use std::io::{Read, Write};
 use std::net::Net;
-use std::rt::Clock;
 use thes_command_line::arguments::StoreSetting;
 use thes_jobs::databases::Databases;
-use thes_jobs::progress::Progress;
+use thes_jobs::progress::reporting_keeper::ReportingKeeper;
 use thes_jobs::work::{DatabaseWork, MemoryWork};
 use thes_sqlite::reopening::{HeldTables, Leaving, Reopen, ReopeningKeeper};
 use thes_store::mem::MemKeeper;
@@ -21,25 +18,15 @@ use thes_store::mem::MemKeeper;
 /// Opens an office over the store in a database, and works over it. Returns the exit status with
 /// what the storage leaves: the last connection, whether it was opened again, and whether a request
 /// is in doubt. The fault of a store that can't be opened is printed after the name of its file.
-pub fn work_in_database<
-    N: Net + Clock,
-    S: Alter + Drop,
-    O: Reopen<Connection<S>> + HeldTables + Drop,
-    P: Progress,
-    F: Read + Drop,
-    R: Read,
-    W: Write,
-    E: Write,
->(
-    alloc: Global,
-    clock: &N,
-    job: DatabaseWork<S, O, P, F, N::Listener>,
-    streams: &mut Streams<R, W, E>,
+pub fn work_in_database<T: Devices, S: Alter + Drop, O: Reopen<Connection<S>> + HeldTables + Drop>(
+    given: &mut Given<'_, T>,
+    job: DatabaseWork<S, O, T::Listener, T::PostingFile, <T::Net as Net>::Listener>,
 ) -> (u8, Leaving<S>)
     requires ready { IsReadyConnection S.Store O.image job.setting.base job.conn }
-    requires streams { AreFresh streams.old }
-    ensures { WorksInDatabase F.remaining R.remaining W.contents E.contents S.Store O.image job
-        streams.old result.0 result.1 streams.new }
+    requires streams { AreFresh given.old.streams }
+    ensures { WorksInDatabase T.PostingFile.Read.remaining T.Input.Read.remaining
+        T.Output.Write.contents T.Errors.Write.contents S.Store O.image job given.old.streams
+        result.0 result.1 given.new.streams }
 {
     let DatabaseWork {
         work,
@@ -49,16 +36,13 @@ pub fn work_in_database<
         opener,
         progress,
     } = job;
-    let keeper = ReopeningKeeper::new(alloc, conn, opener);
-    let (status, keeper) = work_with_progress::<N, ReopeningKeeper<S, O>, P, F, R, W, E>(
-        alloc,
-        clock,
+    let keeper = ReopeningKeeper::new(given.alloc, conn, opener);
+    let (status, keeper) = work_with_progress::<T, ReopeningKeeper<S, O>>(
+        given,
         work,
-        keeper,
-        progress,
+        ReportingKeeper::new(keeper, progress),
         setting.limits,
         Some(file),
-        streams,
     );
     (status, keeper.leave())
 }
@@ -103,42 +87,36 @@ pub fn close_open<D: Databases>(
 
 /// Works over the store in a database, closes the database, and returns the exit status with what is
 /// left of its files. They hold the store after the work.
-pub fn work_and_close<
-    N: Net + Clock,
-    D: Databases,
-    P: Progress,
-    F: Read + Drop,
-    R: Read,
-    W: Write,
-    E: Write,
->(
-    alloc: Global,
-    clock: &N,
+pub fn work_and_close<T: Devices, D: Databases>(
+    given: &mut Given<'_, T>,
     databases: &D,
-    job: DatabaseWork<D::Engine, D::Opener, P, F, N::Listener>,
-    streams: &mut Streams<R, W, E>,
+    job: DatabaseWork<
+        D::Engine,
+        D::Opener,
+        T::Listener,
+        T::PostingFile,
+        <T::Net as Net>::Listener,
+    >,
 ) -> (u8, Closed<D::Left>)
     requires ready { IsReadyConnection D.Engine.Store D.Opener.image job.setting.base job.conn }
-    requires streams { AreFresh streams.old }
-    ensures { WorksToClosing F.remaining R.remaining W.contents E.contents D.Engine.Store
-        D.Opener.image D.is_clean D.holds job streams.old result.0 result.1 streams.new }
+    requires streams { AreFresh given.old.streams }
+    ensures { WorksToClosing T.PostingFile.Read.remaining T.Input.Read.remaining
+        T.Output.Write.contents T.Errors.Write.contents D.Engine.Store D.Opener.image D.is_clean
+        D.holds job given.old.streams result.0 result.1 given.new.streams }
 {
-    let (status, left) = work_in_database::<N, D::Engine, D::Opener, P, F, R, W, E>(
-        alloc, clock, job, streams,
-    );
+    let (status, left) = work_in_database::<T, D::Engine, D::Opener>(given, job);
     (status, close_left(databases, left))
 }
 
 /// Works over a new store in memory with this base and these limits, and returns the exit status.
-pub fn work_in_memory<N: Net + Clock, P: Progress, F: Read + Drop, R: Read, W: Write, E: Write>(
-    alloc: Global,
-    clock: &N,
-    job: MemoryWork<P, F, N::Listener>,
-    streams: &mut Streams<R, W, E>,
+pub fn work_in_memory<T: Devices>(
+    given: &mut Given<'_, T>,
+    job: MemoryWork<T::Listener, T::PostingFile, <T::Net as Net>::Listener>,
 ) -> u8
-    requires { AreFresh streams.old }
-    ensures { WorksInMemory F.remaining R.remaining W.contents E.contents job streams.old result
-        streams.new }
+    requires { AreFresh given.old.streams }
+    ensures { WorksInMemory T.PostingFile.Read.remaining T.Input.Read.remaining
+        T.Output.Write.contents T.Errors.Write.contents job given.old.streams result
+        given.new.streams }
 {
     let MemoryWork {
         work,
@@ -148,10 +126,9 @@ pub fn work_in_memory<N: Net + Clock, P: Progress, F: Read + Drop, R: Read, W: W
     let StoreSetting { base, limits } = setting;
     // No effect; states for the proof that the base has its form.
     let _ = base.as_str();
-    let keeper = MemKeeper::new(alloc, base);
-    let (status, keeper) = work_with_progress::<N, MemKeeper, P, F, R, W, E>(
-        alloc, clock, work, keeper, progress, limits, None, streams,
-    );
+    let keeper = ReportingKeeper::new(MemKeeper::new(given.alloc, base), progress);
+    let (status, keeper) =
+        work_with_progress::<T, MemKeeper>(given, work, keeper, limits, None);
     drop(keeper);
     status
 }
