@@ -14,7 +14,7 @@ use Rattle.thes_base.specs.declared.fault.Fault.{Fault}
 use Rattle.thes_base.specs.declared.pipe.Pipe.{Pipe}
 use Rattle.thes_tables.specs.Tables.{Tables}
 use Rattle.thes_sql.specs.StoredRows.{KeepsIn}
-use Rattle.thes_sqlite.specs.DatabaseFiles.{BeginsWith, HoldsStore}
+use Rattle.thes_sqlite.specs.DatabaseFiles.{IsInitialStore, HoldsStore}
 use Rattle.thes_sqlite.specs.KeeperView.{IsUp, ServesTables}
 use Rattle.thes_sqlite.specs.MigrationEffects.{IsUnwritten, Migrates}
 use Rattle.thes_command_line.specs.StartFailure.{ReportsStartFailure}
@@ -54,7 +54,7 @@ module _ {S : Type 0} (g : Ghosts S) (image : Image) {E C : Type 0} (err : E →
   leads_without_files (Err early_exit) old new status closed none = tt
   leads_without_files (Ok job) old new status closed none = λ kept.
       subst (λ (closed : Closed C). IfSome closed.files (λ files. is_clean files → (schema : Schema) (t : Tables)
-      → BeginsWith image job.setting.base schema t → EndsInFiles err image job old new status (holds files) schema t))
+      → IsInitialStore image job.setting.base schema t → EndsInFiles err image job old new status (holds files) schema t))
       (sym none) tt
 
   -- The reason why work couldn't begin is printed.
@@ -85,7 +85,7 @@ module _ {S : Type 0} (g : Ghosts S) (image : Image) {E C : Type 0} (err : E →
   leads_without_work out (Ok job) old new status failed closed opens serves reports closes = λ kept.
       of_closed failed.conn closed.files (λ conn files. is_clean files → ClosesStore (holds files) (state g conn))
       (λ conn. ServesTables (HoldsStore image) (state g conn))
-      (λ files. is_clean files → (schema : Schema) (t : Tables) → BeginsWith image job.setting.base schema t
+      (λ files. is_clean files → (schema : Schema) (t : Tables) → IsInitialStore image job.setting.base schema t
       → EndsInFiles err image job old.errors new.errors status (holds files) schema t)
       (λ conn files serves closes clean schema t begins.
       without_work (prints_fault out old new status job failed.failure failed.conn opens reports) (λ held.
@@ -137,5 +137,5 @@ module _ {S : Type 0} (g : Ghosts S) (image : Image) {E C : Type 0} (err : E →
   leads_by_work given remaining out (Err early_exit) old new status work closed opens works = tt
   leads_by_work given remaining out (Ok job) old new status work closed opens works = λ kept.
       if_some_weaker closed.files _ _ (λ files leads clean schema t begins.
-      by_work (leads clean schema t (subst (λ setting. BeginsWith image setting.base schema t) (sym opens.setting) begins)))
+      by_work (leads clean schema t (subst (λ setting. IsInitialStore image setting.base schema t) (sym opens.setting) begins)))
       (works.leads kept)

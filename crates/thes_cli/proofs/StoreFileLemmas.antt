@@ -12,7 +12,7 @@ use Rattle.thes_tables.proofs.CellLemmas.{listed_one}
 use Rattle.thes_sql.specs.StoredRows.{KeepsIn}
 use Rattle.thes_office.specs.Office.{TablesAfterRun}
 use Rattle.thes_sqlite.proofs.KeeperLemmas.{raw_of}
-use Rattle.thes_sqlite.specs.DatabaseFiles.{BeginsWith}
+use Rattle.thes_sqlite.specs.DatabaseFiles.{IsInitialStore}
 use Rattle.thes_sqlite.specs.KeeperView.{KeeperView, IsStore, IsUp, ServesTables}
 use Rattle.thes_sqlite.specs.Reopening.{ReopeningView, FindsStill, IsKeeperStillUp, IsOpenFirst, IsServingFirst}
 use Rattle.thes_sqlite.specs.Reopening.{IsStillOpen, ReturnsFirst, rows_of_first, rows_still, storage_still}
@@ -34,10 +34,10 @@ the_value : {A : Type 0} {x y : A} → (let a : Option A = Some x in a) ≡ Some
 the_value same = cc
 
 -- Work over the same files with another base begins with a store in the same schema.
-begins_also : (image : Image) (base other : List ℕ) (schema : Schema) (t : Tables) → BeginsWith image base schema t
-    → (also : Tables) × BeginsWith image other schema also
-begins_also image base other schema t (inl held) = (t, inl held)
-begins_also image base other schema t (inr new) = (empty_tables other, inr (new.0, (new.1.0, refl)))
+is_initial_also : (image : Image) (base other : List ℕ) (schema : Schema) (t : Tables) → IsInitialStore image base schema t
+    → (also : Tables) × IsInitialStore image other schema also
+is_initial_also image base other schema t (inl held) = (t, inl held)
+is_initial_also image base other schema t (inr new) = (empty_tables other, inr (new.0, (new.1.0, refl)))
 
 module _ {S : Type 0} (g : Ghosts S) where
   open_first : (first : Option (KeeperView S)) → IsServingFirst g first → IsOpenFirst g first
@@ -54,10 +54,10 @@ module _ {S : Type 0} (g : Ghosts S) where
 
   returned_serves : (image : Image) (base : List ℕ) (keeper : ReopeningView S) (back : Option (Held S))
       (conn : Held S) (schema : Schema) (t : Tables) → ReturnsFirst g image keeper back → back ≡ Some conn
-      → IsUp (state g conn) → BeginsWith image base schema t → ServesReturned schema keeper conn
+      → IsUp (state g conn) → IsInitialStore image base schema t → ServesReturned schema keeper conn
   returned_serves image base keeper back conn schema t returns is up begins =
       let other = returns.of_files.0 in
-      let also = begins_also image base other schema t begins in
+      let also = is_initial_also image base other schema t begins in
       let one : returns.keeper.conn ≡ conn = the_value (sym returns.conn_is ∙ is) in
       let up_then : IsUp (state g returns.keeper.conn) = subst (λ (c : Held S). IsUp (state g c)) (sym one) up in
       let known : IsStore (state g returns.keeper.first) =
@@ -162,12 +162,12 @@ module _ {S : Type 0} (g : Ghosts S) where
     module _ {O P L C : Type 0} (is_clean : C → Type 0) (holds : C → Schema → Tables → Type 0)
         (image : Image) (job : DatabaseWork S O P F L) (old new : Streams R W E) (status : ℕ) (left : Leaving S)
         (works : WorksInDatabase given remaining out err g image job old status left new)
-        (serves : ServesTables (BeginsWith image job.setting.base) (state g job.conn)) where
+        (serves : ServesTables (IsInitialStore image job.setting.base) (state g job.conn)) where
       closed_leaves : (conn : Option (Held S)) (files : Option C) → conn ≡ left.conn → left.is_reopened ≡ false
           → MatchOption conn (files ≡ None) (λ conn. IsSomeAnd files (λ files.
           is_clean files → ClosesStore (holds files) (state g conn)))
           → IfSome files (λ files. is_clean files → (schema : Schema) (t : Tables)
-          → BeginsWith image job.setting.base schema t
+          → IsInitialStore image job.setting.base schema t
           → LeavesInFiles g works.works.0 job.setting.limits t works.keeper (holds files schema))
       closed_leaves None None is kept closes = tt
       closed_leaves None (Some files) is kept closes = absurd (cc)
@@ -179,7 +179,7 @@ module _ {S : Type 0} (g : Ghosts S) where
             is_up = end.is_up;
             tables_after = end.tables;
             rows_after = end.rows;
-            run = tables_lead job old new status works.keeper (BeginsWith image job.setting.base) schema t end.tables
+            run = tables_lead job old new status works.keeper (IsInitialStore image job.setting.base) schema t end.tables
                 begins serves end.is_up end.rows works.works;
             holds_after = closing.leaves end.same schema end.tables end.keeps;
           }

@@ -16,7 +16,7 @@ use Rattle.thes_base.specs.declared.request.Command.{Command}
 use Rattle.thes_tables.specs.Cells.{cells_of_tables}
 use Rattle.thes_tables.specs.Tables.{Tables, empty_tables}
 use Rattle.thes_store.specs.Storage.{StorageView}
-use Rattle.thes_sqlite.specs.DatabaseFiles.{BeginsWith}
+use Rattle.thes_sqlite.specs.DatabaseFiles.{IsInitialStore}
 use Rattle.thes_sqlite.specs.Reopening.{ReopeningView, keeper_of_connection, storage_still, IsStillOpen, FindsStill}
 use Rattle.thes_sqlite.specs.Reopening.{IsKeeperStillUp, ReturnsFirst, rows_still}
 use Rattle.thes_sqlite.specs.declared.cause.Cause.{Cause}
@@ -74,7 +74,7 @@ pub record LeadsInFiles {E : Type 0} (err : E → Option (List ℕ)) (old new : 
 abbrev pub EndsIfClosed : {C : Type 0} → Image → List ℕ → (C → Type 0) → Closed C → (C → Schema → Tables → Type 0) → Type 0
 EndsIfClosed image base is_clean closed Ends =
     closed.is_reopened ≡ false → IfSome closed.files (λ files. is_clean files → (schema : Schema) (t : Tables)
-    → BeginsWith image base schema t → Ends files schema t)
+    → IsInitialStore image base schema t → Ends files schema t)
 
 -- The database of a job was closed that left this connection, if it left one, and that no failure has shut.
 abbrev pub closed_from : {S : Type 0} → Option (Held S) → Leaving S

@@ -27,7 +27,7 @@ opened_from image opened (Ok conn) is opens idle =
     let opens_it = subst (λ r. IfOk r (λ c. HasCleanDisk (file_state c) → OpensFiles image (file_state c))) is opens in
     record {
       idle = subst (λ r. IfOk r (λ c. c.in_transaction ≡ false)) is idle;
-      settled = λ up. let here = opens_it up.0 in here.settled;
+      is_settled = λ up. let here = opens_it up.0 in here.settled;
       serves = λ up schema t store. let here = opens_it up.0 in (here.settled, here.serves schema t store);
       empty = λ up new. let here = opens_it up.0 in here.empty new;
     }

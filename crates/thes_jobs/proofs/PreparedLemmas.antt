@@ -9,7 +9,7 @@ use Rattle.thes_tables.specs.Tables.{Tables, empty_tables}
 use Rattle.thes_sql.specs.Schema.{empty_schema, store_schema}
 use Rattle.thes_sql.specs.StoredRows.{KeepsIn}
 use Rattle.thes_sql.specs.TransactionEffects.{IsEmpty}
-use Rattle.thes_sqlite.specs.DatabaseFiles.{BeginsWith, HoldsStore}
+use Rattle.thes_sqlite.specs.DatabaseFiles.{IsInitialStore, HoldsStore}
 use Rattle.thes_sqlite.specs.KeeperView.{ServesTables}
 use Rattle.thes_command_line.specs.Opening.{only_reads, preparation_of}
 use Rattle.thes_command_line.specs.declared.arguments.Task.{Task}
@@ -38,10 +38,10 @@ module _ {S : Type 0} (g : Ghosts S) where
   pub prepared_serves : (image : Image) (opening : Opening) (reads_only : Bool) (base : List ℕ) (old new : Held S)
       → OpensFrom g image old → PreparesStore g opening reads_only base old (Ok tt) new
       → KeepsTables (state g old) (state g new) → Settles (state g old) (state g new)
-      → ServesTables (BeginsWith image base) (state g new)
+      → ServesTables (IsInitialStore image base) (state g new)
   prepared_serves image opening reads_only base old new opens prepares keeps settles = serves
     where
-      serves : ServesTables (BeginsWith image base) (state g new)
+      serves : ServesTables (IsInitialStore image base) (state g new)
       serves up schema t (inl held) =
           serves_after (HoldsStore image) (state g old) (state g new) opens.serves keeps up schema t held
       serves up schema t (inr begins) =
@@ -49,7 +49,7 @@ module _ {S : Type 0} (g : Ghosts S) where
           let none = opens.empty was begins.0 in
           let made = made_in_blank opening prepares.is_blank reads_only base old new (prepares.blank.1 none)
           prepares.prepares up.0 (none, tt) in (
-            settles.settled up (opens.settled was),
+            settles.is_settled up (opens.is_settled was),
             subst (λ (schema : Schema). KeepsIn schema (state g new).now t) (sym begins.1.0)
                 (subst (λ (t : Tables). KeepsIn store_schema (state g new).now t) (sym begins.1.1) made),
           )

@@ -14,7 +14,7 @@ use Rattle.sqlite_wal.specs.Recovery.{Image}
 use Rattle.thes_tables.specs.Tables.{Tables}
 use Rattle.thes_sql.specs.Schema.{empty_schema}
 use Rattle.thes_sql.specs.StoredRows.{KeepsIn}
-use Rattle.thes_sqlite.specs.DatabaseFiles.{BeginsWith, HoldsStore, IsNewFile}
+use Rattle.thes_sqlite.specs.DatabaseFiles.{IsInitialStore, HoldsStore, IsNewFile}
 use Rattle.thes_sqlite.specs.KeeperView.{IsUp, ServesTables}
 
 -- A call leaves the tables of a store as they are: if the database was this store before, and nothing in it was
@@ -27,7 +27,7 @@ KeepsTables old new = IsUp new → (schema : Schema) (t : Tables)
 -- A call finds the database up if it leaves it so, and then leaves nothing in it uncommitted if nothing was before.
 pub record Settles (old new : State) : Type 0 where
   pub was : IsUp new → IsUp old
-  pub settled : IsUp new → old.now ≡ old.committed → new.now ≡ new.committed
+  pub is_settled : IsUp new → old.now ≡ old.committed → new.now ≡ new.committed
 
 -- A database was closed that was up. If it was a store with a schema and some tables, and nothing in it was uncommitted,
 -- `holds` is true of these.
@@ -40,7 +40,7 @@ module _ {S : Type 0} (g : Ghosts S) (image : Image) where
   -- its database is uncommitted. If they held a store, its database is this store; in a new file it has no tables.
   pub record OpensFrom (conn : Held S) : Type 0 where
     pub idle : conn.in_transaction ≡ false
-    pub settled : IsUp (state g conn) → (state g conn).now ≡ (state g conn).committed
+    pub is_settled : IsUp (state g conn) → (state g conn).now ≡ (state g conn).committed
     pub serves : ServesTables (HoldsStore image) (state g conn)
     pub empty : IsUp (state g conn) → IsNewFile image → (state g conn).now.schema ≡ empty_schema
 
@@ -48,7 +48,7 @@ module _ {S : Type 0} (g : Ghosts S) (image : Image) where
   -- work begins.
   pub record IsReadyConnection (base : List ℕ) (conn : Held S) : Type 0 where
     pub idle : conn.in_transaction ≡ false
-    pub serves : ServesTables (BeginsWith image base) (state g conn)
+    pub serves : ServesTables (IsInitialStore image base) (state g conn)
 
   -- The database of a connection, if there is one, is the store that its files held, if they held one.
   abbrev pub ServesIfOpen : Option (Held S) → Type 0

@@ -27,13 +27,13 @@ IsNewFile image = image.db ≡ []
 
 -- Work with this base over files with these contents begins with a store with this schema and these tables: the one that
 -- the files hold, or, in a new file, an empty one as the program makes it.
-abbrev pub BeginsWith : Image → List ℕ → Schema → Tables → Type 0
-BeginsWith image base schema t =
+abbrev pub IsInitialStore : Image → List ℕ → Schema → Tables → Type 0
+IsInitialStore image base schema t =
     HoldsStore image schema t ⊎ (IsNewFile image × (schema ≡ store_schema) × (t ≡ empty_tables base))
 
 -- For some base, the database is the store with which work over files with these contents begins.
 abbrev pub ServesFiles : Image → State → Type 0
-ServesFiles image s = (base : List ℕ) × ServesTables (BeginsWith image base) s
+ServesFiles image s = (base : List ℕ) × ServesTables (IsInitialStore image base) s
 
 -- A database was opened in files with these contents, which may be anything. If they are a store, the database is this
 -- store, and nothing in it is uncommitted. In a new file it has no tables.

@@ -20,7 +20,7 @@ returns-in-Ok-clause-settles g c = λ none. record {
   was = λ up.
       let doubt = (c.create_tables.ensures.crash (none, tt)).clean in
       let clean = up.0 in (omega (arith, doubt, clean), c.create_tables.ensures.own.was up.0 up.1);
-  settled = λ up was. c.create_tables.ensures.own.settled up.0 up.1 c.requires.idle;
+  is_settled = λ up was. c.create_tables.ensures.own.settled up.0 up.1 c.requires.idle;
 }
 
 pub returns-in-Err-clause-settles : goal.returns-in-Err-clause-settles
@@ -28,5 +28,5 @@ returns-in-Err-clause-settles g c = λ none. record {
   was = λ up.
       let doubt = (c.create_tables.ensures.crash (none, tt)).clean in
       let clean = up.0 in (omega (arith, doubt, clean), c.create_tables.ensures.own.was up.0 up.1);
-  settled = λ up was. c.create_tables.ensures.own.settled up.0 up.1 c.requires.idle;
+  is_settled = λ up was. c.create_tables.ensures.own.settled up.0 up.1 c.requires.idle;
 }

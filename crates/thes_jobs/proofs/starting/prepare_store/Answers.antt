@@ -34,7 +34,7 @@ returns-in-MakeTables-clause-settles g c = c.make_marked_store.ensures.settles (
     (sym c.preparation_of.ensures ∙ c.in-MakeTables.is)))
 
 pub returns-in-RemoveMark-clause-settles : goal.returns-in-RemoveMark-clause-settles
-returns-in-RemoveMark-clause-settles g c = record { was = λ up. up; settled = λ up settled. settled }
+returns-in-RemoveMark-clause-settles g c = record { was = λ up. up; is_settled = λ up settled. settled }
 
 pub returns-in-Nothing-clause-settles : goal.returns-in-Nothing-clause-settles
-returns-in-Nothing-clause-settles g c = record { was = λ up. up; settled = λ up settled. settled }
+returns-in-Nothing-clause-settles g c = record { was = λ up. up; is_settled = λ up settled. settled }
