@@ -23,7 +23,12 @@ fn answer_in_mode<T: Devices, K: Keeper, M: PlanMode + Copy>(
 {
     let mut handler = OfficeHandler::new(office, mode);
     let streams = &mut given.streams;
-    let ended = office_script(given.alloc, &mut streams.input, &mut streams.output, &mut handler);
+    let ended = office_script(
+        given.alloc,
+        &mut streams.input,
+        &mut streams.output,
+        &mut handler,
+    );
     let status = report_script_end(&mut streams.errors, &ended);
     (status, handler.into_office())
 }

@@ -81,11 +81,19 @@ fn serve_in_mode<T: Devices, K: Keeper, M: PlanMode + Copy>(
         result.1 }
 {
     let streams = &mut given.streams;
-    if print(&mut streams.output, listening_line(listening.port).as_bytes()) {
+    if print(
+        &mut streams.output,
+        listening_line(listening.port).as_bytes(),
+    ) {
         let mut handler = OfficeHandler::new(office, mode);
         let (listener, count) = (&listening.listener, listening.count);
-        let ended =
-            office_serve::<T::Net, K, M>(given.alloc, given.net, listener, count, &mut handler);
+        let ended = office_serve::<T::Net, K, M>(
+            given.alloc,
+            given.net,
+            listener,
+            count,
+            &mut handler,
+        );
         let status = report_served(&mut streams.errors, &mut streams.connections, ended);
         (status, handler.into_office())
     } else {

@@ -90,13 +90,7 @@ pub fn close_open<D: Databases>(
 pub fn work_and_close<T: Devices, D: Databases>(
     given: &mut Given<'_, T>,
     databases: &D,
-    job: DatabaseWork<
-        D::Engine,
-        D::Opener,
-        T::Listener,
-        T::PostingFile,
-        <T::Net as Net>::Listener,
-    >,
+    job: DatabaseWork<D::Engine, D::Opener, T::Listener, T::PostingFile, <T::Net as Net>::Listener>,
 ) -> (u8, Closed<D::Left>)
     requires ready { IsReadyConnection D.Engine.Store D.Opener.image job.setting.base job.conn }
     requires streams { AreFresh given.old.streams }
@@ -127,8 +121,7 @@ pub fn work_in_memory<T: Devices>(
     // No effect; states for the proof that the base has its form.
     let _ = base.as_str();
     let keeper = ReportingKeeper::new(MemKeeper::new(given.alloc, base), progress);
-    let (status, keeper) =
-        work_with_progress::<T, MemKeeper>(given, work, keeper, limits, None);
+    let (status, keeper) = work_with_progress::<T, MemKeeper>(given, work, keeper, limits, None);
     drop(keeper);
     status
 }
