@@ -1,6 +1,15 @@
 //! Whether a database shows that changes were made, and which of several changes shows it, as all are
 //! made or none is.
+ghost use mathlib.Core.Logic.{inl, inr};
+ghost use Rattle.std.specs.Prelude.{◌≡◌, Some};
+ghost use Rattle.std.specs.List.{list_any, find};
+ghost use Rattle.std.specs.Option.{option_copied};
+ghost use Rattle.sqlite.specs.Held.{state};
+ghost use Rattle.sqlite.specs.State.{HasCleanDisk};
 ghost use Rattle.thes_sql.specs.Reads.{LeavesTables};
+ghost use Rattle.thes_sql.specs.Traces.{row_of};
+ghost use Rattle.thes_sqlite.specs.Telling as telling;
+ghost use Rattle.thes_sqlite.specs.Telling.{are_same, Tells};
 
 use sqlite::{Alter, Connection};
 use thes_base::data::Link;
@@ -9,7 +18,9 @@ use thes_tables::change::Change;
 use thes_tables::rows::{HierRow, LabelRow};
 
 // Returns whether a change inserts a row that is never deleted.
-fn inserts_for_good(change: &Change) -> bool {
+fn inserts_for_good(change: &Change) -> bool
+    ensures { result ≡ telling.inserts_for_good change.now }
+{
     match change {
         Change::AddResource(_, _)
         | Change::AddOutside(_, _)
@@ -20,54 +31,72 @@ fn inserts_for_good(change: &Change) -> bool {
 }
 
 // Returns whether a change marks a row, and no other change removes the mark.
-fn marks_for_good(change: &Change) -> bool {
+fn marks_for_good(change: &Change) -> bool
+    ensures { result ≡ telling.marks_for_good change.now }
+{
     match change {
         Change::Retire(_) | Change::Replace(_, _) | Change::Withdraw(_) => true,
         _ => false,
     }
 }
 
-// Returns the row of table label that a change inserts or deletes.
-fn label_of(change: &Change) -> Option<&LabelRow> {
+// Returns whether a change sets the places of postings, and inserts no move.
+fn sets_places(change: &Change) -> bool
+    ensures { result ≡ telling.sets_places change.now }
+{
     match change {
-        Change::AddLabel(row) | Change::DropLabel(row) => Some(row),
-        _ => None,
+        Change::SetPlace(_, _) | Change::MoveAll(_, _) => true,
+        _ => false,
     }
 }
 
-// Returns the row of table link that a change inserts or deletes.
-fn link_of(change: &Change) -> Option<&Link> {
+// Returns whether a change inserts or deletes this row of table label.
+fn is_of_label(row: &LabelRow, change: &Change) -> bool
+    ensures { result ≡ are_same (row_of change.now) (Some (inl row.now)) }
+{
     match change {
-        Change::AddLink(link) | Change::DropLink(link) => Some(link),
-        _ => None,
+        Change::AddLabel(other) | Change::DropLabel(other) => other.is_same(row),
+        _ => false,
     }
 }
 
-// Returns the row of table hier that a change inserts or deletes.
-fn hier_of(change: &Change) -> Option<&HierRow> {
+// Returns whether a change inserts or deletes this row of table link.
+fn is_of_link(link: &Link, change: &Change) -> bool
+    ensures { result ≡ are_same (row_of change.now) (Some (inr (inl link.now))) }
+{
     match change {
-        Change::AddHier(row) | Change::DropHier(row) => Some(row),
-        _ => None,
+        Change::AddLink(other) | Change::DropLink(other) => *other == *link,
+        _ => false,
     }
 }
 
-// Returns whether both changes insert or delete the same row of label, link or hier.
-fn is_of_same_row(one: &Change, other: &Change) -> bool {
-    if let (Some(a), Some(b)) = (label_of(one), label_of(other)) {
-        return a.is_same(b);
+// Returns whether a change inserts or deletes this row of table hier.
+fn is_of_hier(row: &HierRow, change: &Change) -> bool
+    ensures { result ≡ are_same (row_of change.now) (Some (inr (inr row.now))) }
+{
+    match change {
+        Change::AddHier(other) | Change::DropHier(other) => *other == *row,
+        _ => false,
     }
-    if let (Some(a), Some(b)) = (link_of(one), link_of(other)) {
-        return *a == *b;
+}
+
+// Returns whether a change inserts or deletes the same row of label, link or hier as another.
+fn is_of_same_row(change: &Change, other: &Change) -> bool
+    ensures { result ≡ are_same (row_of change.now) (row_of other.now) }
+{
+    match other {
+        Change::AddLabel(row) | Change::DropLabel(row) => is_of_label(row, change),
+        Change::AddLink(link) | Change::DropLink(link) => is_of_link(link, change),
+        Change::AddHier(row) | Change::DropHier(row) => is_of_hier(row, change),
+        _ => false,
     }
-    if let (Some(a), Some(b)) = (hier_of(one), hier_of(other)) {
-        return *a == *b;
-    }
-    false
 }
 
 // Returns whether the row of a change is there after the changes and wasn't before, or the reverse: insertions and
 // deletions of a row alternate.
-fn changes_its_row(changes: &[Change], change: &Change) -> bool {
+fn changes_its_row(changes: &[Change], change: &Change) -> bool
+    ensures { result ≡ telling.turns changes.now (row_of change.now) }
+{
     let mut is_changed = false;
     for other in changes {
         if is_of_same_row(other, change) {
@@ -77,20 +106,34 @@ fn changes_its_row(changes: &[Change], change: &Change) -> bool {
     is_changed
 }
 
-// Returns the change whose trace in a database shows that all changes were made: one that no other
-// change of the list can undo, since a plan may remove what it has made. None if the rows are the
-// same before and after.
-fn telling_change(changes: &[Change]) -> Option<&Change> {
+// Returns the first change that inserts a row for good.
+fn first_insert(changes: &[Change]) -> Option<&Change>
+    ensures { option_copied result ≡ find telling.inserts_for_good changes.now }
+{
     for change in changes {
         if inserts_for_good(change) {
             return Some(change);
         }
     }
+    None
+}
+
+// Returns the first change that marks a row for good.
+fn first_mark(changes: &[Change]) -> Option<&Change>
+    ensures { option_copied result ≡ find telling.marks_for_good changes.now }
+{
     for change in changes {
         if marks_for_good(change) {
             return Some(change);
         }
     }
+    None
+}
+
+// Returns the last change whose row is there after the changes and wasn't before, or the reverse.
+fn last_turning(changes: &[Change]) -> Option<&Change>
+    ensures { option_copied result ≡ telling.last_turning changes.now changes.now }
+{
     let mut last = None;
     for change in changes {
         if changes_its_row(changes, change) {
@@ -100,16 +143,50 @@ fn telling_change(changes: &[Change]) -> Option<&Change> {
     last
 }
 
-/// Checks whether changes whose commit failed were made; None if the database can't be queried.
-/// Changes that leave the rows as they were count as made, but no changes don't.
+// Returns the change whose trace in a database shows that all changes were made: one that no other
+// change of the list can undo, since a plan may remove what it has made. None if no change of a row
+// shows it.
+fn telling_change(changes: &[Change]) -> Option<&Change>
+    ensures { option_copied result ≡ telling.telling changes.now }
+{
+    if let Some(change) = first_insert(changes) {
+        return Some(change);
+    }
+    if let Some(change) = first_mark(changes) {
+        return Some(change);
+    }
+    last_turning(changes)
+}
+
+// Returns whether some change sets the places of postings, and inserts no move.
+fn set_places(changes: &[Change]) -> bool
+    ensures { result ≡ list_any telling.sets_places changes.now }
+{
+    for change in changes {
+        if sets_places(change) {
+            return true;
+        }
+    }
+    false
+}
+
+/// Checks whether changes whose commit failed were made; None if the database can't be queried, or
+/// if places of postings are all that they change. Changes that leave the rows as they were count as
+/// made, but no changes don't.
+#[tactic(auto, using(crate::proofs::TellingLemmas::tells_by_change, crate::proofs::TellingLemmas::tells_nothing, crate::proofs::TellingLemmas::tells_without_change))]
 pub(crate) fn has_changes<S: Alter>(conn: &mut Connection<S>, changes: &[Change]) -> Option<bool>
+    ensures tells { HasCleanDisk (state S.Store conn.new)
+        → Tells changes.now (state S.Store conn.old).now result }
     ensures leaves { LeavesTables S.Store conn.old conn.new }
 {
-    match telling_change(changes) {
-        None => Some(!changes.is_empty()),
-        Some(change) => match has_change(conn, change) {
-            Ok(found) => Some(found),
-            Err(_) => None,
-        },
+    let Some(change) = telling_change(changes) else {
+        if set_places(changes) {
+            return None;
+        }
+        return Some(!changes.is_empty());
+    };
+    match has_change(conn, change) {
+        Ok(found) => Some(found),
+        Err(_) => None,
     }
 }
