@@ -26,7 +26,7 @@ use Rattle.thes_sql.specs.StoredRows.{Keeps, AreKeyed, AreHidden, values, hidden
 use Rattle.thes_sql.specs.StoredRows.{stored_outside, stored_posting, stored_move, label_values, link_values, hier_values}
 use Rattle.thes_sql.specs.Queries.{IsQuery}
 use Rattle.thes_sql.specs.Traces.{IsAnswered, has_resource, has_dead, has_outside, has_posting, has_withdrawn, has_move}
-use Rattle.thes_sql.specs.Traces.{is_same_hier}
+use Rattle.thes_sql.specs.Traces.{encode_same_link}
 use Rattle.thes_sql.proofs.StatementTextLemmas.{equal_terms, number_filter, label_filter, link_filter}
 use Rattle.thes_sql.proofs.WhereLemmas.{same_ints, by_resource, by_number, by_label, by_link, by_hier}
 use Rattle.thes_sql.proofs.SelectLemmas.{IsQueryText, ordered_query, query_rows}
@@ -119,10 +119,10 @@ unfolding understood everything
 hier_row_is added = (_, refl, refl, (refl, refl))
 
 pub hier_found : (l : HierRow) (old new : State) (found : Bool) (t : Tables) → Keeps old.now t
-    → IsAnswered hier_row_text (hier_values l) old new found → found ≡ list_any (λ x. is_same_hier x l) t.hier
+    → IsAnswered hier_row_text (hier_values l) old new found → found ≡ list_any (λ x. encode_same_link x l) t.hier
 hier_found l old new found t keeps =
     some_hidden hier_values (λ x. number_cell x.1.a ∷ []) 11 (col 1 1 ∷ []) (hier_values l) link_filter
-    (λ x. is_same_hier x l) (by_hier l) (λ x. refl) hier_row_text hier_row_is old new t.hier found keeps.schema
+    (λ x. encode_same_link x l) (by_hier l) (λ x. refl) hier_row_text hier_row_is old new t.hier found keeps.schema
     keeps.hold.hier
 
 abbrev pub resource_row_text : List ℕ

@@ -44,8 +44,8 @@ abbrev pub has_move : ℕ → Tables → Bool
 has_move n t = list_any (λ (x : MoveRow). x.number == n) t.move
 
 -- Both rows of table hier encode the same link.
-abbrev pub is_same_hier : HierRow → HierRow → Bool
-is_same_hier a b = eq_by_cmp link_cmp (hier_link a) (hier_link b)
+abbrev pub encode_same_link : HierRow → HierRow → Bool
+encode_same_link a b = eq_by_cmp link_cmp (hier_link a) (hier_link b)
 
 -- A row of one of the three tables whose rows are deleted: label, link and hier.
 abbrev pub ListedRow : Type 0
@@ -55,7 +55,7 @@ ListedRow = Label ⊎ (Link ⊎ HierRow)
 abbrev pub has_listed : ListedRow → Tables → Bool
 has_listed (inl label) t = list_any (λ x. eq_by_cmp label_cmp x label) t.label
 has_listed (inr (inl link)) t = list_any (λ x. eq_by_cmp link_cmp x link) t.link
-has_listed (inr (inr row)) t = list_any (λ x. is_same_hier x row) t.hier
+has_listed (inr (inr row)) t = list_any (λ x. encode_same_link x row) t.hier
 
 -- The row of label, link or hier that a change inserts or deletes; None for a change of another table.
 abbrev pub row_of : Change → Option ListedRow

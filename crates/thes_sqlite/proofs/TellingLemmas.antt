@@ -29,10 +29,10 @@ use Rattle.thes_tables.specs.Rows.{row_after_move_all}
 use Rattle.thes_tables.specs.Tables.{Tables, IsIn, hier_link, hier_kind}
 use Rattle.thes_tables.proofs.RowSetLemmas.{equal_of_tie}
 use Rattle.thes_sql.specs.StoredRows.{Keeps, numbered_from}
-use Rattle.thes_sql.specs.Traces.{ListedRow, is_same_hier, row_of, has_listed, has_row, shows_change, has_resource, has_dead}
+use Rattle.thes_sql.specs.Traces.{ListedRow, encode_same_link, row_of, has_listed, has_row, shows_change, has_resource, has_dead}
 use Rattle.thes_sql.specs.Traces.{has_outside, has_posting, has_withdrawn, has_move}
 use Rattle.thes_sql.proofs.NumberedChangeLemmas.{change_if_at_number, dead_is, list_changed_at}
-use Rattle.thes_sqlite.specs.Telling.{inserts_for_good, marks_for_good, sets_places, is_same_row, are_same, turns}
+use Rattle.thes_sqlite.specs.Telling.{inserts_for_good, marks_for_good, sets_places, is_equal_row, are_same, turns}
 use Rattle.thes_sqlite.specs.Telling.{last_turning, telling, HasEffect, HaveEffect, HaveSameRows, Tells}
 
 -- Rows that are there for good.
@@ -158,24 +158,24 @@ false_before false h = refl
 
 -- The change is shown by the tables with all changes, and not by those without.
 pub record ShowsApart (c : Change) (changes : List Change) (t : Tables) : Type 0 where
-  pub without : shows_change c t ≡ false
-  pub all : shows_change c (tables_after_delta changes t) ≡ true
+  pub with_none : shows_change c t ≡ false
+  pub with_all : shows_change c (tables_after_delta changes t) ≡ true
 
 good_apart : (c : Change) (changes : List Change) (t : Tables) → is_for_good c ≡ true → IsIn c changes
     → HaveEffect changes t → ShowsApart c changes t
 good_apart c [] t good h does = absurd h
 good_apart c (d ∷ changes) t good (inl same) does =
     let own = good_effect c t good (subst (λ (e : Change). HasEffect e t) (sym same) does.0) in record {
-      without = own.0;
-      all = stays_shown_after c changes (tables_after_change d t) good
+      with_none = own.0;
+      with_all = stays_shown_after c changes (tables_after_change d t) good
           (subst (λ (e : Change). shows_change c (tables_after_change e t) ≡ true) same own.1);
     }
 good_apart c (d ∷ changes) t good (inr rest) does =
     let later = good_apart c changes (tables_after_change d t) good rest does.1 in record {
-      without = false_before (shows_change c t)
+      with_none = false_before (shows_change c t)
           (λ here. let there : shows_change c (tables_after_change d t) ≡ true = stays_shown c d t good here in
-          let gone : shows_change c (tables_after_change d t) ≡ false = later.without in cc);
-      all = later.all;
+          let gone : shows_change c (tables_after_change d t) ≡ false = later.with_none in cc);
+      with_all = later.with_all;
     }
 
 found_in : (p : Change → Bool) (changes : List Change) (c : Change) → find p changes ≡ Some c
@@ -248,7 +248,7 @@ link_itself x = ap is_eq (tied_itself links_total x)
 same_type : (s t : HierType) → hier_kind s ≡ hier_kind t → s ≡ t
 same_type s t e = grind (arith, common_steps)
 
-hier_exact : (x y : HierRow) → is_same_hier x y ≡ true → x ≡ y
+hier_exact : (x y : HierRow) → encode_same_link x y ≡ true → x ≡ y
 hier_exact x y e =
     let same = link_exact (hier_link x) (hier_link y) e in
     let types : x.typ ≡ y.typ = same_type x.typ y.typ (ap (λ (l : Link). l.kind) same) in
@@ -256,7 +256,7 @@ hier_exact x y e =
     let b : x.b ≡ y.b = ap (λ (l : Link). l.b) same in
     λ i. record { a = a i; b = b i; typ = types i }
 
-hier_itself : (x : HierRow) → is_same_hier x x ≡ true
+hier_itself : (x : HierRow) → encode_same_link x x ≡ true
 hier_itself x = link_itself (hier_link x)
 
 -- A change of a row that is there or not turns that, and no other change does.
@@ -270,8 +270,8 @@ flips (Some (inr (inl l))) (change.AddLink m) t h =
     added (eq_by_cmp link_cmp) link_exact link_itself l m t.link h.0
 flips (Some (inr (inl l))) (change.DropLink m) t h =
     dropped (eq_by_cmp link_cmp) link_exact link_itself l m t.link h.0
-flips (Some (inr (inr l))) (change.AddHier m) t h = added is_same_hier hier_exact hier_itself l m t.hier h.0
-flips (Some (inr (inr l))) (change.DropHier m) t h = dropped is_same_hier hier_exact hier_itself l m t.hier h.0
+flips (Some (inr (inr l))) (change.AddHier m) t h = added encode_same_link hier_exact hier_itself l m t.hier h.0
+flips (Some (inr (inr l))) (change.DropHier m) t h = dropped encode_same_link hier_exact hier_itself l m t.hier h.0
 flips None _ t h = grind (arith, common_steps)
 flips (Some (inl l)) _ t h = refl
 flips (Some (inr (inl l))) _ t h = refl
@@ -296,7 +296,7 @@ turned row (d ∷ changes) t does =
     ∙ ap (λ b. cond (turns changes row) (not b) b) (flips row d t does.0)
     ∙ two_turns (are_same (row_of d) row) (turns changes row) (has_row row t)
 
-same_row : (a b : ListedRow) → is_same_row a b ≡ true → a ≡ b
+same_row : (a b : ListedRow) → is_equal_row a b ≡ true → a ≡ b
 same_row (inl a) (inl b) e = ap inl (label_exact a b e)
 same_row (inr (inl a)) (inr (inl b)) e = ap (λ (l : Link). inr (inl l)) (link_exact a b e)
 same_row (inr (inr a)) (inr (inr b)) e = ap (λ (r : HierRow). inr (inr r)) (hier_exact a b e)
@@ -307,10 +307,10 @@ same_row (inr (inr a)) (inl b) e = absurd (cc)
 same_row (inr (inl a)) (inr (inr b)) e = absurd (cc)
 same_row (inr (inr a)) (inr (inl b)) e = absurd (cc)
 
-same_rows : (a b : Option ListedRow) → are_same a b ≡ true → a ≡ b
-same_rows (Some a) (Some b) e = ap (λ (r : ListedRow). Some r) (same_row a b e)
-same_rows None b e = absurd (cc)
-same_rows (Some a) None e = absurd (cc)
+equal_rows : (a b : Option ListedRow) → are_same a b ≡ true → a ≡ b
+equal_rows (Some a) (Some b) e = ap (λ (r : ListedRow). Some r) (same_row a b e)
+equal_rows None b e = absurd (cc)
+equal_rows (Some a) None e = absurd (cc)
 
 never_none : (changes : List Change) → turns changes None ≡ false
 never_none [] = refl
@@ -329,7 +329,7 @@ turns_no_more all (d ∷ rest) row odd none = go (turns_no_more all rest row odd
     go later (Some e) is b odd_here s same = absurd (grind (arith, common_steps))
     go later None is true odd_here s same = absurd (grind (arith, common_steps))
     go later None is false odd_here true same =
-        let equal = ap (turns all) (same_rows (row_of d) row same) in absurd (cc)
+        let equal = ap (turns all) (equal_rows (row_of d) row same) in absurd (cc)
     go later None is false odd_here false same = let rest_even = later is in grind (arith, common_steps)
 
 -- A change whose row turns shows exactly the presence of that row, or its absence.
@@ -398,10 +398,10 @@ last_apart : (changes : List Change) (t : Tables) (c : Change) → HaveEffect ch
 last_apart changes t c does h =
     let last = last_shown changes changes t c does h in
     let row = some_row changes (row_of c) last.0 in record {
-      without = shows_turn c row.0 row.1 t (tables_after_delta changes t)
+      with_none = shows_turn c row.0 row.1 t (tables_after_delta changes t)
           (turned (row_of c) changes t does
           ∙ ap (λ b. cond b (not (has_row (row_of c) t)) (has_row (row_of c) t)) last.0) last.1;
-      all = last.1;
+      with_all = last.1;
     }
 
 good_insert : (c : Change) → inserts_for_good c ≡ true → is_for_good c ≡ true
@@ -441,11 +441,11 @@ not_found p d changes h = go (p d) refl
 
 -- The tables other than label, link and hier are the same.
 pub record KeepsOthers (t u : Tables) : Type 0 where
-  pub base : u.base ≡ t.base
-  pub resource : u.resource ≡ t.resource
-  pub outside : u.outside ≡ t.outside
-  pub posting : u.posting ≡ t.posting
-  pub move : u.move ≡ t.move
+  pub same_base : u.base ≡ t.base
+  pub same_resource : u.resource ≡ t.resource
+  pub same_outside : u.outside ≡ t.outside
+  pub same_posting : u.posting ≡ t.posting
+  pub same_move : u.move ≡ t.move
 
 others_same : (d : Change) (t : Tables) → inserts_for_good d ≡ false → marks_for_good d ≡ false → sets_places d ≡ false
     → KeepsOthers t (tables_after_change d t)
@@ -454,7 +454,7 @@ others_same d t no_insert no_mark no_place = grind (arith, common_steps)
 others_kept : (changes : List Change) (t : Tables) → find inserts_for_good changes ≡ None
     → find marks_for_good changes ≡ None → list_any sets_places changes ≡ false
     → KeepsOthers t (tables_after_delta changes t)
-others_kept [] t a b c = record { base = refl; resource = refl; outside = refl; posting = refl; move = refl }
+others_kept [] t a b c = record { same_base = refl; same_resource = refl; same_outside = refl; same_posting = refl; same_move = refl }
 others_kept (d ∷ changes) t a b c =
     let insert = not_found inserts_for_good d changes a in
     let mark = not_found marks_for_good d changes b in
@@ -462,11 +462,11 @@ others_kept (d ∷ changes) t a b c =
     let places : list_any sets_places changes ≡ false = grind (arith, common_steps) in
     let one = others_same d t insert.0 mark.0 place in
     let rest = others_kept changes (tables_after_change d t) insert.1 mark.1 places in record {
-      base = rest.base ∙ one.base;
-      resource = rest.resource ∙ one.resource;
-      outside = rest.outside ∙ one.outside;
-      posting = rest.posting ∙ one.posting;
-      move = rest.move ∙ one.move;
+      same_base = rest.same_base ∙ one.same_base;
+      same_resource = rest.same_resource ∙ one.same_resource;
+      same_outside = rest.same_outside ∙ one.same_outside;
+      same_posting = rest.same_posting ∙ one.same_posting;
+      same_move = rest.same_move ∙ one.same_move;
     }
 
 -- If no change tells, the rows are the same before and after.
@@ -485,13 +485,13 @@ same_without_telling changes t does h places = go (find inserts_for_good changes
         let even : (row : Option ListedRow) → turns changes row ≡ false =
         λ row. false_before (turns changes row)
         (λ odd. let none : turns changes row ≡ false = turns_no_more changes changes row odd c in cc) in record {
-          base = others.base;
-          resource = others.resource;
-          outside = others.outside;
-          listed = λ row. turned row changes t does
+          same_base = others.same_base;
+          same_resource = others.same_resource;
+          same_outside = others.same_outside;
+          same_rows = λ row. turned row changes t does
               ∙ ap (λ b. cond b (not (has_row row t)) (has_row row t)) (even row);
-          posting = others.posting;
-          move = others.move;
+          same_posting = others.same_posting;
+          same_move = others.same_move;
         }
 
 -- The answers of `has_changes`.
@@ -499,26 +499,26 @@ same_without_telling changes t does h places = go (find inserts_for_good changes
 pub tells_by_change : (changes : List Change) (db : Database) (c : Change) (found : Bool) → telling changes ≡ Some c
     → ((t : Tables) → Keeps db t → found ≡ shows_change c t) → Tells changes db (Some found)
 tells_by_change changes db c found is shows = record {
-  without = λ t does keeps said.
+  with_none = λ t does keeps said.
       let apart = told_apart changes t c does is in
       let shown = shows t keeps in
-      let never = apart.without in
+      let never = apart.with_none in
       absurd (let yes : found ≡ true = grind (arith, common_steps) in cc);
-  all = λ t does keeps said.
+  with_all = λ t does keeps said.
       let apart = told_apart changes t c does is in
       let shown = shows (tables_after_delta changes t) keeps in
-      let always = apart.all in
+      let always = apart.with_all in
       absurd (let no : found ≡ false = grind (arith, common_steps) in cc);
 }
 
 pub tells_nothing : (changes : List Change) (db : Database) → Tells changes db None
-tells_nothing changes db = record { without = λ t does keeps said. absurd (cc); all = λ t does keeps said. absurd (cc) }
+tells_nothing changes db = record { with_none = λ t does keeps said. absurd (cc); with_all = λ t does keeps said. absurd (cc) }
 
 pub tells_without_change : (changes : List Change) (db : Database) → telling changes ≡ None
     → list_any sets_places changes ≡ false → Tells changes db (Some (not (length changes == 0)))
 tells_without_change changes db is places = record {
-  without = λ t does keeps said. same_without_telling changes t does is places;
-  all = λ t does keeps said. empty changes said;
+  with_none = λ t does keeps said. same_without_telling changes t does is places;
+  with_all = λ t does keeps said. empty changes said;
 }
   where
     empty : (cs : List Change) → Some (not (length cs == 0)) ≡ Some false → cs ≡ []

@@ -1,12 +1,22 @@
 -- The effect of a commit through the storage, on a database that may hold anything.
 use Rattle.std.specs.Prelude.{◌≡◌, List, Result, OnOk, OnErr}
 use Rattle.sqlite.specs.Held.{Held, state}
+use Rattle.sqlite.specs.State.{HasCleanDisk}
 use Rattle.sqlite_trees.specs.declared.store.Store.{Ghosts}
 use Rattle.thes_base.specs.declared.fault.Fault.{Fault}
 use Rattle.thes_tables.specs.declared.change.Change.{Change}
+use Rattle.thes_tables.specs.Rows.{tables_after_delta, DeltaFits}
+use Rattle.thes_tables.specs.Tables.{Tables}
+use Rattle.thes_sql.specs.StoredRows.{Keeps}
 use Rattle.thes_store.specs.Storage.{CommitFrame}
 use Rattle.thes_sqlite.specs.KeeperView.{KeeperView, IsUp, IsStore, LeavesEither, LeavesAfter, storage_view}
 use Rattle.thes_sqlite.specs.MigrationEffects.{LeavesUnwritten}
+
+-- The changes were made: a store with tables that they fit is afterwards one with the tables after all of them.
+abbrev pub AppliesAll : {S : Type 0} → Ghosts S → List Change → Held S → Held S → Type 0
+AppliesAll g changes old new = HasCleanDisk (state g new) → (t : Tables) → Keeps (state g old).now t
+    → DeltaFits changes t
+    → Keeps (state g new).now (tables_after_delta changes t)
 
 -- What every commit keeps of any database: one that is open now was open before, and nothing in it is uncommitted; a
 -- fault leaves it unwritten.

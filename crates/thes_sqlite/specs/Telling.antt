@@ -12,7 +12,7 @@ use Rattle.thes_tables.specs.declared.change.Change.TheVariants as change
 use Rattle.thes_tables.specs.Rows.{tables_after_change, tables_after_delta}
 use Rattle.thes_tables.specs.Tables.{Tables}
 use Rattle.thes_sql.specs.StoredRows.{Keeps}
-use Rattle.thes_sql.specs.Traces.{ListedRow, is_same_hier, row_of, has_row, shows_change}
+use Rattle.thes_sql.specs.Traces.{ListedRow, encode_same_link, row_of, has_row, shows_change}
 
 -- The change inserts a row that is never deleted.
 abbrev pub inserts_for_good : Change → Bool
@@ -36,15 +36,15 @@ sets_places (change.MoveAll source target) = true
 sets_places _ = false
 
 -- Both are the same row of label, link or hier.
-abbrev pub is_same_row : ListedRow → ListedRow → Bool
-is_same_row (inl a) (inl b) = eq_by_cmp label_cmp a b
-is_same_row (inr (inl a)) (inr (inl b)) = eq_by_cmp link_cmp a b
-is_same_row (inr (inr a)) (inr (inr b)) = is_same_hier a b
-is_same_row _ _ = false
+abbrev pub is_equal_row : ListedRow → ListedRow → Bool
+is_equal_row (inl a) (inl b) = eq_by_cmp label_cmp a b
+is_equal_row (inr (inl a)) (inr (inl b)) = eq_by_cmp link_cmp a b
+is_equal_row (inr (inr a)) (inr (inr b)) = encode_same_link a b
+is_equal_row _ _ = false
 
 -- There are two rows of label, link or hier, and they are the same.
 abbrev pub are_same : Option ListedRow → Option ListedRow → Bool
-are_same (Some a) (Some b) = is_same_row a b
+are_same (Some a) (Some b) = is_equal_row a b
 are_same _ _ = false
 
 -- The changes insert or delete the row an odd number of times: insertions and deletions of a row alternate.
@@ -77,17 +77,17 @@ HaveEffect (c ∷ changes) t = HasEffect c t × HaveEffect changes (tables_after
 
 -- Both have the same rows; those of label, link and hier may be in another order.
 pub record HaveSameRows (t u : Tables) : Type 0 where
-  pub base : u.base ≡ t.base
-  pub resource : u.resource ≡ t.resource
-  pub outside : u.outside ≡ t.outside
-  pub listed : (row : Option ListedRow) → has_row row u ≡ has_row row t
-  pub posting : u.posting ≡ t.posting
-  pub move : u.move ≡ t.move
+  pub same_base : u.base ≡ t.base
+  pub same_resource : u.resource ≡ t.resource
+  pub same_outside : u.outside ≡ t.outside
+  pub same_rows : (row : Option ListedRow) → has_row row u ≡ has_row row t
+  pub same_posting : u.posting ≡ t.posting
+  pub same_move : u.move ≡ t.move
 
 -- The answer is right for tables that have all changes or none: it is `true` over the tables without them only if the
 -- changes leave the rows the same, and `false` over the tables with them only if there are none. None is no answer.
 pub record Tells (changes : List Change) (db : Database) (answer : Option Bool) : Type 0 where
-  pub without : (t : Tables) → HaveEffect changes t → Keeps db t → answer ≡ Some true
+  pub with_none : (t : Tables) → HaveEffect changes t → Keeps db t → answer ≡ Some true
       → HaveSameRows t (tables_after_delta changes t)
-  pub all : (t : Tables) → HaveEffect changes t → Keeps db (tables_after_delta changes t) → answer ≡ Some false
+  pub with_all : (t : Tables) → HaveEffect changes t → Keeps db (tables_after_delta changes t) → answer ≡ Some false
       → changes ≡ []

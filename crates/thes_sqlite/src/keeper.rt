@@ -12,9 +12,11 @@ ghost use Rattle.thes_store.specs.Sinks.{SinkOutcome, sink_rows_of_table, sink_r
 ghost use Rattle.thes_store.specs.Reading.{IsPostingOfKey, IsPostingOfNumber, assigned_posting_rows, assigned_row_numbers};
 ghost use Rattle.thes_store.specs.Storage.{DeltaFitsStorage, KeepsStorage, RawAfterChanges};
 ghost use Rattle.thes_sqlite.specs.KeeperView.{IsUp, IsStore, IsKeeperState, IsKeeperUp, IsNewKeeper, KeeperQueryFrame};
-ghost use Rattle.thes_sqlite.specs.KeeperView.{raw_table, raw_of_keeper, storage_view};
+ghost use Rattle.thes_sqlite.specs.KeeperView.{raw_table, raw_of_keeper, storage_view, keeper_of_connection};
+ghost use Rattle.thes_sqlite.specs.Causes.{fault_of_cause};
 ghost use Rattle.thes_sqlite.specs.MigrationEffects.{Migrates, HasCountedCause, ServesAfterMigration, LeavesUnwritten};
-ghost use Rattle.thes_sqlite.specs.Commits.{DatabaseFrame, KeeperCommitFrame, IsCrashSafe};
+ghost use Rattle.thes_sqlite.specs.Commits.{AppliesAll, DatabaseFrame, KeeperCommitFrame, IsCrashSafe};
+ghost use Rattle.thes_sqlite.specs.Telling.{Tells};
 ghost use Rattle.thes_sqlite.specs.FoundRows.{IsKeeperOpen, FindsInKeeper, PassesTable, PassesNamed};
 ghost use Rattle.thes_sql.specs.Reads.{LeavesTables};
 ghost use Rattle.sqlite.specs.Held.{state};
@@ -63,7 +65,12 @@ impl<S: Alter> Model for SqlKeeper<S> {
 
     ghost coded = { keeper_view_code S.code };
 
-    ghost view = { λ k. record { conn = k.conn; failures = k.failures; first = k.first.value } };
+    ghost view = { λ k. record {
+      conn = k.conn;
+      failures = k.failures;
+      first = k.first.value;
+      cause = k.cause;
+    } };
 
     ghost invariant = { λ k. IsKeeperState (state S.Store k.first.value) (state S.Store k.conn) };
 }
@@ -93,7 +100,7 @@ impl<S: Alter> SqlKeeper<S> {
     /// whatever rows it has.
     pub fn adopt(alloc: Global, conn: Connection<S>) -> SqlKeeper<S>
         requires { conn.in_transaction ≡ false }
-        ensures is { result ≡ record { conn = conn; failures = 0; first = conn } }
+        ensures is { result ≡ keeper_of_connection conn }
         ensures serves { IsStore (state S.Store conn) → IsUp (state S.Store conn)
             → IsKeeperUp S.Store result }
     {
@@ -112,7 +119,7 @@ impl<S: Alter> SqlKeeper<S> {
     where
         S: Drop,
         ensures { conn.in_transaction ≡ false
-            → result ≡ Some (record { conn = conn; failures = 0; first = conn }) }
+            → result ≡ Some (keeper_of_connection conn) }
     {
         if !conn.is_autocommit() {
             return None;
@@ -174,6 +181,7 @@ impl<S: Alter> SqlKeeper<S> {
         ensures ok { OnOk result (IsKeeperUp S.Store self.new
             → RawAfterChanges changes.now
             (raw_of_keeper S.Store self.old) (raw_of_keeper S.Store self.new)) }
+        ensures applies { OnOk result (AppliesAll S.Store changes.now self.old.conn self.new.conn) }
         ensures frame { KeeperCommitFrame S.Store self.old self.new result }
         ensures crash { IsCrashSafe S.Store changes.now self.old self.new result }
     {
@@ -186,6 +194,7 @@ impl<S: Alter> SqlKeeper<S> {
     /// Applies all changes, or none of them and returns a fault. The changes needn't fit the tables,
     /// so what the storage promises begins anew with the database as they leave it.
     pub(crate) fn commit_anew(&mut self, changes: &[Change]) -> Result<(), Fault>
+        ensures applies { OnOk result (AppliesAll S.Store changes.now self.old.conn self.new.conn) }
         ensures database { DatabaseFrame S.Store self.old.conn self.new.conn result }
         ensures first { self.new.first ≡ self.new.conn }
         ensures cause { HasCause self.old.failures self.new.failures result }
@@ -198,12 +207,18 @@ impl<S: Alter> SqlKeeper<S> {
         }
     }
 
-    /// Checks whether changes whose commit failed were made; None if the database can't be queried.
+    /// Checks whether changes whose commit failed were made; None if the database can't tell.
+    #[tactic(auto, using(crate::proofs::FoundRowLemmas::unwritten))]
     pub(crate) fn has_changes(&mut self, changes: &[Change]) -> Option<bool>
+        ensures tells { IsUp (state S.Store self.new.conn)
+            → Tells changes.now (state S.Store self.new.conn).now result }
         ensures keeps { KeepsStorage (storage_view S.Store self.old)
             (storage_view S.Store self.new) }
         ensures first { self.new.first ≡ self.old.first }
+        ensures leaves { LeavesUnwritten S.Store self.old.conn self.new.conn }
     {
+        let settled = self.conn.is_autocommit();
+        prove!(settled);
         has_changes(&mut self.conn, changes)
     }
 
@@ -216,10 +231,14 @@ impl<S: Alter> SqlKeeper<S> {
         ensures passes { OnOk result (IsUp (state S.Store self.new.conn)
             → PassesTable R.gives name (state S.Store self.old.conn).now sink.old sink.new) }
         ensures leaves { LeavesTables S.Store self.old.conn self.new.conn }
+        ensures because { IfErr result (λ fault. fault ≡ fault_of_cause self.new.cause) }
     {
         match yield_table_rows(self.alloc, &mut self.conn, name, sink, &mut self.cause) {
             Ok(_) => Ok(()),
-            Err(fault) => Err(count_fault(&mut self.failures, fault)),
+            Err(fault) => {
+                self.cause = self.cause.of_fault(fault);
+                Err(count_fault(&mut self.failures, fault))
+            }
         }
     }
 
@@ -233,6 +252,7 @@ impl<S: Alter> SqlKeeper<S> {
             → (state S.Store self.old.conn).now ≡ (state S.Store self.old.conn).committed
             → PassesNamed R.gives names.now (state S.Store self.old.conn).now sink.old sink.new) }
         ensures leaves { LeavesTables S.Store self.old.conn self.new.conn }
+        ensures because { IfErr result (λ fault. fault ≡ fault_of_cause self.new.cause) }
     {
         for name in names {
             if let Err(fault) = self.yield_table(*name, sink) {
@@ -244,6 +264,8 @@ impl<S: Alter> SqlKeeper<S> {
 }
 
 impl<S: Alter> FaultCause for SqlKeeper<S> {
+    ghost last_cause = { λ k. k.cause };
+
     fn cause(&self) -> Cause {
         self.cause
     }
@@ -274,6 +296,7 @@ impl<S: Alter> Keeper for SqlKeeper<S> {
         ensures leaves { LeavesUnwritten S.Store self.old.conn self.new.conn }
         ensures found { PassesFound (IsKeeperOpen S.Store) (FindsInKeeper S.Store) R.gives
             self.old self.new sink.old result sink.new }
+        ensures because { IfErr result (λ fault. fault ≡ fault_of_cause self.new.cause) }
     {
         let settled = self.conn.is_autocommit();
         prove!(settled);
