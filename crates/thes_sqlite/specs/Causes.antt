@@ -1,7 +1,4 @@
 -- The causes of failures of storage in a database.
-use Rattle.std.specs.Prelude.{◌≡◌, ℕ, List, [], ◌∷◌, slice_get, refl}
-use Rattle.std.specs.Coded.{Coded, code_by, coded_ℕ}
-use Rattle.std.specs.Option.{unwrap_or}
 use Rattle.std.specs.IoError.{error_kind}
 use Rattle.std.specs.declared.io.ErrorKind.{ErrorKind}
 use Rattle.std.specs.declared.io.ErrorKind.TheVariants as kinds
@@ -55,38 +52,3 @@ files_cause opening.OutOfMemory = causes.NoMemory
 files_cause opening.Busy = causes.Locked
 files_cause opening.HotJournal = causes.Journal
 files_cause (opening.Io error) = kind_cause (error_kind error)
-
--- All causes, each at the place of its number.
-abbrev pub all_causes : List Cause
-all_causes =
-    causes.NoMemory ∷ causes.Locked ∷ causes.Missing ∷ causes.NotAFile ∷ causes.Linked ∷ causes.Unreadable
-    ∷ causes.Unwritable ∷ causes.Journal ∷ causes.NotADatabase ∷ causes.UnknownSchema ∷ causes.Damaged ∷ causes.Full
-    ∷ causes.Other ∷ []
-
--- The number of a cause.
-abbrev pub cause_no : Cause → ℕ
-cause_no causes.NoMemory = 0
-cause_no causes.Locked = 1
-cause_no causes.Missing = 2
-cause_no causes.NotAFile = 3
-cause_no causes.Linked = 4
-cause_no causes.Unreadable = 5
-cause_no causes.Unwritable = 6
-cause_no causes.Journal = 7
-cause_no causes.NotADatabase = 8
-cause_no causes.UnknownSchema = 9
-cause_no causes.Damaged = 10
-cause_no causes.Full = 11
-cause_no causes.Other = 12
-
--- The cause that has the number, and else `Other`.
-abbrev pub cause_with : ℕ → Cause
-cause_with n = unwrap_or (slice_get all_causes n) causes.Other
-
-abbrev pub cause_found : (c : Cause) → cause_with (cause_no c) ≡ c
-cause_found causes.NoMemory = refl
-cause_found _ = refl
-
--- The coding of a cause as its number, which shows the prover that views with different causes differ.
-abbrev pub cause_code : Coded Cause
-cause_code = code_by ℕ coded_ℕ cause_no cause_with cause_found

@@ -18,9 +18,6 @@ use Rattle.thes_sql.specs.Schema.{store_schema}
 use Rattle.thes_sql.specs.StoredRows.{Keeps, KeepsIn, Hold}
 use Rattle.thes_sql.specs.Reads.{rows_in_trees}
 use Rattle.thes_sqlite.specs.ValueCells.{cell_of}
-use Rattle.thes_sqlite.specs.Causes.{cause_code}
-use Rattle.thes_sqlite.specs.declared.cause.Cause.{Cause}
-use Rattle.thes_sqlite.specs.declared.cause.Cause.TheVariants as causes
 
 -- The rows of a table in a database's trees, as cells; the table can be queried.
 abbrev pub raw_table : Table → Trees → RawTable
@@ -61,26 +58,19 @@ pub record IsKeeperState (first now : State) : Type 0 where
   pub served : IsStore first → IsStore now
   pub same : IsStore first → IsUp now → HasSchemaOf now first
 
--- Storage in a database as contracts see it: its connection, its count of failures, its connection at the start or after
--- the last migration, and the cause of the last fault of a load or a migration.
+-- Storage in a database as contracts see it: its connection, its count of failures, and its
+-- connection at the start or after the last migration.
 pub record KeeperView (S : Type 0) : Type 0 where
   pub conn : Held S
   pub failures : ℕ
   pub first : Held S
-  pub cause : Cause
 
--- The storage over a connection, before any call.
-abbrev pub keeper_of_connection : {S : Type 0} → Held S → KeeperView S
-keeper_of_connection conn = record { conn = conn; failures = 0; first = conn; cause = causes.Other }
-
--- The coding of a view as a tuple, which shows the prover that the parts of a `KeeperView`
+-- The coding of a view as a triple, which shows the prover that the parts of a `KeeperView`
 -- determine it.
 abbrev pub keeper_view_code : {S : Type 0} → Coded S → Coded (KeeperView S)
 keeper_view_code {S} store =
-    code_by (Held S × (ℕ × (Held S × Cause)))
-    (coded× (held_code store) (coded× coded_ℕ (coded× (held_code store) cause_code)))
-    (λ k. (k.conn, (k.failures, (k.first, k.cause))))
-    (λ p. record { conn = p.0; failures = p.1.0; first = p.1.1.0; cause = p.1.1.1 }) (λ _. refl)
+    code_by (Held S × (ℕ × Held S)) (coded× (held_code store) (coded× coded_ℕ (held_code store)))
+    (λ k. (k.conn, (k.failures, k.first))) (λ p. record { conn = p.0; failures = p.1.0; first = p.1.1 }) (λ _. refl)
 
 -- The rows of the storage's tables, as cells.
 abbrev pub raw_of_keeper : {S : Type 0} → Ghosts S → KeeperView S → Raw

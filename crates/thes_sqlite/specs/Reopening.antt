@@ -1,5 +1,5 @@
 -- The state of storage in a database that is opened again after a failure.
-use Rattle.std.specs.Prelude.{◌≡◌, ◌⊎◌, ℕ, Bool, true, false, List, Option, None, Some, Result, Ok, Err, OnErr, IfErr, IfSome, refl}
+use Rattle.std.specs.Prelude.{◌≡◌, ◌⊎◌, ℕ, Bool, true, false, List, Option, None, Some, Result, Ok, Err, OnErr, refl}
 use Rattle.std.specs.Coded.{Coded, code_by, coded×, coded_ℕ, coded_bool, coded_option}
 use Rattle.sqlite.specs.Effect.{Database}
 use Rattle.sqlite.specs.Held.{Held, state}
@@ -14,14 +14,13 @@ use Rattle.thes_store.specs.Storage.{StorageView, KeepsStorage}
 use Rattle.thes_sqlite.specs.FoundRows.{FindsTables, IsKeeperOpen}
 use Rattle.thes_sqlite.specs.KeeperView.{KeeperView, keeper_view_code, raw_of_keeper, IsKeeperState, IsKeeperUp}
 use Rattle.thes_sqlite.specs.KeeperView.{ServesTables, IsUp}
-use Rattle.thes_sqlite.specs.Causes.{fault_of_cause, cause_code}
 use Rattle.thes_sqlite.specs.Commits.{AppliesAll}
 use Rattle.thes_sqlite.specs.MigrationEffects.{LeavesUnwritten}
 use Rattle.thes_sqlite.specs.Telling.{Tells}
-use Rattle.thes_sqlite.specs.declared.cause.Cause.{Cause}
-use Rattle.thes_sqlite.specs.declared.cause.Cause.TheVariants as causes
 
-pub use Rattle.thes_sqlite.specs.KeeperView.{keeper_of_connection}
+-- The storage over a connection, before any call.
+abbrev pub keeper_of_connection : {S : Type 0} → Held S → KeeperView S
+keeper_of_connection conn = record { conn = conn; failures = 0; first = conn }
 
 -- The storage as contracts see it.
 pub record ReopeningView (S : Type 0) : Type 0 where
@@ -33,8 +32,6 @@ pub record ReopeningView (S : Type 0) : Type 0 where
   pub storage : Option (KeeperView S)
   -- A commit that returned `Store` may have been made.
   pub is_in_doubt : Bool
-  -- The cause of the last failure of a load, or of opening again.
-  pub cause : Cause
 
 -- The storage over a new connection, before any call.
 abbrev pub view_of_connection : {S : Type 0} → Held S → ReopeningView S
@@ -43,7 +40,6 @@ view_of_connection conn = record {
   failures = 0;
   storage = Some (keeper_of_connection conn);
   is_in_doubt = false;
-  cause = causes.Other;
 }
 
 -- The storage over the first connection: that over the open one, unless a failure has shut the first.
@@ -55,17 +51,11 @@ first_storage false storage = storage
 -- determine it.
 abbrev pub reopening_view_code : {S : Type 0} → Coded S → Coded (ReopeningView S)
 reopening_view_code {S} store =
-    code_by (Option (KeeperView S) × (ℕ × (Option (KeeperView S) × (Bool × Cause))))
+    code_by (Option (KeeperView S) × (ℕ × (Option (KeeperView S) × Bool)))
     (coded× (coded_option (keeper_view_code store)) (coded× coded_ℕ (coded× (coded_option (keeper_view_code store))
-    (coded× coded_bool cause_code))))
-    (λ k. (k.first, (k.failures, (k.storage, (k.is_in_doubt, k.cause)))))
-    (λ p. record {
-      first = p.0;
-      failures = p.1.0;
-      storage = p.1.1.0;
-      is_in_doubt = p.1.1.1.0;
-      cause = p.1.1.1.1;
-    }) (λ _. refl)
+    coded_bool)))
+    (λ k. (k.first, (k.failures, (k.storage, k.is_in_doubt))))
+    (λ p. record { first = p.0; failures = p.1.0; storage = p.1.1.0; is_in_doubt = p.1.1.1 }) (λ _. refl)
 
 -- The tables of a database in which no table can be queried.
 abbrev pub no_rows : Raw
@@ -171,11 +161,6 @@ AppliesOpen g changes _ _ = ⊥
 abbrev pub TellsOpen : {S : Type 0} → Ghosts S → List Change → Option (KeeperView S) → Bool → Type 0
 TellsOpen g changes None answer = ⊥
 TellsOpen g changes (Some k) answer = IsUp (state g k.conn) → Tells changes (state g k.conn).now (Some answer)
-
--- The load ended well, or with a fault whose cause is known, if the database is open: that of the load.
-abbrev pub EndsLoad : {S T : Type 0} → ReopeningView S → Result T Fault → Type 0
-EndsLoad new result = IfErr result (λ fault. IfSome new.storage (λ k.
-    (new.cause ≡ k.cause) × (fault ≡ fault_of_cause k.cause)))
 
 -- The answer to whether changes were made although their commit failed: `true` only if the database, opened again, was
 -- asked; `false` if it was asked, or was open and unwritten, or if the request is in doubt.

@@ -1,7 +1,6 @@
 //! The causes of failures of storage in a database.
 ghost use Rattle.std.specs.Prelude.{◌≡◌};
 ghost use Rattle.thes_sqlite.specs.Causes as causes;
-ghost use Rattle.thes_sqlite.specs.Faults.{IsKeeperFault};
 
 use sqlite::{Error, ErrorCode, Leftover};
 use sqlite_disk::Disk;
@@ -51,36 +50,17 @@ impl Cause {
             _ => Fault::Store,
         }
     }
-
-    /// Returns the cause if the fault is one that has it, and else a cause that the fault names.
-    pub(crate) fn of_fault(self, fault: Fault) -> Cause
-        requires { IsKeeperFault fault }
-        ensures { fault ≡ causes.fault_of_cause result }
-    {
-        if self.fault() == fault {
-            return self;
-        }
-        match fault {
-            Fault::OutOfMemory => Cause::NoMemory,
-            _ => Cause::Other,
-        }
-    }
 }
 
 /// Storage that remembers why it failed. A fault names no cause, so that each storage has the same.
 pub trait FaultCause {
-    // The cause of the last fault of a load or a migration; `Other` before the first.
-    ghost last_cause: { Self → Cause };
-
-    /// Returns the cause of the last fault of a load or a migration; `Other` before the first.
-    fn cause(&self) -> Cause
-        ensures { result ≡ last_cause self.now };
+    /// Returns the cause of the last fault `Store` of a load or a migration; `Other` before the
+    /// first.
+    fn cause(&self) -> Cause;
 }
 
 /// Storage in memory never answers `Store`.
 impl FaultCause for MemKeeper {
-    ghost last_cause = { λ _. Cause.Other };
-
     fn cause(&self) -> Cause {
         Cause::Other
     }

@@ -12,8 +12,7 @@ ghost use Rattle.thes_store.specs.Sinks.{SinkOutcome, sink_rows_of_table, sink_r
 ghost use Rattle.thes_store.specs.Reading.{IsPostingOfKey, IsPostingOfNumber, assigned_posting_rows, assigned_row_numbers};
 ghost use Rattle.thes_store.specs.Storage.{DeltaFitsStorage, KeepsStorage, RawAfterChanges};
 ghost use Rattle.thes_sqlite.specs.KeeperView.{IsUp, IsStore, IsKeeperState, IsKeeperUp, IsNewKeeper, KeeperQueryFrame};
-ghost use Rattle.thes_sqlite.specs.KeeperView.{raw_table, raw_of_keeper, storage_view, keeper_of_connection};
-ghost use Rattle.thes_sqlite.specs.Causes.{fault_of_cause};
+ghost use Rattle.thes_sqlite.specs.KeeperView.{raw_table, raw_of_keeper, storage_view};
 ghost use Rattle.thes_sqlite.specs.MigrationEffects.{Migrates, HasCountedCause, ServesAfterMigration, LeavesUnwritten};
 ghost use Rattle.thes_sqlite.specs.Commits.{AppliesAll, DatabaseFrame, KeeperCommitFrame, IsCrashSafe};
 ghost use Rattle.thes_sqlite.specs.Telling.{Tells};
@@ -65,12 +64,7 @@ impl<S: Alter> Model for SqlKeeper<S> {
 
     ghost coded = { keeper_view_code S.code };
 
-    ghost view = { λ k. record {
-      conn = k.conn;
-      failures = k.failures;
-      first = k.first.value;
-      cause = k.cause;
-    } };
+    ghost view = { λ k. record { conn = k.conn; failures = k.failures; first = k.first.value } };
 
     ghost invariant = { λ k. IsKeeperState (state S.Store k.first.value) (state S.Store k.conn) };
 }
@@ -100,7 +94,7 @@ impl<S: Alter> SqlKeeper<S> {
     /// whatever rows it has.
     pub fn adopt(alloc: Global, conn: Connection<S>) -> SqlKeeper<S>
         requires { conn.in_transaction ≡ false }
-        ensures is { result ≡ keeper_of_connection conn }
+        ensures is { result ≡ record { conn = conn; failures = 0; first = conn } }
         ensures serves { IsStore (state S.Store conn) → IsUp (state S.Store conn)
             → IsKeeperUp S.Store result }
     {
@@ -119,7 +113,7 @@ impl<S: Alter> SqlKeeper<S> {
     where
         S: Drop,
         ensures { conn.in_transaction ≡ false
-            → result ≡ Some (keeper_of_connection conn) }
+            → result ≡ Some (record { conn = conn; failures = 0; first = conn }) }
     {
         if !conn.is_autocommit() {
             return None;
@@ -231,14 +225,10 @@ impl<S: Alter> SqlKeeper<S> {
         ensures passes { OnOk result (IsUp (state S.Store self.new.conn)
             → PassesTable R.gives name (state S.Store self.old.conn).now sink.old sink.new) }
         ensures leaves { LeavesTables S.Store self.old.conn self.new.conn }
-        ensures because { IfErr result (λ fault. fault ≡ fault_of_cause self.new.cause) }
     {
         match yield_table_rows(self.alloc, &mut self.conn, name, sink, &mut self.cause) {
             Ok(_) => Ok(()),
-            Err(fault) => {
-                self.cause = self.cause.of_fault(fault);
-                Err(count_fault(&mut self.failures, fault))
-            }
+            Err(fault) => Err(count_fault(&mut self.failures, fault)),
         }
     }
 
@@ -252,7 +242,6 @@ impl<S: Alter> SqlKeeper<S> {
             → (state S.Store self.old.conn).now ≡ (state S.Store self.old.conn).committed
             → PassesNamed R.gives names.now (state S.Store self.old.conn).now sink.old sink.new) }
         ensures leaves { LeavesTables S.Store self.old.conn self.new.conn }
-        ensures because { IfErr result (λ fault. fault ≡ fault_of_cause self.new.cause) }
     {
         for name in names {
             if let Err(fault) = self.yield_table(*name, sink) {
@@ -264,8 +253,6 @@ impl<S: Alter> SqlKeeper<S> {
 }
 
 impl<S: Alter> FaultCause for SqlKeeper<S> {
-    ghost last_cause = { λ k. k.cause };
-
     fn cause(&self) -> Cause {
         self.cause
     }
@@ -296,7 +283,6 @@ impl<S: Alter> Keeper for SqlKeeper<S> {
         ensures leaves { LeavesUnwritten S.Store self.old.conn self.new.conn }
         ensures found { PassesFound (IsKeeperOpen S.Store) (FindsInKeeper S.Store) R.gives
             self.old self.new sink.old result sink.new }
-        ensures because { IfErr result (λ fault. fault ≡ fault_of_cause self.new.cause) }
     {
         let settled = self.conn.is_autocommit();
         prove!(settled);

@@ -3,13 +3,13 @@ ghost use Rattle.std.specs.Prelude.{◌≡◌, false, None, Some, IfErr, IfSome,
 ghost use Rattle.sqlite.specs.Held.{state};
 ghost use Rattle.thes_store.specs.FoundLoads.{PassesFound};
 ghost use Rattle.thes_store.specs.Sinks.{SinkOutcome, sink_rows};
-ghost use Rattle.thes_store.specs.Storage.{CommitFrame, DeltaFitsStorage, QueryFrame, RawAfterChanges};
+ghost use Rattle.thes_store.specs.Storage.{CommitFrame, DeltaFitsStorage, RawAfterChanges};
 ghost use Rattle.thes_sqlite.specs.Faults.{IsKeeperFault};
 ghost use Rattle.thes_sqlite.specs.KeeperView.{KeeperView, ServesTables};
 ghost use Rattle.thes_sqlite.specs.Reopening.{IsKeeperStillUp, rows_still, storage_still};
 ghost use Rattle.thes_sqlite.specs.Reopening.{FindsOfFirst, IsLostShut, IsStillOpen, KeepsOnFault, KeepsStill};
 ghost use Rattle.thes_sqlite.specs.Reopening.{LeavesFirst, ReturnsFirst, LosesShut, view_of_connection};
-ghost use Rattle.thes_sqlite.specs.Reopening.{StaysUnwritten, AppliesOpen, EndsLoad, ShowsChanges, EndsCommit, FindsStill};
+ghost use Rattle.thes_sqlite.specs.Reopening.{StaysUnwritten, AppliesOpen, ShowsChanges, EndsCommit};
 
 use crate::cause::{Cause, FaultCause};
 use crate::faults::{count_fault, count_fault_in};
@@ -60,7 +60,6 @@ impl<S: Alter, O: Reopen<Connection<S>> + HeldTables> Model for ReopeningKeeper<
       failures = k.failures;
       storage = k.storage;
       is_in_doubt = k.is_in_doubt;
-      cause = k.cause;
     } };
 
     ghost invariant = { λ k. IsOfFiles S.Store O.held (first_storage k.is_reopened k.storage)
@@ -214,7 +213,6 @@ impl<S: Alter + Drop, O: Reopen<Connection<S>> + HeldTables> ReopeningKeeper<S, 
         ensures kind { IfErr result IsKeeperFault }
         ensures found { PassesFound (IsStillOpen S.Store) (FindsOfFirst S.Store) R.gives
             self.old self.new sink.old result sink.new }
-        ensures because { EndsLoad self.new result }
     {
         let Some(keeper) = &mut self.storage else {
             return Err(Fault::Store);
@@ -255,8 +253,6 @@ impl<S: Alter + Drop, O: Reopen<Connection<S>> + HeldTables> ReopeningKeeper<S, 
 }
 
 impl<S: Alter, O: Reopen<Connection<S>> + HeldTables> FaultCause for ReopeningKeeper<S, O> {
-    ghost last_cause = { λ k. k.cause };
-
     fn cause(&self) -> Cause {
         self.cause
     }
@@ -275,16 +271,7 @@ impl<S: Alter + Drop, O: Reopen<Connection<S>> + HeldTables> Keeper for Reopenin
         self.failures
     }
 
-    fn load<R: RowSink>(&mut self, sink: &mut R) -> Result<(), Fault>
-        ensures yields { IsKeeperStillUp S.Store self.new
-            → SinkOutcome R.gives sink.old (sink_rows (rows_still S.Store self.old)) result
-            sink.new }
-        ensures asks { QueryFrame (storage_still S.Store self.old)
-            (storage_still S.Store self.new) result }
-        ensures found { PassesFound (IsStillOpen S.Store) (FindsStill S.Store) R.gives self.old
-            self.new sink.old result sink.new }
-        ensures because { EndsLoad self.new result }
-    {
+    fn load<R: RowSink>(&mut self, sink: &mut R) -> Result<(), Fault> {
         self.reopen_if_shut();
         let loaded = self.load_now(sink);
         count_fault_in(&mut self.failures, loaded)
