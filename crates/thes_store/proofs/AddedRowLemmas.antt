@@ -10,7 +10,7 @@ use Rattle.thes_tables.specs.declared.change.Change.{Change}
 use Rattle.thes_store.proofs.IndexPositionLemmas.{take_one}
 use Rattle.thes_store.specs.declared.slots.Slots.{Slots}
 use Rattle.thes_store.specs.AddedRow.{rows_added_by}
-use Rattle.thes_store.specs.Places.{HasPlace, KeepsPlaces}
+use Rattle.thes_store.specs.PositionLists.{HasListedPosition, KeepsListedPositions}
 use Rattle.thes_store.specs.Slots.{AreExpected}
 
 module _ {A : Type 0} where
@@ -39,8 +39,8 @@ module _ {A : Type 0} where
 
   -- If the positions of rows to be appended are indexed, and then that of one more row, those of the longer list are.
   pub expected_more : (number : A → ℕ) (old new : Slots A) (coming : List A) (o : Option A) → AreExpected number old
-      coming → KeepsPlaces old.places new.places → new.rows ≡ old.rows
-      → ((row : A) → o ≡ Some row → HasPlace new.places (number row) (vec_len old.rows + length coming))
+      coming → KeepsListedPositions old.index new.index → new.rows ≡ old.rows
+      → ((row : A) → o ≡ Some row → HasListedPosition new.index (number row) (vec_len old.rows + length coming))
       → AreExpected number new (coming ++ cons_option o [])
   expected_more number old new coming None expected keeps rows comes k row e =
       let all = append-nil coming in grind (arith, common_steps)

@@ -17,14 +17,14 @@ use Rattle.thes_store.specs.RowsAtPositions.{rows_after_change_at, rows_after_ch
 use Rattle.thes_base.proofs.NumberedLemmas.{slice_set_cases}
 
 module _ {A : Type 0} (f : A → A) where
-  pub changed_append : (places more : List ℕ) (rows : List A) → rows_after_changes_at f (places ++ more) rows
-      ≡ rows_after_changes_at f more (rows_after_changes_at f places rows)
+  pub changed_append : (positions more : List ℕ) (rows : List A) → rows_after_changes_at f (positions ++ more) rows
+      ≡ rows_after_changes_at f more (rows_after_changes_at f positions rows)
   changed_append [] more rows = refl
-  changed_append (i ∷ places) more rows = changed_append places more (rows_after_change_at f i rows)
+  changed_append (i ∷ positions) more rows = changed_append positions more (rows_after_change_at f i rows)
 
   -- The function leaves each row outside these positions unchanged.
   abbrev StayBut : List ℕ → List A → Type 0
-  StayBut places rows = (i : ℕ) (row : A) → slice_get rows i ≡ Some row → (f row ≡ row) ⊎ IsIn i places
+  StayBut positions rows = (i : ℕ) (row : A) → slice_get rows i ≡ Some row → (f row ≡ row) ⊎ IsIn i positions
 
   all_stay : (rows : List A) → StayBut [] rows → map f rows ≡ rows
   all_stay [] stay = refl
@@ -45,17 +45,18 @@ module _ {A : Type 0} (f : A → A) where
     map_with i rows = grind (arith, common_steps, map_set)
 
     -- After the row at a position is changed, the function changes only rows at the remaining positions.
-    stay_with : (i : ℕ) (places : List ℕ) (rows : List A) → StayBut (i ∷ places) rows
-        → StayBut places (rows_after_change_at f i rows)
-    stay_with i places rows stay = grind (arith, common_steps, slice_set_cases, again)
+    stay_with : (i : ℕ) (positions : List ℕ) (rows : List A) → StayBut (i ∷ positions) rows
+        → StayBut positions (rows_after_change_at f i rows)
+    stay_with i positions rows stay = grind (arith, common_steps, slice_set_cases, again)
 
     -- Changing the rows at these positions changes all rows, if the positions include each row that the function
     -- changes.
-    pub all_changed_at : (places : List ℕ) (rows : List A) → StayBut places rows → rows_after_changes_at f places rows
+    pub all_changed_at : (positions : List ℕ) (rows : List A) → StayBut positions rows → rows_after_changes_at f
+        positions rows
         ≡ map f rows
     all_changed_at [] rows stay = sym (all_stay rows stay)
-    all_changed_at (i ∷ places) rows stay = all_changed_at places (rows_after_change_at f i rows)
-        (stay_with i places rows stay) ∙ map_with i rows
+    all_changed_at (i ∷ positions) rows stay = all_changed_at positions (rows_after_change_at f i rows)
+        (stay_with i positions rows stay) ∙ map_with i rows
 
 moved_again : (source target : ℕ) (row : PostingRow) → row_after_move_all source target
     (row_after_move_all source target row) ≡ row_after_move_all source target row

@@ -36,29 +36,30 @@ none_found : (x : Keys) (rows : List PostingRow) (key : List ℕ) → ((i : ℕ)
     → (row : PostingRow) → IsIn row rows → row.key ≡ key → ⊥
 none_found x rows key leads position_by_digest position_by_text row h same = grind (arith, common_steps, in_get)
 
-pub found_by_text : (x : Keys) (rows : List PostingRow) (key : List ℕ) (place : Option ℕ)
-    (found : Option (Bor PostingRow)) → place ≡ tree.get (slice_cmp nat_cmp) x.rest key
+pub found_by_text : (x : Keys) (rows : List PostingRow) (key : List ℕ) (position : Option ℕ)
+    (found : Option (Bor PostingRow)) → position ≡ tree.get (slice_cmp nat_cmp) x.rest key
     → ((i : ℕ) (row : PostingRow) → slice_get rows i ≡ Some row → KeyHasPosition x row.key i)
     → ((i : ℕ) (row : PostingRow) → hash.get nat_eq x.numbers (digest_of key) ≡ Some i → slice_get rows i ≡ Some row
     → row.key ≡ key → ⊥)
     → IfSome found (λ row. IsIn row.now rows × (row.now.key ≡ key))
-    → IfNone found ((i : ℕ) (row : PostingRow) → place ≡ Some i → slice_get rows i ≡ Some row → row.key ≡ key → ⊥)
+    → IfNone found ((i : ℕ) (row : PostingRow) → position ≡ Some i → slice_get rows i ≡ Some row → row.key ≡ key → ⊥)
     → IsPostingOfKey key rows (option_copied found)
-found_by_text x rows key place None is leads position_by_digest some none = none_found x rows key leads
+found_by_text x rows key position None is leads position_by_digest some none = none_found x rows key leads
     position_by_digest (λ i row at. none i row (is ∙ at))
-found_by_text x rows key place (Some row) is leads position_by_digest some none = some
+found_by_text x rows key position (Some row) is leads position_by_digest some none = some
 
 place_of_standing : (concept : ℕ) (row : PostingRow) → is_assigned_row concept row ≡ true → row.place ≡ concept
 place_of_standing concept row e = eqb-true row.place concept (and_parts (not row.withdrawn) (row.place == concept) e).1
 
-pub standing_all : (x : PostingIndexes) (t : Tables) (concept : ℕ) (places : List ℕ) → Covers x t
-    → ArePositions x.standing concept places → rows_at_positions (is_assigned_row concept) t.posting places
+pub standing_all : (x : PostingIndexes) (t : Tables) (concept : ℕ) (positions : List ℕ) → Covers x t
+    → ArePositions x.standing concept positions → rows_at_positions (is_assigned_row concept) t.posting positions
     ≡ assigned_posting_rows concept t.posting
-standing_all x t concept places covers are = grind (arith, common_steps, picked_all, place_of_standing)
+standing_all x t concept positions covers are = grind (arith, common_steps, picked_all, place_of_standing)
 
-pub moves_all : (x : PostingIndexes) (t : Tables) (n : ℕ) (places : List ℕ) → Covers x t → ArePositions x.moves n places
-    → rows_at_positions (is_move_of n) t.move places ≡ filter (is_move_of n) t.move
-moves_all x t n places covers are =
-    picked_all (is_move_of n) t.move places are.rises
+pub moves_all : (x : PostingIndexes) (t : Tables) (n : ℕ) (positions : List ℕ) → Covers x t → ArePositions x.moves n
+    positions
+    → rows_at_positions (is_move_of n) t.move positions ≡ filter (is_move_of n) t.move
+moves_all x t n positions covers are =
+    picked_all (is_move_of n) t.move positions are.rises
     (λ i row at passes. are.complete i (subst (λ m. HasPosition x.moves m i) (eqb-true row.posting n passes)
     (covers.moves i row at)))

@@ -21,21 +21,23 @@ use Rattle.thes_store.specs.declared.position_sets.PositionSets.{PositionSets}
 use Rattle.thes_store.specs.PositionSets.{ArePositions}
 use Rattle.thes_store.specs.RowsAtPositions.{filtered_option, rows_at_positions}
 
-pub in_keys : (ks : List ℕ) (place : ℕ) → list_any (is_at (nat_cmp place)) ks ≡ true → IsIn place ks
-in_keys [] place h = absurd (cc)
-in_keys (k ∷ ks) place h = grind (arith, common_steps, ranked, in_keys ks place)
+pub in_keys : (ks : List ℕ) (position : ℕ) → list_any (is_at (nat_cmp position)) ks ≡ true → IsIn position ks
+in_keys [] position h = absurd (cc)
+in_keys (k ∷ ks) position h = grind (arith, common_steps, ranked, in_keys ks position)
 
 sorted_none : IsStrictlySortedBy nat_cmp []
 unfolding IsStrictlySortedBy
 sorted_none = tt
 
-pub some_places : (index : PositionSets) (n : ℕ) (set : BTreeSet ℕ) (places : List ℕ) → slice_get index.sets.items n
-    ≡ Some set → places ≡ set.keys → IsStrictlySortedBy nat_cmp set.keys → ArePositions index n places
-some_places index n set places found same rises = grind (arith, common_steps, in_keys)
+pub some_positions : (index : PositionSets) (n : ℕ) (set : BTreeSet ℕ) (positions : List ℕ) → slice_get index.sets.items
+    n
+    ≡ Some set → positions ≡ set.keys → IsStrictlySortedBy nat_cmp set.keys → ArePositions index n positions
+some_positions index n set positions found same rises = grind (arith, common_steps, in_keys)
 
-pub no_places : (index : PositionSets) (n : ℕ) (places : List ℕ) → slice_get index.sets.items n ≡ None → places ≡ []
-    → ArePositions index n places
-no_places index n places none same = grind (arith, common_steps, sorted_none)
+pub no_positions : (index : PositionSets) (n : ℕ) (positions : List ℕ) → slice_get index.sets.items n ≡ None → positions
+    ≡ []
+    → ArePositions index n positions
+no_positions index n positions none same = grind (arith, common_steps, sorted_none)
 
 abbrev PositionsAscendFrom : ℕ → List ℕ → Type 0
 PositionsAscendFrom least [] = Unit {0}
@@ -86,52 +88,54 @@ split_at (y ∷ xs) (suc i) x lt e = let h = split_at xs i x (omega arith) e in 
 
 module _ {A : Type 0} (p : A → Bool) where
   -- The rows at the positions of two lists in sequence are those of the first list and then those of the second.
-  pub picked_append : (rows : List A) (places more : List ℕ) → rows_at_positions p rows (places ++ more)
-      ≡ rows_at_positions p rows places ++ rows_at_positions p rows more
+  pub picked_append : (rows : List A) (positions more : List ℕ) → rows_at_positions p rows (positions ++ more)
+      ≡ rows_at_positions p rows positions ++ rows_at_positions p rows more
   picked_append rows [] more = refl
-  picked_append rows (i ∷ places) more = grind (arith, common_steps, picked_append rows places more)
+  picked_append rows (i ∷ positions) more = grind (arith, common_steps, picked_append rows positions more)
 
-  pub picked_cons : (rows : List A) (i : ℕ) (places : List ℕ) → rows_at_positions p rows (i ∷ places)
-      ≡ filtered_option p (slice_get rows i) ++ rows_at_positions p rows places
-  picked_cons rows i places = grind (arith, common_steps)
+  pub picked_cons : (rows : List A) (i : ℕ) (positions : List ℕ) → rows_at_positions p rows (i ∷ positions)
+      ≡ filtered_option p (slice_get rows i) ++ rows_at_positions p rows positions
+  picked_cons rows i positions = grind (arith, common_steps)
 
   -- The image of the row at one more position follows the images of the rows at the positions before it.
-  pub picked_mapped : {B : Type 0} (f : A → B) (rows : List A) (places : List ℕ) (i place : ℕ) → i < length places
-      → place ≡ get_or places i place
-      → map f (rows_at_positions p rows (take i places)) ++ map f (filtered_option p (slice_get rows place))
-      ≡ map f (rows_at_positions p rows (take (i + 1) places))
-  picked_mapped f rows places i place lt is =
+  pub picked_mapped : {B : Type 0} (f : A → B) (rows : List A) (positions : List ℕ) (i position : ℕ)
+      → i < length positions
+      → position ≡ get_or positions i position
+      → map f (rows_at_positions p rows (take i positions)) ++ map f (filtered_option p (slice_get rows position))
+      ≡ map f (rows_at_positions p rows (take (i + 1) positions))
+  picked_mapped f rows positions i position lt is =
       grind (arith, common_steps, picked_cons, picked_append, take_one, map-append)
 
-  picked_at : (rows : List A) (i : ℕ) (row : A) (places : List ℕ) → slice_get rows i ≡ Some row
-      → rows_at_positions p rows (i ∷ places) ≡ cond (p row) (row ∷ rows_at_positions p rows places)
-      (rows_at_positions p rows places)
-  picked_at rows i row places e = grind (arith, common_steps)
+  picked_at : (rows : List A) (i : ℕ) (row : A) (positions : List ℕ) → slice_get rows i ≡ Some row
+      → rows_at_positions p rows (i ∷ positions) ≡ cond (p row) (row ∷ rows_at_positions p rows positions)
+      (rows_at_positions p rows positions)
+  picked_at rows i row positions e = grind (arith, common_steps)
 
-  picked_past : (rows : List A) (places : List ℕ) (least : ℕ) → length rows ≤ least → PositionsAscendFrom least places
-      → rows_at_positions p rows places ≡ []
+  picked_past : (rows : List A) (positions : List ℕ) (least : ℕ) → length rows ≤ least → PositionsAscendFrom least
+      positions
+      → rows_at_positions p rows positions ≡ []
   picked_past rows [] least past r = refl
-  picked_past rows (i ∷ places) least past r =
-      grind (arith, common_steps, slice_get_past, picked_past rows places (i + 1))
+  picked_past rows (i ∷ positions) least past r =
+      grind (arith, common_steps, slice_get_past, picked_past rows positions (i + 1))
 
   -- The positions include that of each row from position `least` on that passes the test.
   abbrev CoversFrom : ℕ → List A → List ℕ → Type 0
-  CoversFrom least rows places = (i : ℕ) (row : A) → least ≤ i → slice_get rows i ≡ Some row → p row ≡ true
-      → IsIn i places
+  CoversFrom least rows positions = (i : ℕ) (row : A) → least ≤ i → slice_get rows i ≡ Some row → p row ≡ true
+      → IsIn i positions
 
   -- The induction hypothesis of `picked_from`, with the next row moved into the prefix.
   abbrev Later : List A → A → List A → Type 0
-  Later pre x rest = (places : List ℕ) → PositionsAscendFrom (length (pre ++ x ∷ [])) places
-      → CoversFrom (length (pre ++ x ∷ [])) ((pre ++ x ∷ []) ++ rest) places
-      → rows_at_positions p ((pre ++ x ∷ []) ++ rest) places ≡ filter p rest
+  Later pre x rest = (positions : List ℕ) → PositionsAscendFrom (length (pre ++ x ∷ [])) positions
+      → CoversFrom (length (pre ++ x ∷ [])) ((pre ++ x ∷ []) ++ rest) positions
+      → rows_at_positions p ((pre ++ x ∷ []) ++ rest) positions ≡ filter p rest
 
   -- After a prefix, the passing rows at ascending positions that include each passing row are all passing rows, in
   -- order.
-  picked_from : (pre rest : List A) (places : List ℕ) → PositionsAscendFrom (length pre) places
-      → CoversFrom (length pre) (pre ++ rest) places → rows_at_positions p (pre ++ rest) places ≡ filter p rest
-  picked_from pre [] places r covers = picked_past (pre ++ []) places (length pre) (let e : length (pre ++ [])
+  picked_from : (pre rest : List A) (positions : List ℕ) → PositionsAscendFrom (length pre) positions
+      → CoversFrom (length pre) (pre ++ rest) positions → rows_at_positions p (pre ++ rest) positions ≡ filter p rest
+  picked_from pre [] positions r covers = picked_past (pre ++ []) positions (length pre) (let e : length (pre ++ [])
       ≡ length pre = ap length (append-nil pre) in omega (arith, e)) r
-  picked_from pre (x ∷ rest) places r covers = go (λ ps r' c'. picked_from (pre ++ x ∷ []) rest ps r' c') places r
+  picked_from pre (x ∷ rest) positions r covers = go (λ ps r' c'. picked_from (pre ++ x ∷ []) rest ps r' c') positions r
       covers
     where
       same : (pre ++ x ∷ []) ++ rest ≡ pre ++ x ∷ rest
@@ -143,48 +147,49 @@ module _ {A : Type 0} (p : A → Bool) where
       here : slice_get (pre ++ x ∷ rest) (length pre) ≡ Some x
       here = get_at pre x rest
 
-      next : Later pre x rest → (places : List ℕ) → PositionsAscendFrom (length pre + 1) places
-          → CoversFrom (length pre + 1) (pre ++ x ∷ rest) places → rows_at_positions p (pre ++ x ∷ rest) places
+      next : Later pre x rest → (positions : List ℕ) → PositionsAscendFrom (length pre + 1) positions
+          → CoversFrom (length pre + 1) (pre ++ x ∷ rest) positions → rows_at_positions p (pre ++ x ∷ rest) positions
           ≡ filter p rest
-      next step places r covers =
-          subst (λ (rows : List A). rows_at_positions p rows places ≡ filter p rest) same
-          (step places (subst (λ n. PositionsAscendFrom n places) (sym longer) r)
-          (subst (λ (rows : List A). CoversFrom (length (pre ++ x ∷ [])) rows places) (sym same)
-          (subst (λ n. CoversFrom n (pre ++ x ∷ rest) places) (sym longer) covers)))
+      next step positions r covers =
+          subst (λ (rows : List A). rows_at_positions p rows positions ≡ filter p rest) same
+          (step positions (subst (λ n. PositionsAscendFrom n positions) (sym longer) r)
+          (subst (λ (rows : List A). CoversFrom (length (pre ++ x ∷ [])) rows positions) (sym same)
+          (subst (λ n. CoversFrom n (pre ++ x ∷ rest) positions) (sym longer) covers)))
 
-      skip : Later pre x rest → (places : List ℕ) → PositionsAscendFrom (length pre + 1) places
+      skip : Later pre x rest → (positions : List ℕ) → PositionsAscendFrom (length pre + 1) positions
           → CoversFrom (length pre)
-          (pre ++ x ∷ rest) places → rows_at_positions p (pre ++ x ∷ rest) places ≡ filter p (x ∷ rest)
-      skip step places r covers =
-          miss (p x) refl (next step places r (λ i row least e passes. covers i row (omega (arith, least)) e passes))
+          (pre ++ x ∷ rest) positions → rows_at_positions p (pre ++ x ∷ rest) positions ≡ filter p (x ∷ rest)
+      skip step positions r covers =
+          miss (p x) refl (next step positions r (λ i row least e passes. covers i row (omega (arith, least)) e passes))
         where
-          miss : (b : Bool) → p x ≡ b → rows_at_positions p (pre ++ x ∷ rest) places ≡ filter p rest
-              → rows_at_positions p (pre ++ x ∷ rest) places ≡ cond b (x ∷ filter p rest) (filter p rest)
+          miss : (b : Bool) → p x ≡ b → rows_at_positions p (pre ++ x ∷ rest) positions ≡ filter p rest
+              → rows_at_positions p (pre ++ x ∷ rest) positions ≡ cond b (x ∷ filter p rest) (filter p rest)
           miss true passes e =
-              absurd (let l = rising_above (length pre + 1) 0 places (length pre) r
+              absurd (let l = rising_above (length pre + 1) 0 positions (length pre) r
               (covers (length pre) x (omega arith) here passes) in omega (arith, l))
           miss false fails e = e
 
-      go : Later pre x rest → (places : List ℕ) → PositionsAscendFrom (length pre) places → CoversFrom (length pre)
-          (pre ++ x ∷ rest) places → rows_at_positions p (pre ++ x ∷ rest) places ≡ filter p (x ∷ rest)
+      go : Later pre x rest → (positions : List ℕ) → PositionsAscendFrom (length pre) positions → CoversFrom
+          (length pre)
+          (pre ++ x ∷ rest) positions → rows_at_positions p (pre ++ x ∷ rest) positions ≡ filter p (x ∷ rest)
       go step [] r covers = skip step [] tt covers
-      go step (i ∷ places) r covers = elim (cases_eq i (length pre)) [
+      go step (i ∷ positions) r covers = elim (cases_eq i (length pre)) [
         | inl at ↦
-            let r' = subst (λ n. PositionsAscendFrom (n + 1) places) at r.1 in
-            let c' : CoversFrom (length pre + 1) (pre ++ x ∷ rest) places = λ j row least e passes.
+            let r' = subst (λ n. PositionsAscendFrom (n + 1) positions) at r.1 in
+            let c' : CoversFrom (length pre + 1) (pre ++ x ∷ rest) positions = λ j row least e passes.
             elim (covers j row (omega (arith, least)) e passes) [
               | inl eq ↦ absurd (omega (arith, least, eq, at))
               | inr later ↦ later
             ] in
-            picked_at (pre ++ x ∷ rest) i x places (ap (λ n. slice_get (pre ++ x ∷ rest) n) at ∙ here)
-            ∙ ap (λ (l : List A). cond (p x) (x ∷ l) l) (next step places r' c')
-        | inr apart ↦ let a = r.0 in skip step (i ∷ places) (omega (arith, a, apart), r.1) covers
+            picked_at (pre ++ x ∷ rest) i x positions (ap (λ n. slice_get (pre ++ x ∷ rest) n) at ∙ here)
+            ∙ ap (λ (l : List A). cond (p x) (x ∷ l) l) (next step positions r' c')
+        | inr apart ↦ let a = r.0 in skip step (i ∷ positions) (omega (arith, a, apart), r.1) covers
       ]
 
   -- The passing rows at ascending positions that include each passing row are all passing rows, in order.
-  pub picked_all : (rows : List A) (places : List ℕ) → IsStrictlySortedBy nat_cmp places
-      → ((i : ℕ) (row : A) → slice_get rows i ≡ Some row → p row ≡ true → IsIn i places)
-      → rows_at_positions p rows places ≡ filter p rows
-  picked_all rows places sorted covers =
-      picked_from [] rows places (rise_of_sorted 0 places sorted (all_from_zero places))
+  pub picked_all : (rows : List A) (positions : List ℕ) → IsStrictlySortedBy nat_cmp positions
+      → ((i : ℕ) (row : A) → slice_get rows i ≡ Some row → p row ≡ true → IsIn i positions)
+      → rows_at_positions p rows positions ≡ filter p rows
+  picked_all rows positions sorted covers =
+      picked_from [] rows positions (rise_of_sorted 0 positions sorted (all_from_zero positions))
       (λ i row least e passes. covers i row e passes)

@@ -5,7 +5,7 @@ pub mod SinkLemmas
 pub mod FoundLemmas
 pub mod IndexLookUpLemmas
 pub mod BulkMoveLemmas
-pub mod PlaceLemmas
+pub mod PositionListLemmas
 pub mod SlotLemmas
 pub mod StorageLemmas
 pub mod AddedRowLemmas

@@ -121,24 +121,27 @@ module _ {S A X : Type 0} (gives : S → A → Result (Unit {0}) Fault → S →
       (subst (λ q. SinkOutcome gives mid (parts (x ∷ [])) q new) err h)))
 
 module _ {S A : Type 0} (gives : S → A → Result (Unit {0}) Fault → S → Type 0) (p : A → Bool) (rows : List A)
-    (places : List ℕ) (i place : ℕ) (o : Option A) (old mid new : S) (r : Result (Unit {0}) Fault)
-    (lt : i < length places)
-    (is : place ≡ get_or places i place) (t : SinkAcceptsAll gives old (rows_at_positions p rows (take i places)) mid)
-    (found : o ≡ slice_get rows place) (h : SinkOutcome gives mid (filtered_option p o) r new) where
-  at_place : SinkOutcome gives mid (rows_at_positions p rows (place ∷ [])) r new
-  at_place = subst (λ l. SinkOutcome gives mid l r new) (ap (filtered_option p) found
-      ∙ sym (picked_cons p rows place [] ∙ append-nil _)) h
+    (positions : List ℕ) (i position : ℕ) (o : Option A) (old mid new : S) (r : Result (Unit {0}) Fault)
+    (lt : i < length positions)
+    (is : position ≡ get_or positions i position) (t : SinkAcceptsAll gives old (rows_at_positions p rows
+    (take i positions)) mid)
+    (found : o ≡ slice_get rows position) (h : SinkOutcome gives mid (filtered_option p o) r new) where
+  at_position : SinkOutcome gives mid (rows_at_positions p rows (position ∷ [])) r new
+  at_position = subst (λ l. SinkOutcome gives mid l r new) (ap (filtered_option p) found
+      ∙ sym (picked_cons p rows position [] ∙ append-nil _)) h
 
   -- A sink that accepts the row at one more position, if it passes the test, has those at the positions so far.
-  pub place_accepted : (done : Unit {0}) → r ≡ Ok done
-      → SinkAcceptsAll gives old (rows_at_positions p rows (take (i + 1) places)) new
-  place_accepted done ok = part_accepted gives (rows_at_positions p rows) (picked_append p rows) places i place old mid
-      new r done lt is t ok at_place
+  pub position_accepted : (done : Unit {0}) → r ≡ Ok done
+      → SinkAcceptsAll gives old (rows_at_positions p rows (take (i + 1) positions)) new
+  position_accepted done ok = part_accepted gives (rows_at_positions p rows) (picked_append p rows) positions i position
+      old mid
+      new r done lt is t ok at_position
 
-  pub place_refused : (fault : Fault) → r ≡ Err fault
-      → SinkAcceptsPrefix gives fault old (rows_at_positions p rows places) new
-  place_refused fault err = part_refused gives (rows_at_positions p rows) (picked_append p rows) places i place fault
-      old mid new r lt is t err at_place
+  pub position_refused : (fault : Fault) → r ≡ Err fault
+      → SinkAcceptsPrefix gives fault old (rows_at_positions p rows positions) new
+  position_refused fault err = part_refused gives (rows_at_positions p rows) (picked_append p rows) positions i position
+      fault
+      old mid new r lt is t err at_position
 
 module _ {S A : Type 0} (gives : S → A → Result (Unit {0}) Fault → S → Type 0) where
   pub none_accepted : (xs : List A) (fault : Fault) (old : S) → SinkAcceptsPrefix gives fault old xs old

@@ -10,9 +10,9 @@ use Rattle.std.proofs.lemmas.List.Elements.{filter_map-append}
 use Rattle.std.proofs.lemmas.Option.{same_Some, slice_get_within}
 use Rattle.thes_base.proofs.NumberedLemmas.{push_cases, slice_set_cases}
 use Rattle.thes_tables.specs.Tables.{IsIn}
-use Rattle.thes_store.proofs.PlaceLemmas.{in_places}
+use Rattle.thes_store.proofs.PositionListLemmas.{in_position_list}
 use Rattle.thes_store.specs.declared.slots.Slots.{Slots}
-use Rattle.thes_store.specs.Places.{places_at, HasPlace, KeepsOtherPlaces}
+use Rattle.thes_store.specs.PositionLists.{listed_positions, HasListedPosition, KeepsOtherPositions}
 use Rattle.thes_store.specs.RowsAtPositions.{rows_after_change_at, KeepsRoom}
 use Rattle.thes_store.specs.Slots.{rows_in, AreIndexedBy, IsReady, is_same_row}
 
@@ -26,28 +26,28 @@ module _ {A : Type 0} where
 
   module _ (number : A → ℕ) (old new : Slots A) where
     -- An appended row is indexed if its position was inserted before.
-    pub found_pushed : (x : A) → new.rows.items ≡ old.rows.items ++ Some x ∷ [] → new.places ≡ old.places
-        → HasPlace old.places (number x) (vec_len old.rows) → AreIndexedBy number old → AreIndexedBy number new
-    found_pushed x items places at found i row e =
+    pub found_pushed : (x : A) → new.rows.items ≡ old.rows.items ++ Some x ∷ [] → new.index ≡ old.index
+        → HasListedPosition old.index (number x) (vec_len old.rows) → AreIndexedBy number old → AreIndexedBy number new
+    found_pushed x items index at found i row e =
         let p = push_cases old.rows.items (Some x) (Some row) (suc i) (sym (ap (λ l. slice_get l i) items) ∙ e) in
         grind (arith, common_steps)
 
-    pub ready_pushed : (x : A) (rest : List A) → new.places ≡ old.places → vec_len new.rows ≡ vec_len old.rows + 1
+    pub ready_pushed : (x : A) (rest : List A) → new.index ≡ old.index → vec_len new.rows ≡ vec_len old.rows + 1
         → vec_capacity new.rows ≡ vec_capacity old.rows → IsReady number old (x ∷ rest) → IsReady number new rest
-    ready_pushed x rest places len capacity ready =
+    ready_pushed x rest index len capacity ready =
         record {
           room = let r = ready.room in omega (arith, r, len, capacity);
-          expected = λ k row e. let old_place = ready.expected (suc k) row e in grind (arith, common_steps);
+          expected = λ k row e. let old_position = ready.expected (suc k) row e in grind (arith, common_steps);
         }
 
     -- The other rows stay indexed after one is removed.
     pub found_emptied : (i : ℕ) → new.rows.items ≡ rows_after_change_at (λ slot. None) i old.rows.items
-        → KeepsOtherPlaces i old.places new.places → AreIndexedBy number old → AreIndexedBy number new
+        → KeepsOtherPositions i old.index new.index → AreIndexedBy number old → AreIndexedBy number new
     found_emptied i items keeps found j row e = grind (arith, common_steps, slice_set_cases)
 
     pub ready_emptied : (i : ℕ) (rest : List A) → i < vec_len old.rows → KeepsRoom old.rows new.rows
-        → KeepsOtherPlaces i old.places new.places → IsReady number old rest → IsReady number new rest
-    ready_emptied i rest place_in_bounds room keeps ready = grind (arith, common_steps)
+        → KeepsOtherPositions i old.index new.index → IsReady number old rest → IsReady number new rest
+    ready_emptied i rest position_in_bounds room keeps ready = grind (arith, common_steps)
 
   module _ (p : A → Bool) where
     -- A gap in place of a row that fails the test leaves the passing rows unchanged.
@@ -87,27 +87,27 @@ module _ {A : Type 0} where
 
     module _ (number : A → ℕ) (agree : (x y : A) → same x y ≡ true → number x ≡ number y) (s : Slots A)
         (found : AreIndexedBy number s) where
-      found_same : (place : ℕ) → is_same_row same (slice_get s.rows.items place) row ≡ true
-          → HasPlace s.places (number row) place
-      found_same place e = let h = row_there (slice_get s.rows.items place) e in
-          subst (λ n. HasPlace s.places n place) (agree h.0 row h.2) (found place h.0 h.1)
+      found_same : (position : ℕ) → is_same_row same (slice_get s.rows.items position) row ≡ true
+          → HasListedPosition s.index (number row) position
+      found_same position e = let h = row_there (slice_get s.rows.items position) e in
+          subst (λ n. HasListedPosition s.index n position) (agree h.0 row h.2) (found position h.0 h.1)
 
-      pub none_there : ((place : ℕ) → IsIn place (places_at s.places (number row))
-          → is_same_row same (slice_get s.rows.items place) row ≡ false)
-          → (place : ℕ) → is_same_row same (slice_get s.rows.items place) row ≡ false
-      none_there apart place = ⊎_elim
-          (λ (hit : is_same_row same (slice_get s.rows.items place) row ≡ true).
-          apart place (in_places s.places (number row) place (found_same place hit)))
-          (λ (miss : is_same_row same (slice_get s.rows.items place) row ≡ false). miss)
-          (cases_Bool (is_same_row same (slice_get s.rows.items place) row))
+      pub none_there : ((position : ℕ) → IsIn position (listed_positions s.index (number row))
+          → is_same_row same (slice_get s.rows.items position) row ≡ false)
+          → (position : ℕ) → is_same_row same (slice_get s.rows.items position) row ≡ false
+      none_there apart position = ⊎_elim
+          (λ (hit : is_same_row same (slice_get s.rows.items position) row ≡ true).
+          apart position (in_position_list s.index (number row) position (found_same position hit)))
+          (λ (miss : is_same_row same (slice_get s.rows.items position) row ≡ false). miss)
+          (cases_Bool (is_same_row same (slice_get s.rows.items position) row))
 
     -- Assumes that the row at this position is equal to the given one, and is removed.
-    module _ (old new : Slots A) (place : ℕ) (held : is_same_row same (slice_get old.rows.items place) row ≡ true)
-        (emptied : new.rows.items ≡ rows_after_change_at (λ slot. None) place old.rows.items) where
-      h : (x : A) × (slice_get old.rows.items place ≡ Some (Some x)) × (same x row ≡ true)
-      h = row_there (slice_get old.rows.items place) held
+    module _ (old new : Slots A) (position : ℕ) (held : is_same_row same (slice_get old.rows.items position) row ≡ true)
+        (emptied : new.rows.items ≡ rows_after_change_at (λ slot. None) position old.rows.items) where
+      h : (x : A) × (slice_get old.rows.items position ≡ Some (Some x)) × (same x row ≡ true)
+      h = row_there (slice_get old.rows.items position) held
 
-      items : new.rows.items ≡ slice_set old.rows.items place None
+      items : new.rows.items ≡ slice_set old.rows.items position None
       items = grind (arith, common_steps, emptied, h)
 
       pub fewer_rows : length (rows_in new) < length (rows_in old)
@@ -116,10 +116,10 @@ module _ {A : Type 0} where
       pub others_stay : filter (λ x. not (same x row)) (rows_in new) ≡ filter (λ x. not (same x row)) (rows_in old)
       others_stay = grind (arith, common_steps, filter_emptied, h, items)
 
-      pub place_in_bounds : place < vec_len old.rows
-      place_in_bounds = grind (arith, common_steps, slice_get_within, h)
+      pub position_in_bounds : position < vec_len old.rows
+      position_in_bounds = grind (arith, common_steps, slice_get_within, h)
 
     -- If no slot has a row equal to the given one, the rows are those that differ from it.
-    pub none_left : (s : Slots A) → ((place : ℕ) → is_same_row same (slice_get s.rows.items place) row ≡ false)
+    pub none_left : (s : Slots A) → ((position : ℕ) → is_same_row same (slice_get s.rows.items position) row ≡ false)
         → rows_in s ≡ filter (λ x. not (same x row)) (rows_in s)
     none_left s apart = sym (filter_whole (λ x. not (same x row)) s.rows.items (differs s.rows.items apart))

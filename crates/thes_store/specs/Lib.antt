@@ -5,7 +5,7 @@ pub mod FoundLoads
 pub mod Sinks
 pub mod PositionSets
 pub mod Keys
-pub mod Places
+pub mod PositionLists
 pub mod Numbers
 pub mod RowsAtPositions
 pub mod Reading

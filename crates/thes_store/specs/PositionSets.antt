@@ -9,7 +9,7 @@ use Rattle.thes_store.specs.declared.position_sets.PositionSets.{PositionSets}
 
 -- The index has this position under the number.
 abbrev pub HasPosition : PositionSets → ℕ → ℕ → Type 0
-HasPosition index n place = IsSomeAnd (slice_get index.sets.items n) (λ set. contains nat_cmp set place ≡ true)
+HasPosition index n position = IsSomeAnd (slice_get index.sets.items n) (λ set. contains nat_cmp set position ≡ true)
 
 -- The index has a set of positions under the number, which may be empty.
 abbrev pub HasSet : PositionSets → ℕ → Type 0
@@ -17,9 +17,9 @@ HasSet index n = IsSome (slice_get index.sets.items n)
 
 -- The new index has each position that the old one has, under the same number.
 abbrev pub KeepsPositions : PositionSets → PositionSets → Type 0
-KeepsPositions old new = (n place : ℕ) → HasPosition old n place → HasPosition new n place
+KeepsPositions old new = (n position : ℕ) → HasPosition old n position → HasPosition new n position
 
 -- The list has all positions under the number, in ascending order.
-pub record ArePositions (index : PositionSets) (n : ℕ) (places : List ℕ) : Type 0 where
-  pub rises : IsStrictlySortedBy nat_cmp places
-  pub complete : (place : ℕ) → HasPosition index n place → IsIn place places
+pub record ArePositions (index : PositionSets) (n : ℕ) (positions : List ℕ) : Type 0 where
+  pub rises : IsStrictlySortedBy nat_cmp positions
+  pub complete : (position : ℕ) → HasPosition index n position → IsIn position positions

@@ -16,9 +16,9 @@ filtered_option p (Some row) = if p row then row ∷ [] else []
 -- The rows at these positions that pass the test, in the order of the positions; a position past the end has none.
 abbrev pub rows_at_positions : {A : Type 0} → (A → Bool) → List A → List ℕ → List A
 rows_at_positions p rows [] = []
-rows_at_positions p rows (i ∷ places) = elim (slice_get rows i) [
-  | None ↦ rows_at_positions p rows places
-  | Some row ↦ if p row then row ∷ rows_at_positions p rows places else rows_at_positions p rows places
+rows_at_positions p rows (i ∷ positions) = elim (slice_get rows i) [
+  | None ↦ rows_at_positions p rows positions
+  | Some row ↦ if p row then row ∷ rows_at_positions p rows positions else rows_at_positions p rows positions
 ]
 
 -- The rows after the one at this position is changed by `f`; unchanged if the position is past the end.
@@ -28,7 +28,7 @@ rows_after_change_at f i rows = elim (slice_get rows i) [ None ↦ rows | Some r
 -- The rows after those at these positions are changed by `f` in sequence.
 abbrev pub rows_after_changes_at : {A : Type 0} → (A → A) → List ℕ → List A → List A
 rows_after_changes_at f [] rows = rows
-rows_after_changes_at f (i ∷ places) rows = rows_after_changes_at f places (rows_after_change_at f i rows)
+rows_after_changes_at f (i ∷ positions) rows = rows_after_changes_at f positions (rows_after_change_at f i rows)
 
 -- A vector has kept its length and its capacity, and so its room for further items.
 pub record KeepsRoom {A Z : Type 0} (old new : Vec A Z) : Type 0 where

@@ -4,7 +4,7 @@ use Rattle.std.specs.Prelude.{slice_get, vec_len}
 use Rattle.std.specs.List.{filter_map}
 use Rattle.std.specs.Vec.{vec_capacity}
 use Rattle.thes_store.specs.declared.slots.Slots.{Slots}
-use Rattle.thes_store.specs.Places.{HasPlace, KeepsPlaces}
+use Rattle.thes_store.specs.PositionLists.{HasListedPosition, KeepsListedPositions}
 
 module _ {A : Type 0} where
   -- The rows in their order, without the gaps.
@@ -14,11 +14,12 @@ module _ {A : Type 0} where
   -- The index has each row's position under its number.
   abbrev pub AreIndexedBy : (A → ℕ) → Slots A → Type 0
   AreIndexedBy number s = (i : ℕ) (row : A) → slice_get s.rows.items i ≡ Some (Some row)
-      → HasPlace s.places (number row) i
+      → HasListedPosition s.index (number row) i
 
   -- The index has the positions that rows to be appended will get, under the numbers of these rows.
   abbrev pub AreExpected : (A → ℕ) → Slots A → List A → Type 0
-  AreExpected number s coming = (k : ℕ) (row : A) → slice_get coming k ≡ Some row → HasPlace s.places (number row)
+  AreExpected number s coming = (k : ℕ) (row : A) → slice_get coming k ≡ Some row → HasListedPosition s.index
+      (number row)
       (vec_len s.rows + k)
 
   -- These rows can be appended without failing: memory is reserved, and the index has their positions.
@@ -41,7 +42,7 @@ module _ {A : Type 0} where
   -- The rows are unchanged, and the index has all positions that it had.
   pub record GrowsIndex (old new : Slots A) : Type 0 where
     pub rows : new.rows ≡ old.rows
-    pub places : KeepsPlaces old.places new.places
+    pub index : KeepsListedPositions old.index new.index
 
   -- The test of whether the slot has a row that is equal to this one.
   abbrev pub is_same_row : (A → A → Bool) → Option (Option A) → A → Bool

@@ -31,12 +31,12 @@ impl Keys {
     }
 
     /// Inserts a position under a key, by its digest if that is free, or else by its text.
-    pub fn insert(&mut self, alloc: Global, key: &Key, place: usize) -> Result<(), AllocError>
+    pub fn insert(&mut self, alloc: Global, key: &Key, position: usize) -> Result<(), AllocError>
         ensures keeps { KeepsOtherKeys key.now self.old self.new }
-        ensures ok { OnOk result (KeyHasPosition self.new key.now place) }
+        ensures ok { OnOk result (KeyHasPosition self.new key.now position) }
     {
-        if !insert_digest(&mut self.numbers, digest(key), place)? {
-            self.rest.insert(key.try_clone(alloc)?, place)?;
+        if !insert_digest(&mut self.numbers, digest(key), position)? {
+            self.rest.insert(key.try_clone(alloc)?, position)?;
         }
         Ok(())
     }
@@ -60,16 +60,16 @@ impl Keys {
 fn insert_digest(
     numbers: &mut HashMap<u64, usize>,
     number: u64,
-    place: usize,
+    position: usize,
 ) -> Result<bool, AllocError>
     ensures keeps { KeepsDigests numbers.old numbers.new }
     ensures ok { IfOk result (λ leads. leads ≡ true
-        → hash.get nat_eq numbers.new number ≡ Some place) }
+        → hash.get nat_eq numbers.new number ≡ Some position) }
 {
     match numbers.entry(number)? {
         Entry::Occupied(_) => Ok(false),
         Entry::Vacant(entry) => {
-            entry.insert(place);
+            entry.insert(position);
             Ok(true)
         }
     }

@@ -7,7 +7,7 @@ mod keys;
 mod labels_and_links;
 pub mod mem;
 mod packed_label;
-mod places;
+mod position_lists;
 mod position_sets;
 mod posting_indexes;
 pub mod row_encoding;

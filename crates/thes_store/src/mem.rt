@@ -60,24 +60,24 @@ impl MemKeeper {
 }
 
 // Returns the posting at a position, None past the end.
-fn posting_at(rows: &[PostingRow], place: usize) -> Option<&PostingRow>
-    ensures { option_copied result ≡ slice_get rows.now place }
+fn posting_at(rows: &[PostingRow], position: usize) -> Option<&PostingRow>
+    ensures { option_copied result ≡ slice_get rows.now position }
 {
-    rows.get(place)
+    rows.get(position)
 }
 
 // Returns the posting at a position if it has the key; under a digest, the index may have the
 // position of another key's posting.
 fn row_with_key<'a>(
     rows: &'a [PostingRow],
-    place: Option<usize>,
+    position: Option<usize>,
     key: &Key,
 ) -> Option<&'a PostingRow>
     ensures some { IfSome result (λ row. IsIn row.now rows.now × (row.now.key ≡ key.now)) }
-    ensures none { IfNone result ((i : ℕ) (row : PostingRow) → place ≡ Some i
+    ensures none { IfNone result ((i : ℕ) (row : PostingRow) → position ≡ Some i
         → slice_get rows.now i ≡ Some row → row.key ≢ key.now) }
 {
-    let row = posting_at(rows, place?)?;
+    let row = posting_at(rows, position?)?;
     if row.key == *key { Some(row) } else { None }
 }
 
@@ -104,10 +104,10 @@ fn copy_row(alloc: Global, row: Option<&PostingRow>) -> Result<Option<PostingRow
 }
 
 // Returns the move at a position, None past the end.
-fn move_at(rows: &[MoveRow], place: usize) -> Option<&MoveRow>
-    ensures { option_copied result ≡ slice_get rows.now place }
+fn move_at(rows: &[MoveRow], position: usize) -> Option<&MoveRow>
+    ensures { option_copied result ≡ slice_get rows.now position }
 {
-    rows.get(place)
+    rows.get(position)
 }
 
 // Returns the moves at these positions that are moves of the posting, in the order of the
@@ -115,15 +115,15 @@ fn move_at(rows: &[MoveRow], place: usize) -> Option<&MoveRow>
 fn moves_at(
     alloc: Global,
     rows: &[MoveRow],
-    places: &[usize],
+    positions: &[usize],
     posting: PostNo,
 ) -> Result<Moves, AllocError>
     ensures { IfOk result (λ moves. moves
-        ≡ map recorded_move (rows_at_positions (is_move_of posting) rows.now places.now)) }
+        ≡ map recorded_move (rows_at_positions (is_move_of posting) rows.now positions.now)) }
 {
     let mut moves = Moves::new(alloc);
-    for place in places {
-        push_move(&mut moves, move_at(rows, *place), posting)?;
+    for position in positions {
+        push_move(&mut moves, move_at(rows, *position), posting)?;
     }
     Ok(moves)
 }
@@ -167,15 +167,15 @@ fn push_number(
 fn numbers_at(
     alloc: Global,
     rows: &[PostingRow],
-    places: &[usize],
+    positions: &[usize],
     concept: ResNo,
 ) -> Result<Vec<PostNo>, AllocError>
     ensures { IfOk result (λ numbers. numbers.items
-        ≡ map row_number (rows_at_positions (is_assigned_row concept) rows.now places.now)) }
+        ≡ map row_number (rows_at_positions (is_assigned_row concept) rows.now positions.now)) }
 {
     let mut numbers = Vec::new(alloc);
-    for place in places {
-        push_number(&mut numbers, posting_at(rows, *place), concept)?;
+    for position in positions {
+        push_number(&mut numbers, posting_at(rows, *position), concept)?;
     }
     Ok(numbers)
 }
@@ -201,17 +201,17 @@ fn yield_if_assigned<S: PostingSink>(
 // of the positions.
 fn yield_postings<S: PostingSink>(
     rows: &[PostingRow],
-    places: &[usize],
+    positions: &[usize],
     concept: ResNo,
     sink: &mut S,
 ) -> Result<(), Fault>
     ensures yields { SinkOutcome S.gives sink.old
-        (rows_at_positions (is_assigned_row concept) rows.now places.now)
+        (rows_at_positions (is_assigned_row concept) rows.now positions.now)
         result sink.new }
     ensures err { IfErr result (λ fault. fault ≡ Fault.OutOfMemory) }
 {
-    for place in places {
-        if let Err(fault) = yield_if_assigned(posting_at(rows, *place), concept, sink) {
+    for position in positions {
+        if let Err(fault) = yield_if_assigned(posting_at(rows, *position), concept, sink) {
             return Err(fault);
         }
     }
@@ -253,16 +253,16 @@ impl Keeper for MemKeeper {
     }
 
     fn posting(&mut self, number: PostNo) -> Result<Option<Posting>, Fault> {
-        let place = number.get() as usize - 1;
-        let Some(row) = posting_at(self.tables.posting.as_slice(), place) else {
+        let position = number.get() as usize - 1;
+        let Some(row) = posting_at(self.tables.posting.as_slice(), position) else {
             return Ok(None);
         };
         let row = row.try_clone(self.alloc)?;
-        let places = self.indexes.moves.places(number.get())?;
+        let positions = self.indexes.moves.positions(number.get())?;
         let moves = moves_at(
             self.alloc,
             self.tables.steps.as_slice(),
-            places.as_slice(),
+            positions.as_slice(),
             number,
         )?;
         Ok(Some(Posting { row, moves }))
@@ -274,18 +274,18 @@ impl Keeper for MemKeeper {
     }
 
     fn standing<S: PostingSink>(&mut self, concept: ResNo, sink: &mut S) -> Result<(), Fault> {
-        let places = self.indexes.standing.places(concept.get())?;
+        let positions = self.indexes.standing.positions(concept.get())?;
         yield_postings(
             self.tables.posting.as_slice(),
-            places.as_slice(),
+            positions.as_slice(),
             concept,
             sink,
         )
     }
 
     fn standing_numbers(&mut self, concept: ResNo) -> Result<Vec<PostNo>, Fault> {
-        let positions = self.indexes.standing.places(concept.get())?;
+        let at_concept = self.indexes.standing.positions(concept.get())?;
         let rows = self.tables.posting.as_slice();
-        Ok(numbers_at(self.alloc, rows, positions.as_slice(), concept)?)
+        Ok(numbers_at(self.alloc, rows, at_concept.as_slice(), concept)?)
     }
 }

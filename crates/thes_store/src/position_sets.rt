@@ -28,12 +28,12 @@ impl PositionSets {
     }
 
     /// Inserts a position under a number, unless it is there.
-    pub fn insert(&mut self, n: u32, place: usize) -> Result<(), AllocError>
+    pub fn insert(&mut self, n: u32, position: usize) -> Result<(), AllocError>
         ensures keeps { KeepsPositions self.old self.new }
-        ensures ok { OnOk result (HasPosition self.new n place) }
+        ensures ok { OnOk result (HasPosition self.new n position) }
     {
         self.open(n)?;
-        self.insert_in(n, place)
+        self.insert_in(n, position)
     }
 
     // Adds empty sets until the number has one; does nothing if it has one already.
@@ -48,25 +48,25 @@ impl PositionSets {
     }
 
     // Inserts a position into the set of a number that has one.
-    fn insert_in(&mut self, n: u32, place: usize) -> Result<(), AllocError>
+    fn insert_in(&mut self, n: u32, position: usize) -> Result<(), AllocError>
         requires { HasSet self.old n }
         ensures keeps { KeepsPositions self.old self.new }
-        ensures ok { OnOk result (HasPosition self.new n place) }
+        ensures ok { OnOk result (HasPosition self.new n position) }
     {
         if let Some(set) = self.sets.get_mut(n as usize) {
-            set.insert(place)?;
+            set.insert(position)?;
         }
         Ok(())
     }
 
     /// Inserts several positions under a number; if memory runs out, perhaps only some of them.
-    pub fn insert_all(&mut self, n: u32, places: &[usize]) -> Result<(), AllocError>
+    pub fn insert_all(&mut self, n: u32, positions: &[usize]) -> Result<(), AllocError>
         ensures keeps { KeepsPositions self.old self.new }
-        ensures ok { OnOk result ((place : ℕ) → IsIn place places.now
-            → HasPosition self.new n place) }
+        ensures ok { OnOk result ((position : ℕ) → IsIn position positions.now
+            → HasPosition self.new n position) }
     {
-        for place in places {
-            self.insert(n, *place)?;
+        for position in positions {
+            self.insert(n, *position)?;
         }
         Ok(())
     }
@@ -79,13 +79,13 @@ impl PositionSets {
     }
 
     /// Returns the positions under a number in ascending order, as a list.
-    pub fn places(&self, n: u32) -> Result<Vec<usize>, AllocError>
-        ensures { IfOk result (λ places. ArePositions self.now n places.items) }
+    pub fn positions(&self, n: u32) -> Result<Vec<usize>, AllocError>
+        ensures { IfOk result (λ positions. ArePositions self.now n positions.items) }
     {
         match self.positions_at(n) {
             Some(set) => {
-                let places = collect_positions(self.alloc, set)?;
-                Ok(places)
+                let positions = collect_positions(self.alloc, set)?;
+                Ok(positions)
             }
             None => Ok(Vec::new(self.alloc)),
         }
@@ -94,10 +94,10 @@ impl PositionSets {
 
 // Returns the elements of a set in ascending order, as a list.
 fn collect_positions(alloc: Global, set: &BTreeSet<usize>) -> Result<Vec<usize>, AllocError>
-    ensures places { IfOk result (λ places. places.items ≡ set.now.keys) }
+    ensures positions { IfOk result (λ positions. positions.items ≡ set.now.keys) }
     ensures rises { IsStrictlySortedBy nat_cmp set.now.keys }
 {
-    let mut places = Vec::new(alloc);
-    places.extend(set.iter().copied())?;
-    Ok(places)
+    let mut positions = Vec::new(alloc);
+    positions.extend(set.iter().copied())?;
+    Ok(positions)
 }

@@ -49,8 +49,9 @@ impl PostingIndexes {
                 self.standing.insert(place.get(), n.get() as usize - 1)?;
             }
             Change::MoveAll(source, target) => {
-                let places = self.standing.places(source.get())?;
-                self.standing.insert_all(target.get(), places.as_slice())?;
+                let positions = self.standing.positions(source.get())?;
+                self.standing
+                    .insert_all(target.get(), positions.as_slice())?;
             }
             Change::AddMove(row) => {
                 self.moves.insert(row.posting.get(), step)?;
@@ -67,9 +68,9 @@ impl PostingIndexes {
         ensures reaches { OnOk result ((i : ℕ) → row.now.number ≡ i + 1
             → IsIndexedAt self.new row.now i) }
     {
-        let place = row.number.get() as usize - 1;
-        self.standing.insert(row.place.get(), place)?;
-        self.keys.insert(alloc, &row.key, place)
+        let position = row.number.get() as usize - 1;
+        self.standing.insert(row.place.get(), position)?;
+        self.keys.insert(alloc, &row.key, position)
     }
 }
 

@@ -228,7 +228,7 @@ pub fn yield_meta<S: RowSink>(alloc: Global, base: &Base, sink: &mut S) -> Resul
 }
 
 // Returns the cell of the number of the row at position `i`: `i + 1`.
-fn place_cell(i: usize) -> Cell
+fn row_number_cell(i: usize) -> Cell
     requires { i + 1 < 2 ^ 63 }
     ensures { result ≡ number_cell (i + 1) }
 {
@@ -262,7 +262,7 @@ pub fn yield_resources<S: RowSink>(rows: &[Resource], sink: &mut S) -> Result<()
     ensures err { IfErr result (λ fault. fault ≡ Fault.OutOfMemory) }
 {
     for i in 0..rows.len() {
-        if let Err(fault) = yield_resource(place_cell(i), &rows[i], sink) {
+        if let Err(fault) = yield_resource(row_number_cell(i), &rows[i], sink) {
             return Err(fault);
         }
     }

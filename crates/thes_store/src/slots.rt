@@ -1,13 +1,13 @@
 //! A list of rows in insertion order, with an index by number, from which rows can be removed.
 ghost use Rattle.std.specs.Prelude.{◌≡◌, ◌<◌, ◌+◌, ◌^◌, ◌∷◌, [], ℕ, Option, Bool, None, true, false, length, slice_get, vec_len, option_map, Some, IfSome, IfNone, IfOk, OnOk};
 ghost use Rattle.thes_store.specs.AddedRow.{rows_added_by};
-ghost use Rattle.thes_store.specs.Places.{HasPlace, KeepsOtherPlaces};
+ghost use Rattle.thes_store.specs.PositionLists.{HasListedPosition, KeepsOtherPositions};
 ghost use Rattle.thes_store.specs.RowsAtPositions.{rows_after_change_at, KeepsRoom};
 ghost use Rattle.thes_store.specs.Slots.{rows_in, AreIndexedBy, AreExpected, IsReady, is_same_row};
 ghost use Rattle.thes_store.specs.Slots.{AppendsRow, RemovesRow, GrowsIndex};
 
 use crate::added_row::{AddedRow, count_added};
-use crate::places::Places;
+use crate::position_lists::PositionLists;
 use std::alloc::{AllocError, Global};
 use thes_tables::change::Change;
 
@@ -41,7 +41,7 @@ pub trait IndexedRow: AddedRow {
 #[derive(Drop)]
 pub struct Slots<T> {
     rows: Vec<Option<T>>,
-    places: Places,
+    index: PositionLists,
 }
 
 impl<T: IndexedRow + Drop> Slots<T> {
@@ -52,7 +52,7 @@ impl<T: IndexedRow + Drop> Slots<T> {
     {
         Slots {
             rows: Vec::new(alloc),
-            places: Places::new(alloc),
+            index: PositionLists::new(alloc),
         }
     }
 
@@ -83,28 +83,28 @@ impl<T: IndexedRow + Drop> Slots<T> {
         ensures ok { OnOk result
             (AreExpected T.number_of self.new (rows_added_by T.added_row changes.now)) }
     {
-        let mut place = self.rows.len();
+        let mut position = self.rows.len();
         for change in changes {
-            place = self.expect_one(change, place)?;
+            position = self.expect_one(change, position)?;
         }
         Ok(())
     }
 
-    // Indexes `place` as the position of the row that a change will insert, and returns `place +
-    // 1`; does nothing and returns `place` if the change inserts no row into this table.
-    fn expect_one(&mut self, change: &Change, place: usize) -> Result<usize, AllocError>
-        requires { place + 1 < 2 ^ 64 }
+    // Indexes the position as that of the row that a change will insert, and returns the next one;
+    // does nothing and returns the position if the change inserts no row into this table.
+    fn expect_one(&mut self, change: &Change, position: usize) -> Result<usize, AllocError>
+        requires { position + 1 < 2 ^ 64 }
         ensures keeps { GrowsIndex self.old self.new }
         ensures ok { OnOk result ((row : T) → T.added_row change.now ≡ Some row
-            → HasPlace self.new.places (T.number_of row) place) }
+            → HasListedPosition self.new.index (T.number_of row) position) }
         ensures next { IfOk result (λ next. next
-            ≡ place + length (rows_added_by T.added_row (change.now ∷ []))) }
+            ≡ position + length (rows_added_by T.added_row (change.now ∷ []))) }
     {
         let Some(number) = T::number_of_added_row(change) else {
-            return Ok(place);
+            return Ok(position);
         };
-        self.places.insert(number, place)?;
-        Ok(place + 1)
+        self.index.insert(number, position)?;
+        Ok(position + 1)
     }
 
     /// Appends a row whose memory is reserved and whose position is indexed; it can't fail.
@@ -115,51 +115,52 @@ impl<T: IndexedRow + Drop> Slots<T> {
         self.rows.push_reserved(Some(row));
     }
 
-    /// Removes all rows that are equal to this one, and leaves gaps in their places.
+    /// Removes all rows that are equal to this one, and leaves gaps in their positions.
     pub fn remove(&mut self, row: &T)
         requires { AreIndexedBy T.number_of self.old }
         ensures { RemovesRow T.number_of T.same row.now self.old self.new }
     {
-        'removing: while let Some(place) = self.place_of(row) {
-            self.empty(row.index_number(), place);
+        'removing: while let Some(position) = self.position_of(row) {
+            self.empty(row.index_number(), position);
         }
     }
 
     // Returns the position of a row that is equal to this one, if there is one.
-    fn place_of(&self, row: &T) -> Option<usize>
+    fn position_of(&self, row: &T) -> Option<usize>
         ensures some { IfSome result
-            (λ place. is_same_row T.same (slice_get self.now.rows.items place) row.now ≡ true) }
-        ensures none { IfNone result (AreIndexedBy T.number_of self.now → (place : ℕ)
-            → is_same_row T.same (slice_get self.now.rows.items place) row.now ≡ false) }
+            (λ position. is_same_row T.same (slice_get self.now.rows.items position) row.now
+            ≡ true) }
+        ensures none { IfNone result (AreIndexedBy T.number_of self.now → (position : ℕ)
+            → is_same_row T.same (slice_get self.now.rows.items position) row.now ≡ false) }
     {
-        for place in self.places.positions(row.index_number()) {
-            if self.has(*place, row) {
-                return Some(*place);
+        for position in self.index.positions(row.index_number()) {
+            if self.has(*position, row) {
+                return Some(*position);
             }
         }
         None
     }
 
     // Checks whether the row at a position is equal to this one; a gap isn't.
-    fn has(&self, place: usize, row: &T) -> bool
-        ensures { result ≡ is_same_row T.same (slice_get self.now.rows.items place) row.now }
+    fn has(&self, position: usize, row: &T) -> bool
+        ensures { result ≡ is_same_row T.same (slice_get self.now.rows.items position) row.now }
     {
-        match self.rows.get(place) {
+        match self.rows.get(position) {
             Some(Some(there)) => there.is_same(row),
             _ => false,
         }
     }
 
     // Removes the row at a position, and its position from the index under this number.
-    fn empty(&mut self, number: u32, place: usize)
+    fn empty(&mut self, number: u32, position: usize)
         ensures rows { self.new.rows.items
-            ≡ rows_after_change_at (λ slot. None) place self.old.rows.items }
+            ≡ rows_after_change_at (λ slot. None) position self.old.rows.items }
         ensures room { KeepsRoom self.old.rows self.new.rows }
-        ensures places { KeepsOtherPlaces place self.old.places self.new.places }
+        ensures index { KeepsOtherPositions position self.old.index self.new.index }
     {
-        if let Some(slot) = self.rows.get_mut(place) {
+        if let Some(slot) = self.rows.get_mut(position) {
             *slot = None;
         }
-        self.places.remove(number, place);
+        self.index.remove(number, position);
     }
 }

@@ -193,12 +193,12 @@ fn move_row(row: &mut PostingRow, source: ResNo, target: ResNo)
 }
 
 // Assigns the posting at a position to the target if it is assigned to the source.
-fn move_posting_at(postings: &mut Vec<PostingRow>, place: usize, source: ResNo, target: ResNo)
+fn move_posting_at(postings: &mut Vec<PostingRow>, position: usize, source: ResNo, target: ResNo)
     ensures items { postings.new.items
-        ≡ rows_after_change_at (row_after_move_all source target) place postings.old.items }
+        ≡ rows_after_change_at (row_after_move_all source target) position postings.old.items }
     ensures room { KeepsRoom postings.old postings.new }
 {
-    if let Some(row) = postings.get_mut(place) {
+    if let Some(row) = postings.get_mut(position) {
         move_row(row, source, target);
     }
 }
@@ -206,17 +206,17 @@ fn move_posting_at(postings: &mut Vec<PostingRow>, place: usize, source: ResNo, 
 // Assigns the postings at these positions to the target if they are assigned to the source.
 fn move_at_positions(
     postings: &mut Vec<PostingRow>,
-    places: &BTreeSet<usize>,
+    positions: &BTreeSet<usize>,
     source: ResNo,
     target: ResNo,
 )
     ensures items { postings.new.items
-        ≡ rows_after_changes_at (row_after_move_all source target) places.now.keys
+        ≡ rows_after_changes_at (row_after_move_all source target) positions.now.keys
         postings.old.items }
     ensures room { KeepsRoom postings.old postings.new }
 {
-    for place in places.iter() {
-        move_posting_at(postings, *place, source, target);
+    for position in positions.iter() {
+        move_posting_at(postings, *position, source, target);
     }
 }
 
@@ -227,7 +227,7 @@ fn move_all(postings: &mut Vec<PostingRow>, standing: &PositionSets, source: Res
     ensures items { postings.new.items ≡ map (row_after_move_all source target) postings.old.items }
     ensures room { KeepsRoom postings.old postings.new }
 {
-    if let Some(places) = standing.positions_at(source.get()) {
-        move_at_positions(postings, places, source, target);
+    if let Some(positions) = standing.positions_at(source.get()) {
+        move_at_positions(postings, positions, source, target);
     }
 }

@@ -3,5 +3,5 @@ use Rattle.std.proofs.lemmas.Grind.{common_steps}
 use Rattle.thes_store.proofs.IndexPositionLemmas.{picked_mapped}
 use Rattle.thes_store.proofs.mem.moves_at.Goals as goal
 
-pub loop-place-preserved : goal.loop-place-preserved
-loop-place-preserved c = grind (arith, common_steps, picked_mapped)
+pub loop-position-preserved : goal.loop-position-preserved
+loop-position-preserved c = grind (arith, common_steps, picked_mapped)

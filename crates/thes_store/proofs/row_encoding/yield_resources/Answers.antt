@@ -15,7 +15,7 @@ pub returns-in-Err-clause-yields : goal.returns-in-Err-clause-yields
 returns-in-Err-clause-yields g c =
     let i = c.loop-i.i in
     let e : i + 1 ≡ 1 + i = omega arith in
-    let handed = c.yield_resource.ensures.yields (1 + i) (c.place_cell.ensures ∙ ap number_cell e) in
+    let handed = c.yield_resource.ensures.yields (1 + i) (c.row_number_cell.ensures ∙ ap number_cell e) in
     let refused =
     subst (λ (r : Result (Unit {0}) Fault). SinkOutcome g.S.RowSink.gives c.loop-i.sink
     ((table.Resource, Some (resource_cells (1 + i) c.index-rows-i.result)) ∷ []) r c.yield_resource.new.sink)

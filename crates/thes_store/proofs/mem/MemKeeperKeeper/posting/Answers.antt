@@ -14,16 +14,16 @@ pub returns-clause-ok : goal.returns-clause-ok
 returns-clause-ok c = λ up t same.
     let x = c.self.inside.indexes in
     let is = c.self.view_is ∙ listed_one c.args.self.now t same in
-    let places = c.in_ok-places.places.items in
+    let positions = c.in_ok-positions.positions.items in
     let there : slice_get c.self.inside.tables.posting.items (c.args.number - 1) ≡ Some c.in_ok-row.row =
     search rules in
     let least : 1 ≤ c.args.number = search rules in
     let row = numbered_at c.self.inside.tables.posting.items c.args.number least ∙ there in
     let moves : c.in_ok-moves.moves
-    ≡ map recorded_move (rows_at_positions (is_move_of c.args.number) c.self.inside.tables.steps.items places) =
+    ≡ map recorded_move (rows_at_positions (is_move_of c.args.number) c.self.inside.tables.steps.items positions) =
     search rules in
-    let are = subst (λ n. ArePositions x.moves n places) c.get-2.ensures.value c.in_ok-places.ensures in (
+    let are = subst (λ n. ArePositions x.moves n positions) c.get-2.ensures.value c.in_ok-positions.ensures in (
       subst (λ (u : Tables). entry_at u.posting c.args.number ≡ Some c.in_ok-row.row) is row,
-      moves ∙ ap (λ (u : Tables). map recorded_move (rows_at_positions (is_move_of c.args.number) u.move places)) is
-          ∙ ap (map recorded_move) (moves_all x t c.args.number places (subst (Covers x) is c.self.invariant.0) are),
+      moves ∙ ap (λ (u : Tables). map recorded_move (rows_at_positions (is_move_of c.args.number) u.move positions)) is
+          ∙ ap (map recorded_move) (moves_all x t c.args.number positions (subst (Covers x) is c.self.invariant.0) are),
     )

@@ -13,10 +13,10 @@ pub returns-clause-ok : goal.returns-clause-ok
 returns-clause-ok c = λ up t same.
     let x = c.self.inside.indexes in
     let is = c.self.view_is ∙ listed_one c.args.self.now t same in
-    let places = c.in_ok-positions.positions.items in
+    let positions = c.in_ok-at_concept.at_concept.items in
     let concept = c.args.concept in
-    let are = subst (λ n. ArePositions x.standing n places) c.get.ensures.value c.in_ok-positions.ensures in
-    let all = standing_all x t concept places (subst (Covers x) is c.self.invariant.0) are in
+    let are = subst (λ n. ArePositions x.standing n positions) c.get.ensures.value c.in_ok-at_concept.ensures in
+    let all = standing_all x t concept positions (subst (Covers x) is c.self.invariant.0) are in
     let rows : c.as_slice-rows.result.now ≡ t.posting = c.as_slice-rows.ensures.value ∙ ap (λ (u : Tables). u.posting)
     is in
     let whole = ap (λ (rs : List PostingRow). rows_at_positions (is_assigned_row concept) rs c.as_slice.result.now) rows

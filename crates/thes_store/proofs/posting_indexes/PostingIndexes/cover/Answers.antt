@@ -15,7 +15,7 @@ returns-in_ok-insert_all-in-MoveAll-clause-reaches c =
     (λ t fits covers i row at stands.
     let from = subst (λ n. HasPosition c.args.self.now.standing n i) (stands ∙ sym c.get-in-MoveAll.ensures.value)
     (covers.standing i row at) in
-    let listed = subst (IsIn i) (sym c.as_slice.ensures.value) (c.in_ok-places-in-MoveAll.ensures.complete i from) in
+    let listed = subst (IsIn i) (sym c.as_slice.ensures.value) (c.in_ok-positions-in-MoveAll.ensures.complete i from) in
     subst (λ n. HasPosition c.insert_all.new.self n i) c.get-in-MoveAll-2.ensures.value
     (c.in_ok-insert_all-in-MoveAll.ensures.ok i listed))
 

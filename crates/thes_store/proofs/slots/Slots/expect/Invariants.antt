@@ -7,9 +7,9 @@ use Rattle.thes_store.proofs.slots.Slots.expect.Given as goal
 abbrev pub invariant-loop-change : goal.invariant-loop-change
 invariant-loop-change g l = record {
   keeps : GrowsIndex l.fn.self l.self;
-  place : l.place ≡ vec_len l.fn.self.rows
+  position : l.position ≡ vec_len l.fn.self.rows
       + length (rows_added_by g.T.AddedRow.added_row (take l.change-index l.changes));
-  least : l.place ≤ vec_len l.fn.self.rows + l.change-index;
+  least : l.position ≤ vec_len l.fn.self.rows + l.change-index;
   expected : AreExpected g.T.IndexedRow.number_of l.self
       (rows_added_by g.T.AddedRow.added_row (take l.change-index l.changes));
 }

@@ -2,7 +2,7 @@ use Rattle.std.proofs.lemmas.Grind.{common_steps}
 use Rattle.std.proofs.Common.{◌≡◌, ◌+◌, refl, subst, arith}
 use Rattle.std.specs.Prelude.{vec_len}
 use Rattle.thes_store.specs.declared.slots.Slots.{Slots}
-use Rattle.thes_store.specs.Places.{HasPlace}
+use Rattle.thes_store.specs.PositionLists.{HasListedPosition}
 use Rattle.thes_store.proofs.SlotLemmas.{rows_pushed, found_pushed, ready_pushed}
 use Rattle.thes_store.proofs.slots.Slots.push.Goals as goal
 
@@ -10,8 +10,9 @@ pub returns : goal.returns
 returns g c =
     let number = g.T.IndexedRow.number_of in
     let s = c.args.self.now in
-    let new : Slots g.row.T.Denot = record { rows = c.push_reserved.new.self; places = s.places } in
-    let at = subst (HasPlace s.places (number c.args.row)) (let e : vec_len s.rows + 0 ≡ vec_len s.rows = omega arith
+    let new : Slots g.row.T.Denot = record { rows = c.push_reserved.new.self; index = s.index } in
+    let at = subst (HasListedPosition s.index (number c.args.row)) (let e : vec_len s.rows + 0 ≡ vec_len s.rows = omega
+    arith
     in e) (c.requires.expected 0 c.args.row refl) in
     record {
       rows = grind (arith, common_steps, rows_pushed);
