@@ -18,13 +18,13 @@ use Rattle.thes_export.proofs.LineReadingLemmas.{object_then, line_then}
 use Rattle.thes_export.proofs.DocumentLemmas.{AllWritable, lines_text, document_same}
 
 iri_made : (iri : List ℕ) → All IsIriByte iri → IsMadeOf IsIriPiece iri iri
-iri_made [] each = record { pieces = []; each = All-nil IsIriPiece; text = refl; read = refl }
+iri_made [] each = record { pieces = []; each = All-nil IsIriPiece; text_is = refl; read = refl }
 iri_made (b ∷ iri) each =
     let more = iri_made iri (All-tail IsIriByte b iri each) in
     record {
       pieces = Plain b ∷ more.pieces;
       each = All-cons IsIriPiece (Plain b) more.pieces (All-head IsIriByte b iri each) more.each;
-      text = ap (λ l. b ∷ l) more.text;
+      text_is = ap (λ l. b ∷ l) more.text_is;
       read = ap (λ l. b ∷ l) more.read;
     }
 
@@ -55,14 +55,14 @@ by_piece b fine = elim (spelled_byte b) [
 
 -- The escaped bytes of a literal are pieces whose value is the literal.
 string_made : (text : List ℕ) → All IsTextByte text → IsMadeOf IsStringPiece (flat_map byte_spelling text) text
-string_made [] each = record { pieces = []; each = All-nil IsStringPiece; text = refl; read = refl }
+string_made [] each = record { pieces = []; each = All-nil IsStringPiece; text_is = refl; read = refl }
 string_made (b ∷ text) each =
     let one = by_piece b (All-head IsTextByte b text each) in
     let more = string_made text (All-tail IsTextByte b text each) in
     record {
       pieces = one.piece ∷ more.pieces;
       each = All-cons IsStringPiece one.piece more.pieces one.fine more.each;
-      text = λ i. one.text i ++ more.text i;
+      text_is = λ i. one.text i ++ more.text_is i;
       read = λ i. one.read i ++ more.read i;
     }
 

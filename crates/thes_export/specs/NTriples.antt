@@ -120,10 +120,10 @@ IsStringPiece (Echar letter) = IsEchar letter
 IsStringPiece (Uchar letter digits) = IsUchar letter digits
 
 -- The text between brackets or quotation marks consists of pieces, which encode the value.
-pub record IsMadeOf (IsPiece : Piece → Type 0) (text_is value : List ℕ) : Type 0 where
+pub record IsMadeOf (IsPiece : Piece → Type 0) (text value : List ℕ) : Type 0 where
   pub pieces : List Piece
   pub each : All IsPiece pieces
-  pub text : text_is ≡ flat_map piece_text pieces
+  pub text_is : text ≡ flat_map piece_text pieces
   pub read : value ≡ flat_map piece_value pieces
 
 -- A definition of a production has the remaining text as an argument as well, and so states where its own text ends.
