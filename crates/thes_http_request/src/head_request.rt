@@ -24,6 +24,13 @@ pub struct HeadRequest<'a> {
     pub body: u32,
 }
 
+// The header fields of a head: its bytes, and where the fields are in them.
+#[derive(Clone, Copy)]
+struct FieldSpans<'a> {
+    bytes: &'a [u8],
+    headers: &'a [HeaderSpan],
+}
+
 /// Returns the request in a head, or the first problem with it.
 #[tactic(auto, using(crate::proofs::HeadOutcomeLemmas::head_outcome_ok, crate::proofs::HeadOutcomeLemmas::head_outcome_err))]
 pub fn read_head_request<'a>(
@@ -48,14 +55,11 @@ pub fn read_head_request<'a>(
     let Ok(target) = str::from_utf8(spans.path.of(head)) else {
         return Err(Problem::BadHead);
     };
-    request_of_parts(
-        alloc,
-        paths,
-        spans.method.of(head),
-        target,
-        head,
-        &headers[..spans.headers],
-    )
+    let fields = FieldSpans {
+        bytes: head,
+        headers: &headers[..spans.headers],
+    };
+    request_of_parts(alloc, paths, spans.method.of(head), target, &fields)
 }
 
 // Checks the parts of a head in order: transfer coding, path, method, and length of the body;
@@ -65,14 +69,13 @@ fn request_of_parts<'a>(
     paths: Paths<'_>,
     method: &[u8],
     target: &'a str,
-    bytes: &[u8],
-    headers: &[HeaderSpan],
+    spans: &FieldSpans<'_>,
 ) -> Result<HeadRequest<'a>, Problem>
-    requires { All (IsHeaderWithin (length bytes.now)) headers.now }
+    requires { All (IsHeaderWithin (length spans.now.bytes.now)) spans.now.headers.now }
     ensures ok { IfOk result (λ w. head_request_of paths.entry.takes_plans (record {
       method = method.now;
       target = target.now;
-      fields = map (header_bytes bytes.now) headers.now;
+      fields = map (header_bytes spans.now.bytes.now) spans.now.headers.now;
     })
         ≡ Ok (record {
           endpoint = w.endpoint;
@@ -84,10 +87,10 @@ fn request_of_parts<'a>(
         → head_request_of paths.entry.takes_plans (record {
           method = method.now;
           target = target.now;
-          fields = map (header_bytes bytes.now) headers.now;
+          fields = map (header_bytes spans.now.bytes.now) spans.now.headers.now;
         }) ≡ Err p }
 {
-    if has_field(bytes, headers, b"transfer-encoding") {
+    if has_field(spans.bytes, spans.headers, b"transfer-encoding") {
         return Err(Problem::TransferCoding);
     }
     let (path, query) = split_target(target);
@@ -97,7 +100,7 @@ fn request_of_parts<'a>(
     if !found.endpoint.has_method(alloc, method) {
         return Err(Problem::BadMethod(found.endpoint));
     }
-    match body_length(bytes, headers, found.endpoint.body_limit()) {
+    match body_length(spans.bytes, spans.headers, found.endpoint.body_limit()) {
         Ok(body) => Ok(HeadRequest {
             endpoint: found.endpoint,
             number: found.number,
