@@ -35,7 +35,7 @@ impl Keys {
         ensures keeps { KeepsOtherKeys key.now self.old self.new }
         ensures ok { OnOk result (KeyHasPosition self.new key.now position) }
     {
-        if !insert_digest(&mut self.numbers, digest(key), position)? {
+        if !insert_digest(&mut self.numbers, digest_of(key), position)? {
             self.rest.insert(key.try_clone(alloc)?, position)?;
         }
         Ok(())
@@ -45,7 +45,7 @@ impl Keys {
     pub fn position_by_digest(&self, key: &Key) -> Option<usize>
         ensures { result ≡ hash.get nat_eq self.now.numbers (digest_of key.now) }
     {
-        self.numbers.get(&digest(key)).copied()
+        self.numbers.get(&digest_of(key)).copied()
     }
 
     /// Returns the position under the key's text, if another key has its digest.
@@ -75,9 +75,9 @@ fn insert_digest(
     }
 }
 
-// Returns a 64-bit digest of a key. Different keys may have the same digest.
+/// Returns a 64-bit digest of a key. Different keys may have the same digest.
 #[tactic(auto, unfolding(crate::specs::Keys::digest_of))]
-fn digest(key: &Key) -> u64
+pub fn digest_of(key: &Key) -> u64
     ensures { result ≡ digest_of key.now }
 {
     let mut hasher = FoldHasher::default();

@@ -14,3 +14,5 @@ pub mod row_encoding;
 pub mod sink;
 mod slots;
 mod tables;
+
+pub use keys::digest_of;

@@ -20,9 +20,10 @@ apply_change-requires-clause-standing c =
     let done = c.loop-change.yielded in
     let all = c.args.changes.items in
     let given = c.into_iter-change-iterator.ensures.into_iter_gives in
-    let first =
-    sym (YieldsList-so_far (YieldsList-from_vec {s = c.into_iter-change-iterator.result} all given.0
-    (given.1 ∙ c.args.changes.ok.0)) done c.loop-change.change-iterator c.loop-change.yielded_by) ∙ map-id done in
+    let road = YieldsList-from_vec {s = c.into_iter-change-iterator.result} all given.0
+    (given.1 ∙ c.args.changes.ok.0) in
+    let first = sym (YieldsList-so_far road done c.loop-change.change-iterator c.loop-change.yielded_by)
+    ∙ map-id done in
     subst (λ (t : Tables). IndexesByPlace c.args.standing.now t.posting)
     (ap (λ (l : List Change). tables_after_delta l (tables_in_memory c.args.self.now)) first
     ∙ sym c.loop-change.invariant.tables) (c.requires.standing (length done))
@@ -30,14 +31,18 @@ apply_change-requires-clause-standing c =
 pub apply_change-requires-clause-ready : goal.apply_change-requires-clause-ready
 apply_change-requires-clause-ready c =
     let done = c.loop-change.yielded in
-    let change = c.in-Some.change in
     let all = c.args.changes.items in
     let given = c.into_iter-change-iterator.ensures.into_iter_gives in
-    let t = YieldsList-turn (YieldsList-from_vec {s = c.into_iter-change-iterator.result} all given.0
-    (given.1 ∙ c.args.changes.ok.0)) done c.loop-change.change-iterator c.loop-change.yielded_by c.next.result
-    c.next.new.self change c.in-Some.is c.next.ensures.steps in
-    let ready = ready_next c.loop-change.self all (length done) change t.0 t.1 c.loop-change.invariant.ready in
-    record { room = room_first c.loop-change.self change (drop (length done + 1) all) ready.room; index = ready.index }
+    let road = YieldsList-from_vec {s = c.into_iter-change-iterator.result} all given.0
+    (given.1 ∙ c.args.changes.ok.0) in
+    let t = YieldsList-turn road done c.loop-change.change-iterator c.loop-change.yielded_by c.next.result
+    c.next.new.self c.in-Some.change c.in-Some.is c.next.ensures.steps in
+    let ready = ready_next c.loop-change.self all (length done) c.in-Some.change t.0 t.1
+    c.loop-change.invariant.ready in
+    record {
+      room = room_first c.loop-change.self c.in-Some.change (drop (length done + 1) all) ready.room;
+      index = ready.index;
+    }
 
 pub loop-change-preserved : goal.loop-change-preserved
 loop-change-preserved c =
@@ -45,8 +50,9 @@ loop-change-preserved c =
     let change = c.in-Some.change in
     let all = c.args.changes.items in
     let given = c.into_iter-change-iterator.ensures.into_iter_gives in
-    let t = YieldsList-turn (YieldsList-from_vec {s = c.into_iter-change-iterator.result} all given.0
-    (given.1 ∙ c.args.changes.ok.0)) done c.loop-change.change-iterator c.loop-change.yielded_by c.next.result
+    let road = YieldsList-from_vec {s = c.into_iter-change-iterator.result} all given.0
+    (given.1 ∙ c.args.changes.ok.0) in
+    let t = YieldsList-turn road done c.loop-change.change-iterator c.loop-change.yielded_by c.next.result
     c.next.new.self change c.in-Some.is c.next.ensures.steps in
     let e : length (done ++ change ∷ []) ≡ length done + 1 = length-append done (change ∷ []) in
     let rest = c.apply_change.ensures.ready (drop (length done + 1) all)
