@@ -20,8 +20,8 @@ parts_at bytes headers spans = record {
 -- The parts read from the spans are those of the head, so their checks have the same outcome.
 head_outcome_from : (takes_plans : Bool) (bytes : List ℕ) (headers : List HeaderSpan) (spans : RequestSpans) (p : Parts)
     (outcome : Result HeadRequest Problem)
-    → IsHeadAt bytes headers spans → length bytes ≤ head_limit → p ≡ parts_at bytes headers spans → head_request_of takes_plans p
-    ≡ outcome → HeadOutcome takes_plans bytes (drop spans.len bytes) outcome
+    → IsHeadAt bytes headers spans → length bytes ≤ head_limit → p ≡ parts_at bytes headers spans
+    → head_request_of takes_plans p ≡ outcome → HeadOutcome takes_plans bytes (drop spans.len bytes) outcome
 head_outcome_from takes_plans bytes headers spans p outcome a l e w = grind (arith, common_steps)
 
 pub head_outcome_ok : {A E : Type 0} (r : Result A E) (f : A → HeadRequest) (takes_plans : Bool) (bytes : List ℕ)
@@ -31,8 +31,9 @@ pub head_outcome_ok : {A E : Type 0} (r : Result A E) (f : A → HeadRequest) (t
     → IfOk r (λ w. HeadOutcome takes_plans bytes (drop spans.len bytes) (Ok (f w)))
 head_outcome_ok r f takes_plans bytes headers spans p a l e w = grind (arith, common_steps, head_outcome_from)
 
-pub head_outcome_err : (takes_plans : Bool) (bytes : List ℕ) (headers : List HeaderSpan) (spans : RequestSpans) (p : Parts)
-    (problem : Problem)
-    → IsHeadAt bytes headers spans → length bytes ≤ head_limit → p ≡ parts_at bytes headers spans → head_request_of takes_plans p
-    ≡ Err problem → HeadOutcome takes_plans bytes (drop spans.len bytes) (Err problem)
-head_outcome_err takes_plans bytes headers spans p problem a l e w = head_outcome_from takes_plans bytes headers spans p (Err problem) a l e w
+pub head_outcome_err : (takes_plans : Bool) (bytes : List ℕ) (headers : List HeaderSpan) (spans : RequestSpans)
+    (p : Parts) (problem : Problem)
+    → IsHeadAt bytes headers spans → length bytes ≤ head_limit → p ≡ parts_at bytes headers spans
+    → head_request_of takes_plans p ≡ Err problem → HeadOutcome takes_plans bytes (drop spans.len bytes) (Err problem)
+head_outcome_err takes_plans bytes headers spans p problem a l e w =
+    head_outcome_from takes_plans bytes headers spans p (Err problem) a l e w

@@ -11,17 +11,18 @@ use Rattle.thes_http_request.specs.HeadRequests.{head_request_of}
 abbrev pub is_coded : Parts → Bool
 is_coded p = has_field (codes "transfer-encoding") p.fields
 
-pub refuses_coding : (takes_plans : Bool) (p : Parts) → is_coded p ≡ true → head_request_of takes_plans p ≡ Err TransferCoding
+pub refuses_coding : (takes_plans : Bool) (p : Parts) → is_coded p ≡ true
+    → head_request_of takes_plans p ≡ Err TransferCoding
 unfolding head_request_of
 refuses_coding takes_plans p h = rw h refl
 
-pub refuses_path : (takes_plans : Bool) (p : Parts) → is_coded p ≡ false → endpoint_at takes_plans (path_of p.target) ≡ None → head_request_of takes_plans p
-    ≡ Err NoSuchPath
+pub refuses_path : (takes_plans : Bool) (p : Parts) → is_coded p ≡ false
+    → endpoint_at takes_plans (path_of p.target) ≡ None → head_request_of takes_plans p ≡ Err NoSuchPath
 unfolding head_request_of
 refuses_path takes_plans p h f = rw (h, f) refl
 
-pub refuses_method : (takes_plans : Bool) (p : Parts) (found : EndpointMatch) → is_coded p ≡ false → endpoint_at takes_plans (path_of p.target)
-    ≡ Some found → bytes_eq p.method (method_of found.endpoint) ≡ false → head_request_of takes_plans p
+pub refuses_method : (takes_plans : Bool) (p : Parts) (found : EndpointMatch) → is_coded p ≡ false
+    → endpoint_at takes_plans (path_of p.target) ≡ Some found → bytes_eq p.method (method_of found.endpoint) ≡ false → head_request_of takes_plans p
     ≡ Err (BadMethod found.endpoint)
 unfolding head_request_of
 refuses_method takes_plans p found h f m = rw (h, f, m) refl

@@ -42,8 +42,8 @@ pub fn read_head_request<'a>(
 ) -> Result<HeadRequest<'a>, Problem>
     requires at { IsHeadAt head.now headers.now spans }
     requires short { length head.now ≤ head_limit }
-    ensures ok { IfOk result (λ w. HeadOutcome paths.entry.takes_plans head.now (drop spans.len head.now)
-        (Ok (record {
+    ensures ok { IfOk result (λ w. HeadOutcome paths.entry.takes_plans head.now
+        (drop spans.len head.now) (Ok (record {
           endpoint = w.endpoint;
           number = w.number.now;
           query = w.query.now;
