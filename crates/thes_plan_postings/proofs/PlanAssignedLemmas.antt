@@ -1,5 +1,5 @@
 -- Proves which numbers are those of the postings that a plan has left assigned to a concept.
-use Rattle.std.proofs.Common.{◌≡◌, ◌⊎◌, ◌≤◌, ◌+◌, ◌∷◌, [], ◌∙◌, ◌&&◌, ◌||◌, ℕ, zero, suc, List}
+use Rattle.std.proofs.Common.{◌≡◌, ◌≤◌, ◌+◌, ◌∷◌, [], ◌∙◌, ◌&&◌, ◌||◌, ℕ, zero, suc, List}
 use Rattle.std.proofs.Common.{length, refl, sym, ap, subst, arith, inl, inr, Bool, true, false, cond, map, Contains}
 use Rattle.std.specs.Prelude.{is_some, Option, None, Some, slice_get, filter}
 use Rattle.std.specs.declared.cmp.Ordering.TheVariants.{Less}
@@ -8,6 +8,7 @@ use Rattle.std.specs.Cmp.{nat_cmp_is}
 use Rattle.std.specs.List.{AllByRecursion}
 use Rattle.std.specs.List.Sorted.{IsStrictlySortedBy}
 use Rattle.std.specs.Ordering.{nat_cmp}
+use Rattle.std.proofs.lemmas.Bool.{and_parts, or_cases, or_left, or_right}
 use Rattle.std.proofs.lemmas.Cmp.{nat_cmp_total, nat_eq_equiv}
 use Rattle.std.proofs.lemmas.Map.Lookups.{exact_unsigned}
 use Rattle.std.proofs.lemmas.Map.Views.{Contains-from_any, btree_map_contains_key_iff, exact_unsigned_eq, list_any-from_Contains}
@@ -107,21 +108,6 @@ module _ (rows : List PostingRow) (numbered : AreNumbered rows) (concept : ℕ) 
       (Contains-map row_number (filter (is_assigned_row concept) rows) r
       (Contains-filter (is_assigned_row concept) rows r (entry_in n r at) is))
 
-both : (a b : Bool) → (a && b) ≡ true → (a ≡ true) × (b ≡ true)
-both true b e = (refl, e)
-both false b e = absurd (cc)
-
-either : (a b : Bool) → (a || b) ≡ true → (a ≡ true) ⊎ (b ≡ true)
-either true b e = inl refl
-either false b e = inr e
-
-either_left : (a b : Bool) → a ≡ true → (a || b) ≡ true
-either_left a b e = ap (λ (x : Bool). x || b) e
-
-either_right : (a b : Bool) → b ≡ true → (a || b) ≡ true
-either_right true b e = refl
-either_right false b e = e
-
 module _ (olds rows : List PostingRow) (p : PlanPostings) (are : ArePlanRows olds rows p) (concept : ℕ) where
   olds_numbered : AreNumbered olds
   olds_numbered n r at = base_numbered olds rows p are n r (entry_left olds p.added.items n r at)
@@ -138,14 +124,15 @@ module _ (olds rows : List PostingRow) (p : PlanPostings) (are : ArePlanRows old
 
     unplaced : (n : ℕ) → placement_of p n ≡ None → (by_tables n || by_placement n) ≡ true → IsAssigned n
     unfolding by_tables by_placement
-    unplaced n none e = elim (either (by_tables n) (by_placement n) e) [
+    unplaced n none e = elim (or_cases (by_tables n) (by_placement n) e) [
       | inl here ↦
-          let h = both (has_number standing n) (is_assigned_by concept true (placement_of p n)) here in
+          let h = and_parts (has_number standing n) (is_assigned_by concept true (placement_of p n)) here in
           let r = assigned_has olds olds_numbered concept n (subst (λ (ns : List ℕ). Contains ns n) is
           (number_found standing n h.0)) in
           (r.0, are.others n none ∙ r.1, r.2)
       | inr there ↦
-          let h = both (has_number (tree.keys p.placements) n) (is_assigned_by concept false (placement_of p n)) there in
+          let h = and_parts (has_number (tree.keys p.placements) n) (is_assigned_by concept false (placement_of p n))
+          there in
           absurd (let q : false ≡ true = ap (is_assigned_by concept false) (sym none) ∙ h.1 in cc)
     ]
 
@@ -155,11 +142,12 @@ module _ (olds rows : List PostingRow) (p : PlanPostings) (are : ArePlanRows old
         let at = are.placed n x some in (
           row_placed (Some x) at.row,
           at.now,
-          elim (either (by_tables n) (by_placement n) e) [
+          elim (or_cases (by_tables n) (by_placement n) e) [
             | inl here ↦ ap (is_assigned_by concept true) (sym some)
-                ∙ (both (has_number standing n) (is_assigned_by concept true (placement_of p n)) here).1
+                ∙ (and_parts (has_number standing n) (is_assigned_by concept true (placement_of p n)) here).1
             | inr there ↦ ap (is_assigned_by concept false) (sym some)
-                ∙ (both (has_number (tree.keys p.placements) n) (is_assigned_by concept false (placement_of p n)) there).1
+                ∙ (and_parts (has_number (tree.keys p.placements) n) (is_assigned_by concept false (placement_of p n))
+                there).1
           ],
         )
 
@@ -178,7 +166,7 @@ module _ (olds rows : List PostingRow) (p : PlanPostings) (are : ArePlanRows old
         go None none =
             let has = number_has standing n (subst (λ (ns : List ℕ). Contains ns n) (sym is)
             (assigned_of olds olds_numbered concept n r (sym (are.others n none) ∙ at) assigned)) in
-            either_left (by_tables n) (by_placement n)
+            or_left (by_tables n) (by_placement n)
             (λ i. has i && ap (is_assigned_by concept true) none i)
         go (Some x) some =
             let key = (btree_map_contains_key_iff nat_cmp_total exact_unsigned p.placements n).0
@@ -188,7 +176,7 @@ module _ (olds rows : List PostingRow) (p : PlanPostings) (are : ArePlanRows old
             let row : r ≡ row_placed (Some x) b.0 = b.2 ∙ ap (λ (o : Option Placement). row_placed o b.0) some in
             let test : is_assigned_by concept false (Some x) ≡ true = ap (is_assigned_row concept) (sym row)
             ∙ assigned in
-            either_right (by_tables n) (by_placement n)
+            or_right (by_tables n) (by_placement n)
             (λ i. has i && (ap (is_assigned_by concept false) some ∙ test) i)
 
     -- The numbers of the postings left assigned to a concept are those of the rows assigned to it.

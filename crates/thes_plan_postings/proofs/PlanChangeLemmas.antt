@@ -78,7 +78,8 @@ module _ (olds rows rows' : List PostingRow) (old new : PlanPostings) (numbers :
       go true hit = absurd (let e : Some x ≡ None = sym (placement_hit n hit) ∙ none in cc)
       go false miss = placed_rows.miss n miss ∙ are.others n (sym (placement_miss n miss) ∙ none)
 
-  placed_after : (n : ℕ) (y : Placement) → placement_of new n ≡ Some y → HasPlacement (olds ++ new.added.items) rows' n y
+  placed_after : (n : ℕ) (y : Placement) → placement_of new n ≡ Some y
+      → HasPlacement (olds ++ new.added.items) rows' n y
   placed_after n y some = subst (λ (bs : List PostingRow). HasPlacement bs rows' n y) (sym bases_same)
       (go (has_number numbers n) refl)
     where
@@ -339,7 +340,8 @@ module _ (olds rows : List PostingRow) (old new : PlanPostings) (source target :
         r.0,
         r.1,
         numbered_map (row_after_move_all source target) rows n
-            ∙ ap (option_map (row_after_move_all source target)) r.1 ∙ ap (λ (y : PostingRow). Some y) (row_hit r.0 r.2),
+            ∙ ap (option_map (row_after_move_all source target)) r.1
+            ∙ ap (λ (y : PostingRow). Some y) (row_hit r.0 r.2),
       )
 
   all_miss : (n : ℕ) → has_number numbers n ≡ false → entry_at moved n ≡ entry_at rows n

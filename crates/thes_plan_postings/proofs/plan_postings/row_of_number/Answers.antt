@@ -18,7 +18,9 @@ pub loop-row-preserved : goal.loop-row-preserved
 loop-row-preserved c row has same = elim (in_take_more c.args.rows.now c.loop-row.row-index c.row-item.result row
     (omega arith) c.row-item.is has) [
       | inl before ↦ c.loop-row.invariant row before same
-      | inr here ↦ let it : c.row-item.result.number ≡ c.args.number = ap (λ (r : PostingRow). r.number) (sym here) ∙ same in search rules
+      | inr here ↦
+          let it : c.row-item.result.number ≡ c.args.number = ap (λ (r : PostingRow). r.number) (sym here) ∙ same in
+          search rules
     ]
 
 pub returns : goal.returns
