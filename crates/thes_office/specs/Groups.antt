@@ -1,7 +1,6 @@
 -- Groups of posts with different keys, which are performed in one transaction.
 use Rattle.std.specs.Prelude.{◌≡◌, ◌++◌, ◌%◌, ℕ, Bool, false, true, List, [], Result, Ok, Err, Some, All, length, take}
 use Rattle.std.specs.Prelude.{slice_get, slice_index_or}
-use Rattle.std.specs.Hash.FoldHasher.{initial, write, finish}
 use Rattle.std.specs.List.{AllByRecursion}
 use Rattle.thes_base.specs.Types.{Key, Number, RecordName}
 use Rattle.thes_base.specs.declared.data.Limits.{Limits}
@@ -15,6 +14,7 @@ use Rattle.thes_base.specs.State.{State}
 use Rattle.thes_tables.specs.declared.change.Change.{Change}
 use Rattle.thes_tables.specs.Cells.{Raw}
 use Rattle.thes_tables.specs.ChangeLaw.{AreChangesBetween}
+use Rattle.thes_store.specs.Keys.{digest_of}
 use Rattle.thes_store.specs.Storage.{StorageView}
 use Rattle.thes_core.specs.declared.facts.Facts.{Facts}
 use Rattle.thes_core.specs.CoreView.{CoreView, IsViewOf}
@@ -43,7 +43,7 @@ IsGroup commands =
 
 -- The place of a key among 1,024 marks. Different keys may have the same place.
 unfoldable pub place_of_key : List ℕ → ℕ
-place_of_key key = finish (write initial key) % 1024
+place_of_key key = digest_of key % 1024
 
 -- The place of the key is marked.
 abbrev pub IsMarked : List Bool → List ℕ → Type 0

@@ -45,12 +45,6 @@ pub record IsDecidedInPlan (setting : Setting) (t now : Tables) (s : State) (com
   pub decision : IsDecidedAndLogged setting s command answer old new copy
   pub postings_are : ArePlanRows t.posting (tables_after_delta decision.decided.changes now).posting new.postings
 
--- One more command of a plan is decided in the state of the core.
-abbrev pub DecidesCommand : Raw → PlanProgress → PlanProgress → CoreView → CoreView → Command → Answer → Type 0
-DecidesCommand raw old new before after command answer = (t now : Tables) (s : State) → raw ≡ cells_of_tables t
-    → IsRowsOf before.setting.base s now → IsViewOf before s → ArePlanRows t.posting now.posting old.postings
-    → IsDecidedAndLogged before.setting s command answer old new after
-
 -- One more request of a plan is decided in the state of the core, and the postings that it changes are recorded.
 abbrev pub DecidesRequest : Raw → PlanProgress → PlanProgress → CoreView → CoreView → Command → Answer → Type 0
 DecidesRequest raw old new before after command answer = (t now : Tables) (s : State) → raw ≡ cells_of_tables t

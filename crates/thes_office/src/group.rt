@@ -7,16 +7,16 @@ ghost use Rattle.thes_base.specs.State.{State};
 ghost use Rattle.thes_core.specs.CoreView.{IsViewOf};
 ghost use Rattle.thes_core.specs.Facts.{AreFacts};
 ghost use Rattle.thes_store.specs.Storage.{CommitFrame, DeltaFitsStorage, QueryFrame, RawAfterChanges};
-ghost use Rattle.thes_office.specs.Groups.{AreKeysMarked, GroupDecided, HasFactsOf, IsDecided, IsGroup, IsMarked};
+ghost use Rattle.thes_office.specs.Groups.{AreKeysMarked, GroupDecided, IsDecided, IsGroup, IsMarked};
 ghost use Rattle.thes_office.specs.Groups.{IsNewPost, IsPostOf, MayDecideGroup, PerformsGroup, place_of_key};
 
 use crate::facts::facts_of;
 use std::alloc::{AllocError, Global};
-use std::hash::{FoldHasher, Hasher};
 use thes_base::fault::Fault;
 use thes_base::request::{Answer, Command};
 use thes_base::text::Key;
 use thes_core::{Core, Facts, Verdict};
+use thes_store::digest_of;
 use thes_store::keeper::Keeper;
 use thes_tables::delta::Delta;
 
@@ -63,9 +63,7 @@ fn place_of_key(key: &Key) -> usize
     ensures place { result ≡ place_of_key key.now }
     ensures within { result < PLACES }
 {
-    let mut hasher = FoldHasher::default();
-    hasher.write(key.as_str().as_bytes());
-    (hasher.finish() % 1_024) as usize
+    (digest_of(key) % 1_024) as usize
 }
 
 // Marks the place of a key, and returns whether it was marked.
@@ -83,8 +81,8 @@ fn mark(marks: &mut [bool], key: &Key) -> bool
     was
 }
 
-// Checks whether a request is a Post, and none of the earlier requests is a Post with its key; marks its key. It is
-// compared with the others only if its place was marked.
+// Checks whether a request is a Post, and none of the earlier requests is a Post with its key;
+// marks its key. It is compared with the others only if its place was marked.
 #[tactic(auto, using(crate::proofs::GroupLemmas::unmarked_is_new, crate::proofs::GroupLemmas::marked_more))]
 fn is_new_post(earlier: &[Command], marks: &mut [bool], command: &Command) -> bool
     requires size { length marks.old ≡ PLACES }
@@ -109,8 +107,8 @@ fn may_grow(commands: &[Command], marks: &mut [bool], count: usize) -> bool
     requires size { length marks.old ≡ PLACES }
     requires marked { AreKeysMarked marks.old (take count commands.now) }
     ensures size { length marks.new ≡ PLACES }
-    ensures grows { IsTrue result → (count < length commands.now) × (IsGroup (take count commands.now)
-        → IsGroup (take (count + 1) commands.now)) }
+    ensures grows { IsTrue result → (count < length commands.now)
+        × (IsGroup (take count commands.now) → IsGroup (take (count + 1) commands.now)) }
     ensures marked { IsTrue result → AreKeysMarked marks.new (take (count + 1) commands.now) }
 {
     let Some(command) = commands.get(count) else {
@@ -181,35 +179,8 @@ fn decide_with_facts(
     }
 }
 
-// Queries the storage for the facts that one more request of a group needs, and decides it on them.
-// On a fault the core may be ahead of the tables.
-fn decide_next<K: Keeper>(
-    alloc: Global,
-    keeper: &mut K,
-    core: &mut Core,
-    command: &Command,
-    decided: &mut Decided,
-) -> Result<(), Fault>
-    requires { core.old.spent ≡ false }
-    ensures decides { OnOk result ((answer : Answer)
-        × (decided.new.answers.items ≡ decided.old.answers.items ++ answer ∷ [])
-        × ((K.view keeper.new).is_up → (s : State) → IsViewOf core.old s
-        → HasFactsOf (K.view keeper.old).rows command.now s
-        → IsDecided core.old.setting s command.now
-        answer decided.old.delta decided.new.delta core.new)) }
-    ensures usable { OnOk result ((core.new.spent ≡ false)
-        × (core.new.setting ≡ core.old.setting)) }
-    ensures asks { QueryFrame (K.view keeper.old) (K.view keeper.new) result }
-{
-    let facts = match facts_of(alloc, keeper, command) {
-        Ok(facts) => facts,
-        Err(fault) => return Err(fault),
-    };
-    decide_with_facts(core, command, &facts, decided)?;
-    Ok(())
-}
-
-// Decides the requests of a group in order, and applies them to the core.
+// Decides the requests of a group in order, each on the facts that the storage has about it, and
+// applies them to the core. On a fault the core may be ahead of the tables.
 fn decide_group<K: Keeper>(
     alloc: Global,
     keeper: &mut K,
@@ -229,10 +200,11 @@ fn decide_group<K: Keeper>(
         delta: Delta::new(alloc),
     };
     for command in group {
-        match decide_next(alloc, keeper, core, command, &mut decided) {
-            Ok(()) => {}
+        let facts = match facts_of(alloc, keeper, command) {
+            Ok(facts) => facts,
             Err(fault) => return Err(fault),
-        }
+        };
+        decide_with_facts(core, command, &facts, &mut decided)?;
     }
     Ok(decided)
 }

@@ -1,5 +1,5 @@
-//! Plans: each request is decided on the state that those before it make, and the changes of all are
-//! committed in one transaction.
+//! Plans: each request is decided on the state that those before it make, and the changes of all
+//! are committed in one transaction.
 //! A request is moved from its plan into the log, and never copied.
 ghost use Rattle.std.specs.Prelude.{◌≡◌, ◌≤◌, ◌++◌, ◌∷◌, [], List, drop, length, false, true, IfOk, IfErr, OnOk, OnErr};
 ghost use Rattle.thes_base.specs.declared.request.Answer.{Answer};
@@ -11,7 +11,7 @@ ghost use Rattle.thes_core.specs.Facts.{AreFacts};
 ghost use Rattle.thes_core.specs.UndoLogs.{IsLogOf};
 ghost use Rattle.thes_store.specs.Storage.{CommitFrame, QueryFrame};
 ghost use Rattle.thes_office.specs.Office.{IsCopy};
-ghost use Rattle.thes_office.specs.PlanDecisions.{DecidesCommand, DecidesRequest, HasEachDecision, IsDecidedAndLogged};
+ghost use Rattle.thes_office.specs.PlanDecisions.{DecidesRequest, HasEachDecision, IsDecidedAndLogged};
 ghost use Rattle.thes_office.specs.PlanDecisions.{IsPlanDecision, IsUsableAfter, MayDecidePlan, refusal_in};
 ghost use Rattle.thes_office.specs.Plans.{TablesAfterPlan};
 
@@ -86,7 +86,8 @@ fn decide_and_log(
     ensures decides { OnOk result ((answer : Answer) × (progress.new.decided.answers.items
         ≡ progress.old.decided.answers.items ++ answer ∷ [])
         × ((s : State) → IsViewOf core.old s → AreFacts command s.histories facts.now
-        → IsDecidedAndLogged core.old.setting s command answer progress.old progress.new core.new)) }
+        → IsDecidedAndLogged core.old.setting s command answer progress.old progress.new
+        core.new)) }
     ensures grows { OnOk result (length progress.old.decided.delta
         ≤ length progress.new.decided.delta) }
     ensures kept { OnOk result (progress.new.postings ≡ progress.old.postings) }
@@ -109,38 +110,9 @@ fn decide_and_log(
     }
 }
 
-// Decides one more command of a plan, and applies it to the core, which holds the state after those
-// before it. On a fault the core may be ahead of the tables.
-fn decide_command<K: Keeper>(
-    alloc: Global,
-    keeper: &mut K,
-    core: &mut Core,
-    command: Command,
-    progress: &mut PlanProgress,
-) -> Result<(), Fault>
-    requires { core.old.spent ≡ false }
-    ensures decides { OnOk result ((answer : Answer) × (progress.new.decided.answers.items
-        ≡ progress.old.decided.answers.items ++ answer ∷ []) × ((K.view keeper.new).is_up
-        → DecidesCommand (K.view keeper.old).rows progress.old progress.new core.old core.new
-        command answer)) }
-    ensures grows { OnOk result (length progress.old.decided.delta
-        ≤ length progress.new.decided.delta) }
-    ensures kept { OnOk result (progress.new.postings ≡ progress.old.postings) }
-    ensures usable { OnOk result ((core.new.spent ≡ false)
-        × (core.new.setting ≡ core.old.setting)) }
-    ensures logs { OnOk result (IsLogOf progress.old.log core.old
-        → IsLogOf progress.new.log core.new) }
-    ensures asks { QueryFrame (K.view keeper.old) (K.view keeper.new) result }
-{
-    let facts = match facts_in_plan(alloc, keeper, &progress.postings, &command) {
-        Ok(facts) => facts,
-        Err(fault) => return Err(fault),
-    };
-    decide_and_log(core, command, &facts, progress)?;
-    Ok(())
-}
-
-// Decides one more command of a plan, and records the postings that it changes.
+// Decides one more command of a plan, applies it to the core, which holds the state after those
+// before it, and records the postings that it changes. On a fault the core may be ahead of the
+// tables.
 fn decide_and_record<K: Keeper>(
     alloc: Global,
     keeper: &mut K,
@@ -159,11 +131,12 @@ fn decide_and_record<K: Keeper>(
         → IsLogOf progress.new.log core.new) }
     ensures asks { QueryFrame (K.view keeper.old) (K.view keeper.new) result }
 {
-    let before = change_count(&progress.decided.delta);
-    match decide_command(alloc, keeper, core, command, progress) {
-        Ok(()) => {}
+    let facts = match facts_in_plan(alloc, keeper, &progress.postings, &command) {
+        Ok(facts) => facts,
         Err(fault) => return Err(fault),
-    }
+    };
+    let before = change_count(&progress.decided.delta);
+    decide_and_log(core, command, &facts, progress)?;
     let changes = changes_from(&progress.decided.delta, before);
     match progress.postings.record_changes(keeper, changes) {
         Ok(()) => Ok(()),
@@ -198,8 +171,8 @@ fn decide_request<K: Keeper>(
     }
 }
 
-// Decides the requests of a plan in order, and applies them to the core. At the first that is refused
-// it takes those before it back; the core is unusable if that fails.
+// Decides the requests of a plan in order, and applies them to the core. At the first that is
+// refused it takes those before it back; the core is unusable if that fails.
 fn decide_plan<K: Keeper>(
     alloc: Global,
     keeper: &mut K,
@@ -244,8 +217,8 @@ fn decide_plan<K: Keeper>(
 
 /// Performs the requests of a plan in order: each is decided in the state that the core holds after
 /// those before it. If all are accepted, their changes are committed in one transaction. If one is
-/// refused, the tables are unchanged, and those before it are taken back in the core, or the core is
-/// unusable until reloaded. On a fault the tables are unchanged, and the core is unusable.
+/// refused, the tables are unchanged, and those before it are taken back in the core, or the core
+/// is unusable until reloaded. On a fault the tables are unchanged, and the core is unusable.
 pub fn perform_plan<K: Keeper>(
     alloc: Global,
     keeper: &mut K,
