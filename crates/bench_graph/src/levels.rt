@@ -92,21 +92,27 @@ fn pair(numbers: &mut Numbers, width: u32, merges: bool) -> Link {
     )
 }
 
-// Checks `count` random links or merges, and returns the number of refusals.
+// The checks of a benchmark: of `count` random links, or merges, in levels of `width` nodes.
+#[derive(Clone, Copy)]
+struct Trial {
+    width: u32,
+    count: u32,
+    merges: bool,
+}
+
+// Checks random links or merges, and returns the number of refusals.
 fn check_random_links(
     alloc: Global,
     walk: &mut Walk<'_>,
     numbers: &mut Numbers,
-    width: u32,
-    count: u32,
-    merges: bool,
+    trial: Trial,
 ) -> Result<u32, AllocError>
     requires { BreakNone (Holds walk.old.net.links) }
 {
     let mut count_refused = 0u32;
-    for _ in 0..count {
-        let new = pair(numbers, width, merges);
-        if is_refused(alloc, walk, &new, merges)? {
+    for _ in 0..trial.count {
+        let new = pair(numbers, trial.width, trial.merges);
+        if is_refused(alloc, walk, &new, trial.merges)? {
             count_refused = count_refused.wrapping_add(1);
         }
     }
@@ -127,7 +133,12 @@ pub fn count_refused(
     match graph.check_whole(alloc)? {
         None => {
             let mut walk = graph.walk();
-            check_random_links(alloc, &mut walk, &mut numbers, width, count, merges)
+            let trial = Trial {
+                width,
+                count,
+                merges,
+            };
+            check_random_links(alloc, &mut walk, &mut numbers, trial)
         }
         Some(_) => Ok(0),
     }

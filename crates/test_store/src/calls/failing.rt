@@ -18,7 +18,7 @@ use thes_store::mem::MemKeeper;
 pub fn filled_keeper(alloc: Global) -> Result<MemKeeper, Failure> {
     let mut keeper = MemKeeper::new(alloc, Base::read(alloc, "http://example.org/")?);
     post_all(alloc, &mut keeper, 10)?;
-    merge(alloc, &mut keeper, ResNo::new(2), ResNo::new(3), 10, 1)?;
+    merge(alloc, &mut keeper, 10, 1)?;
     Ok(keeper)
 }
 
