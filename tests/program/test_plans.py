@@ -208,6 +208,14 @@ def test_each_request_is_taken_back_at_each_place(name: str) -> None:
     assert answers_after_start(plans(given)) == [*shown * len(refused), done]
 
 
+@pytest.mark.parametrize("end", [deprecate(7), merge(7, 3)], ids=["deprecate", "merge"])
+def test_a_name_that_is_taken_back_is_taken(end: Request) -> None:
+    """A refused plan ends a concept and gives its name to another; then the name is that of the first again."""
+    named = concept("Wolves")
+    answers = answers_after_start(plans(script(text_of([end, named, deprecate(1)]), text_of([named]))))
+    assert answers == [{"at": 3, "no": "WrongKind"}, {"at": 1, "no": "PreferredTaken"}]
+
+
 @pytest.mark.parametrize("name", [*REFUSALS, *(it for it, _ in SINGLE)])
 def test_plan_of_one_request_is_that_request(name: str) -> None:
     request = REFUSALS.get(name) or dict(SINGLE)[name]

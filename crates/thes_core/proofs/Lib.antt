@@ -16,3 +16,5 @@ pub mod PartLemmas
 pub mod TakingBackLemmas
 pub mod RelabelUndoLemmas
 pub mod UndoLogLemmas
+pub mod DeathUndoLemmas
+pub mod MergeUndoLemmas

@@ -21,7 +21,7 @@ module _ (net : GraphView) (source target : ℕ) (different : source ≢ target)
   redirected_link l = normal_form (is_marked net) (redirect_link source target l)
 
   -- A link at the source isn't held after the merge.
-  no_end_at_source : (q : Link) → HasEnd source q → Holds links_after_contract q → ⊥
+  pub no_end_at_source : (q : Link) → HasEnd source q → Holds links_after_contract q → ⊥
   no_end_at_source q at kept =
       let c = contracted_from (is_marked net) source target net.links q kept in
       elim (norm_ends (is_marked net) (redirect_link source target c.0) source (subst (HasEnd source) c.3 at))
@@ -33,7 +33,7 @@ module _ (net : GraphView) (source target : ℕ) (different : source ≢ target)
       ap (normal_form (is_marked net)) (sent_stays source target q (λ a. off (inl a)) (λ b. off (inr b)))
       ∙ normal q held
 
-  link_stays : (q : Link) → Holds net.links q → (HasEnd source q → ⊥) → Holds links_after_contract q
+  pub link_stays : (q : Link) → Holds net.links q → (HasEnd source q → ⊥) → Holds links_after_contract q
   link_stays q held off =
       contracted_to (is_marked net) source target net.links q (
         q,

@@ -1,18 +1,20 @@
--- The graph still marks exactly the outside concepts after a resource is added or marked as dead.
+-- The graph still marks exactly the outside concepts after a resource is added, taken back or marked as dead.
 use Rattle.std.proofs.lemmas.Grind.{common_steps}
-use Rattle.std.proofs.Common.{◌≡◌, ◌⊎◌, ◌+◌, ℕ, length, List, [], ◌∷◌, ◌++◌, refl, sym, ap, ◌∙◌, inl, inr, Bool, true}
+use Rattle.std.proofs.Common.{◌≡◌, ◌≢◌, ◌⊎◌, ◌+◌, ℕ, length, List, [], ◌∷◌, ◌++◌, refl, sym, ap, ◌∙◌, inl, inr, Bool, true}
 use Rattle.std.proofs.Common.{false, arith}
 use Rattle.std.specs.Prelude.{Option, None, Some}
 use Rattle.std.specs.Option.{option_map_or}
 use Rattle.std.specs.Cmp.{both_ways, nat_cmp_total}
 use Rattle.std.specs.FinSet as set
+use Rattle.std.specs.FinSet.{FinSet}
+use Rattle.std.specs.Ordering.{nat_cmp}
 use Rattle.std.proofs.lemmas.Map.Lookups.{exact_unsigned}
 use Rattle.thes_base.specs.declared.data.Resource.{Resource}
 use Rattle.thes_base.specs.Resources.{entry_at, IsOutside, is_outside, is_outside_kind, IsConcept}
 use Rattle.thes_base.specs.Changes.{resources_after_death, outside_resource}
-use Rattle.thes_base.proofs.NumberedLemmas.{push_new}
+use Rattle.thes_base.proofs.NumberedLemmas.{numbered_bound, push_new}
 use Rattle.thes_base.proofs.ResourceLemmas.{marked_dead_at, passes_push, passes_pop, passes_dead, passes_before}
-use Rattle.thes_base.proofs.SetMemberLemmas.{inserted_cases, inserted_kept, inserted_new}
+use Rattle.thes_base.proofs.SetMemberLemmas.{inserted_cases, inserted_kept, inserted_new, removed_cases, removed_kept}
 use Rattle.thes_base.proofs.LegalLinkLemmas.{outside_test}
 use Rattle.thes_core.specs.declared.thesaurus.Thesaurus.{Thesaurus}
 use Rattle.thes_links.specs.GraphView.{MarksOutside}
@@ -76,3 +78,28 @@ module _ (t : Thesaurus) (knows : MarksOutside t.vocab.resources t.graph) where
           → set.contains (set.insert t.graph.outside (length rs + 1)) n ≡ true
       back (inl old) = grind (arith, common_steps, exact_unsigned, inserted_kept, outside_test)
       back (inr (new, _)) = grind (arith, common_steps, exact_unsigned, inserted_new)
+
+-- Assumes that the marks are correct after an outside concept was added.
+module _ (before : List Resource) (marks : FinSet nat_cmp)
+    (knows : (n : ℕ) → set.contains marks n ≡ is_outside (before ++ outside_resource ∷ []) n) where
+  outside_apart : (n : ℕ) → IsOutside before n → n ≢ length before + 1
+  outside_apart n out same = let bound = numbered_bound before n out.0 out.1 in omega (arith, bound.1, same)
+
+  -- The marks are correct after it is taken back and unmarked.
+  pub knows_unmarked : (n : ℕ) → set.contains (set.remove marks (length before + 1)) n ≡ is_outside before n
+  knows_unmarked n = both_ways _ _ there (λ e. back (test_passed before n e))
+    where
+      old_of : n ≢ length before + 1 → IsOutside before n ⊎ ((n ≡ length before + 1) × (true ≡ true))
+          → is_outside before n ≡ true
+      old_of apart (inl old) = outside_test before n old
+      old_of apart (inr new) = absurd (apart new.0)
+
+      there : set.contains (set.remove marks (length before + 1)) n ≡ true → is_outside before n ≡ true
+      there e =
+          let was = removed_cases nat_cmp_total exact_unsigned marks (length before + 1) n e in
+          old_of was.0 (passes_pop before outside_resource is_out n
+          (test_passed (before ++ outside_resource ∷ []) n (sym (knows n) ∙ was.1)))
+
+      back : IsOutside before n → set.contains (set.remove marks (length before + 1)) n ≡ true
+      back out = removed_kept nat_cmp_total exact_unsigned marks (length before + 1) n (outside_apart n out)
+          (knows n ∙ outside_test (before ++ outside_resource ∷ []) n (passes_push before outside_resource is_out n out))

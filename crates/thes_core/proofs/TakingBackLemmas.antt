@@ -9,10 +9,11 @@ use Rattle.thes_base.specs.declared.data.LinkKind.{LinkKind}
 use Rattle.thes_base.specs.declared.data.Resource.{Resource}
 use Rattle.thes_base.specs.declared.request.Command.{Command}
 use Rattle.thes_base.specs.declared.request.Command.TheVariants as request
-use Rattle.thes_base.specs.Changes.{scheme_resource, concept_resource, collection_resource, state_after_creation}
+use Rattle.thes_base.specs.Changes.{scheme_resource, concept_resource, collection_resource, outside_resource}
+use Rattle.thes_base.specs.Changes.{state_after_creation}
 use Rattle.thes_base.specs.Data.{LabelData}
 use Rattle.thes_base.specs.Labels.{Label, Labels, UniquePreferred}
-use Rattle.thes_base.specs.Links.{Links, Holds, normal_form}
+use Rattle.thes_base.specs.Links.{Links, Holds, HasEnd, normal_form}
 use Rattle.thes_base.specs.Machine.{link, owned_label}
 use Rattle.thes_base.specs.RefusalRules.{accepted}
 use Rattle.thes_base.specs.Resources.{CanOwn, IsLive, is_outside, is_outside_kind, scheme_of}
@@ -25,7 +26,7 @@ use Rattle.thes_base.proofs.NumberedLemmas.{numbered_bound}
 use Rattle.thes_base.proofs.RefusalRuleLemmas.{passed_if, passed_unless}
 use Rattle.thes_base.proofs.ResourceLemmas.{passes_push, passes_pop}
 use Rattle.thes_links.specs.GraphView.{GraphView, is_marked}
-use Rattle.thes_vocab.specs.TakingBack.{IsBeforeCreation}
+use Rattle.thes_vocab.specs.TakingBack.{IsBeforeCreation, IsBeforeOutside}
 use Rattle.thes_vocab.specs.Vocabulary.{Vocabulary, IsLiveOwner, vocabulary_of, with_labels}
 use Rattle.thes_vocab.proofs.SetUndoLemmas.{insert_then_remove, remove_then_insert}
 use Rattle.thes_core.specs.CoreView.{without_postings}
@@ -33,6 +34,7 @@ use Rattle.thes_core.specs.Requests.{PartsOfState}
 use Rattle.thes_core.specs.UndoLogs.{ArePartsAfter, ArePartsAfterCreation}
 use Rattle.thes_core.specs.declared.thesaurus.Thesaurus.{Thesaurus}
 use Rattle.thes_core.proofs.ApplyLemmas.{parts_become_state}
+use Rattle.thes_core.proofs.OutsideLemmas.{knows_unmarked}
 use Rattle.thes_core.proofs.OutsideLemmas.{same_outside}
 
 -- Assumes that a label was added.
@@ -232,6 +234,54 @@ module _ (t : Thesaurus) (tag text : List ℕ) (s : State) (is : ArePartsAfterCr
         histories = [];
       }) refl (λ n. is.outside n ∙ ap (λ (rs : List Resource). is_outside rs n)
       (ap (λ (x : State). x.resources) is.state) ∙ outside_before s.resources is.resource is.inside n)
+
+-- Assumes that an outside concept was created.
+module _ (t : Thesaurus) (iri : List ℕ) (s : State) (is : ArePartsAfter (request.Outside iri) s t) where
+  abbrev before_outside : Vocabulary
+  before_outside = vocabulary_of t.vocab.base s
+
+  pub outside_last : IsBeforeOutside iri before_outside t.vocab
+  outside_last = record {
+    legal = is.legal.resources;
+    named = is.legal.labels;
+    created = λ i. record {
+      base = t.vocab.base;
+      resources = ap (λ (x : State). x.resources) is.state i;
+      iris = ap (λ (x : State). x.iris) is.state i;
+      labels = ap (λ (x : State). x.labels) is.state i;
+    };
+  }
+
+  -- Assumes the number of the last resource.
+  module _ (n : ℕ) (number : n ≡ length t.vocab.resources) where
+    outside_number : n ≡ length s.resources + 1
+    outside_number = number ∙ ap (λ (x : State). length x.resources) is.state
+        ∙ length-append s.resources (outside_resource ∷ [])
+
+    pub unlinked_outside : (l : Link) → Holds t.graph.links l → HasEnd n l → ⊥
+    unlinked_outside l held has =
+        let live = (is.legal.links.each l (subst (λ (links : Links). Holds links l)
+        (ap (λ (x : State). x.links) is.state) held)).live in
+        let a = numbered_bound s.resources l.a live.0.0 live.0.1 in
+        let b = numbered_bound s.resources l.b live.1.0 live.1.1 in
+        elim has [
+          | inl same ↦ omega (arith, a.1, same, outside_number)
+          | inr same ↦ omega (arith, b.1, same, outside_number)
+        ]
+
+    pub parts_before_outside : (v : Vocabulary) (g : GraphView) → v ≡ before_outside
+        → g ≡ record t.graph { outside = set.remove t.graph.outside n }
+        → PartsOfState t (without_postings s) (record t { vocab = v; graph = g })
+    parts_before_outside v g is_v is_g =
+        parts_become_state is_v is_g refl (λ i. record {
+          resources = s.resources;
+          iris = s.iris;
+          labels = s.labels;
+          links = ap (λ (x : State). x.links) is.state i;
+          histories = [];
+        }) refl (λ m. ap (λ k. set.contains (set.remove t.graph.outside k) m) outside_number
+        ∙ knows_unmarked s.resources t.graph.outside (λ q. is.outside q ∙ ap (λ (x : State). is_outside x.resources q)
+        is.state) m)
 
 -- The number of the resource that was created last.
 pub number_of_created : (t : Thesaurus) (tag text : List ℕ) (s : State) → ArePartsAfterCreation tag text s t

@@ -9,11 +9,11 @@ use Rattle.thes_base.specs.declared.data.History.{History}
 use Rattle.thes_base.specs.declared.data.Resource.{Resource}
 use Rattle.thes_base.specs.declared.request.Command.{Command}
 use Rattle.thes_base.specs.declared.request.Command.TheVariants as request
-use Rattle.thes_base.specs.Changes.{histories_after_post, histories_after_split}
+use Rattle.thes_base.specs.Changes.{histories_after_merge, histories_after_post, histories_after_split}
 use Rattle.thes_base.specs.Changes.{histories_after_withdrawal, is_listed, next_number}
 use Rattle.thes_base.specs.Legal.{IsLegalState}
 use Rattle.thes_base.specs.Machine.{next_state}
-use Rattle.thes_base.specs.Postings.{move_count}
+use Rattle.thes_base.specs.Postings.{assigned_count, is_assigned_to, move_count}
 use Rattle.thes_base.specs.RefusalRules.{accepted}
 use Rattle.thes_base.specs.Refusals.{Setting}
 use Rattle.thes_base.specs.Resources.{IsConcept, replacements}
@@ -25,7 +25,7 @@ use Rattle.thes_base.proofs.RefusalRuleLemmas.{passed_unless}
 use Rattle.thes_post.specs.PostingCounts.{PostingCounts, ArePostingCounts, CountsAfterWithdrawal}
 use Rattle.thes_post.specs.PostingCounts.{CountsAfterMoves, HasMovesToTakeBack, HasWithdrawalToTakeBack}
 use Rattle.thes_post.proofs.ListedPostingLemmas.{passed_standing}
-use Rattle.thes_post.proofs.PostingCountLemmas.{AllAssigned, moves_counted, sums_before_moves}
+use Rattle.thes_post.proofs.PostingCountLemmas.{AllAssigned, all_assigned, moves_counted, sums_before_moves}
 use Rattle.thes_post.proofs.PostingCountLemmas.{sums_before_withdrawal, withdrawal_counted}
 use Rattle.thes_core.specs.CoreDecisions.{IsAccepted, IsAcceptedWithoutPostings, IsAppliedWithoutPostings}
 use Rattle.thes_core.specs.CoreView.{CoreView, IsViewOf, with_histories, without_postings}
@@ -41,10 +41,12 @@ use Rattle.thes_core.specs.UndoLogs.{LeadsWithoutPostings, StepsLead}
 use Rattle.thes_core.specs.declared.facts.Facts.{Facts}
 use Rattle.thes_core.specs.declared.thesaurus.Thesaurus.{Thesaurus}
 use Rattle.thes_core.specs.declared.losses.Lost.{Lost}
-use Rattle.thes_core.specs.declared.losses.Lost.TheVariants.{Place, Preferred}
+use Rattle.thes_core.specs.declared.losses.MergeLoss.{MergeLoss}
+use Rattle.thes_core.specs.declared.losses.Lost.TheVariants.{Links, Merge, Place, Preferred}
 use Rattle.thes_core.specs.declared.undo_log.UndoStep.{UndoStep}
 use Rattle.thes_core.proofs.ApplyLemmas.{held_of, kept_after}
 use Rattle.thes_core.proofs.FactLemmas.{listed_stand, row_of_one}
+use Rattle.thes_core.proofs.MergeDeltaLemmas.{standing_length}
 use Rattle.thes_core.proofs.PartLemmas.{legal_without}
 
 module _ (Leads : State → UndoStep → State → Type 0) where
@@ -272,6 +274,31 @@ counts_unsplit setting s source tag text postings n k old new legal accepts numb
     counted : ArePostingCounts (histories_after_split postings n s.histories) old
     counted = subst (λ m. ArePostingCounts (histories_after_split postings m s.histories) old) (sym number) counts
 
+-- The counts before a merge.
+pub counts_unmerged : (setting : Setting) (s : State) (source target : ℕ) (loss : MergeLoss) (old new : PostingCounts)
+    → IsLegalState setting.base s → source ≢ target
+    → IsLostFromPostings (request.Merge source target) s (Merge loss)
+    → ArePostingCounts (histories_after_merge source target s.histories) old
+    → (HasMovesToTakeBack source target loss.moves old → CountsAfterMoves source target loss.moves new old)
+    → ArePostingCounts s.histories new
+counts_unmerged setting s source target loss old new legal apart lost counts back =
+    let few = legal.postings.few in
+    let all = all_assigned source target apart s.histories in
+    sums_before_moves (is_assigned_to source) source target apart (move_count s.histories + 1) s.histories all
+    loss.moves (lost few) old new counts
+    (back (moves_counted (is_assigned_to source) source target apart (move_count s.histories + 1) s.histories all
+    loss.moves (lost few) old counts few))
+
+-- The number of postings that a merge moves is that of the postings in its facts.
+pub moves_lost : (source target : ℕ) (s : State) (facts : Facts) (standing : List ℕ) (moved : ℕ)
+    → AreFacts (request.Merge source target) s.histories facts → standing ≡ facts.standing.items
+    → (length standing < 2 ^ 32 → moved ≡ length standing) → length s.histories < 2 ^ 32
+    → moved ≡ assigned_count source s.histories
+moves_lost source target s facts standing moved are same count few =
+    let number = ap length (same ∙ are.standing) ∙ standing_length source s.histories in
+    let most = count_by-le-length (is_assigned_to source) s.histories in
+    count (omega (arith, number, most, few)) ∙ number
+
 -- The place in the row of a withdrawn posting is what the withdrawal takes from the state.
 pub place_lost : (posting : ℕ) (s : State) (facts : Facts) (row : PostingRow)
     → AreFacts (request.Withdraw posting) s.histories facts
@@ -290,6 +317,8 @@ lost_from_view k s command lost holds is = subst (λ (x : State). IsLostFromPart
     bare : (c : Command) (l : Lost) → IsLostFromParts c (with_histories [] k) l
         → IsLostFromParts c (with_histories s.histories k) l
     bare (request.Relabel owner tag text keep) (Preferred old) x = x
+    bare (request.Deprecate concept) (Links row) x = x
+    bare (request.Merge source target) (Merge loss) x = record { links = x.links; additions = x.additions; copies = x.copies }
     bare _ _ x = x
 
 -- A request that is applied and appended to a log keeps it a log of the core.

@@ -1,20 +1,37 @@
-//! What an accepted request takes from the state without naming it.
-ghost use Rattle.std.specs.Prelude.{◌≡◌, ℕ, [], IfOk};
+//! What an accepted request takes from the state, or adds to it, without naming it.
+ghost use Rattle.std.specs.Prelude.{◌≡◌, ◌<◌, ◌^◌, ℕ, [], IfOk, length};
 ghost use Rattle.thes_base.specs.declared.request.Command.TheVariants as request;
 ghost use Rattle.thes_base.specs.State.{State};
 ghost use Rattle.thes_core.specs.Facts.{AreFacts};
-ghost use Rattle.thes_core.specs.Losses.{IsLostFromParts, IsLostFromPostings};
+ghost use Rattle.thes_base.specs.Postings.{assigned_count};
+ghost use Rattle.thes_core.specs.Losses.{IsLostFromParts, IsLostFromPostings, IsMergeLoss};
 ghost use Rattle.thes_core.specs.PartsView.{parts_state};
+ghost use Rattle.thes_core.specs.Requests.{MayChange, PartsAccept};
 
 use crate::facts::Facts;
+use crate::named_postings::count_named;
 use crate::thesaurus::Thesaurus;
 use std::alloc::AllocError;
+use thes_base::data::{Label, Link};
 use thes_base::number::ResNo;
 use thes_base::request::Command;
 use thes_base::text::Text;
 
-/// What an accepted request takes from the state without naming it, as far as taking the request
-/// back needs it.
+/// What a merge takes from the state, and what it adds to it.
+#[derive(Debug, Drop)]
+pub struct MergeLoss {
+    /// The links of the source.
+    pub links: Vec<Link>,
+    /// The links that are held after the merge alone.
+    pub additions: Vec<Link>,
+    /// The labels that are copied to the target.
+    pub copies: Vec<Label>,
+    /// The number of postings that move.
+    pub moves: u32,
+}
+
+/// What an accepted request takes from the state, or adds to it, without naming it, as far as taking
+/// the request back needs it.
 #[derive(Debug, Drop)]
 pub enum Lost {
     /// Nothing.
@@ -23,6 +40,10 @@ pub enum Lost {
     Place(ResNo),
     /// The text of a preferred label that was replaced.
     Preferred(Text),
+    /// The links of a concept that was deprecated.
+    Links(Vec<Link>),
+    /// What a merge changed.
+    Merge(MergeLoss),
 }
 
 // Returns the place of a posting that is withdrawn, if the facts have it.
@@ -37,8 +58,33 @@ fn lost_place(facts: &Facts) -> Lost
 }
 
 impl Thesaurus {
-    // Returns what an accepted request takes from the state without naming it.
+    // Returns what a merge takes from the state, and what it adds to it.
+    fn lost_by_merge(
+        &self,
+        source: ResNo,
+        target: ResNo,
+        facts: &Facts,
+    ) -> Result<MergeLoss, AllocError>
+        requires { PartsAccept self.now [] (request.Merge source target) }
+        ensures parts { IfOk result (IsMergeLoss source target (parts_state self.now [])) }
+        ensures moves { IfOk result (λ loss. (s : State)
+            → AreFacts (request.Merge source target) s.histories facts.now
+            → length s.histories < 2 ^ 32 → loss.moves ≡ assigned_count source s.histories) }
+    {
+        let copies = self.vocab.missing_labels(source, target)?;
+        let links = self.links_at(source)?;
+        let additions = self.graph.merge_additions(source, target)?;
+        Ok(MergeLoss {
+            links,
+            additions,
+            copies,
+            moves: count_named(facts.standing.as_slice()),
+        })
+    }
+
+    // Returns what an accepted request takes from the state, or adds to it, without naming it.
     pub(crate) fn lost_by(&self, command: &Command, facts: &Facts) -> Result<Lost, AllocError>
+        requires { MayChange self.now command.now }
         ensures parts { IfOk result (IsLostFromParts command.now (parts_state self.now [])) }
         ensures postings { IfOk result (λ lost. (s : State)
             → AreFacts command.now s.histories facts.now
@@ -50,6 +96,10 @@ impl Thesaurus {
                 Some(old) => Ok(Lost::Preferred(old.try_clone(self.alloc)?)),
                 None => Ok(Lost::Nothing),
             },
+            Command::Deprecate(concept) => Ok(Lost::Links(self.links_at(*concept)?)),
+            Command::Merge(source, target) => {
+                Ok(Lost::Merge(self.lost_by_merge(*source, *target, facts)?))
+            }
             _ => Ok(Lost::Nothing),
         }
     }

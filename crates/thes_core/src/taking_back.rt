@@ -25,7 +25,7 @@ use std::alloc::{AllocError, Global};
 use thes_base::data::{Label, LabelValue, Link, LinkKind};
 use thes_base::number::{PostNo, ResNo};
 use thes_base::request::Command;
-use thes_base::text::{Tag, Text};
+use thes_base::text::{Iri, Tag, Text};
 
 // Returns an alternative label with copies of the tag and the text.
 fn alternative_label(alloc: Global, tag: &Tag, text: &Text) -> Result<Label, AllocError>
@@ -61,6 +61,10 @@ impl Thesaurus {
                 self.take_back_named(tag, text);
                 Ok(true)
             }
+            Command::Outside(iri) => {
+                self.take_back_outside(iri);
+                Ok(true)
+            }
             Command::AddLabel(owner, label) => {
                 self.take_back_added(*owner, label);
                 Ok(true)
@@ -82,7 +86,8 @@ impl Thesaurus {
             Command::Split(source, tag, text, postings) => {
                 self.take_back_split(*source, tag, text, postings.as_slice())
             }
-            Command::Outside(_) | Command::Deprecate(_) | Command::Merge(_, _) => Ok(false),
+            Command::Deprecate(concept) => self.take_back_deprecate(*concept, lost),
+            Command::Merge(source, target) => self.take_back_merge(*source, *target, lost),
         }
     }
 
@@ -94,6 +99,18 @@ impl Thesaurus {
         ensures book { self.new.book ≡ self.old.book }
     {
         self.vocab.take_back_named(tag, text);
+    }
+
+    // Takes back the creation of the last resource, an outside concept.
+    fn take_back_outside(&mut self, iri: &Iri)
+        requires { (s : State) × ArePartsAfter (request.Outside iri.now) s self.old }
+        ensures parts { (s : State) → ArePartsAfter (request.Outside iri.now) s self.old
+            → PartsOfState self.old (without_postings s) self.new }
+        ensures book { self.new.book ≡ self.old.book }
+    {
+        let concept = ResNo::new(self.vocab.resource_count() as u32);
+        self.vocab.take_back_outside(iri);
+        self.graph.unmark_outside(concept);
     }
 
     // Takes back the addition of a label.
@@ -136,6 +153,48 @@ impl Thesaurus {
         ensures book { OnOk result (self.new.book ≡ self.old.book) }
     {
         self.graph.add(&Link { kind, a, b })?;
+        Ok(true)
+    }
+
+    // Takes back that a concept was deprecated, and returns whether its links are known.
+    fn take_back_deprecate(&mut self, concept: ResNo, lost: &Lost) -> Result<bool, AllocError>
+        requires { (s : State) × ArePartsAfter (request.Deprecate concept) s self.old
+            × IsLostFromParts (request.Deprecate concept) s lost.now }
+        ensures parts { IfOk result (λ taken. taken ≡ true → (s : State)
+            → ArePartsTakenBack (request.Deprecate concept) s lost.now self.old self.new) }
+        ensures book { OnOk result (self.new.book ≡ self.old.book) }
+    {
+        let Lost::Links(links) = lost else {
+            return Ok(false);
+        };
+        self.vocab.take_back_death(concept)?;
+        self.graph.add_all(links.as_slice())?;
+        Ok(true)
+    }
+
+    // Takes back a merge, and returns whether what it changed is known.
+    fn take_back_merge(
+        &mut self,
+        source: ResNo,
+        target: ResNo,
+        lost: &Lost,
+    ) -> Result<bool, AllocError>
+        requires { (s : State) × ArePartsAfter (request.Merge source target) s self.old
+            × IsLostFromParts (request.Merge source target) s lost.now }
+        ensures parts { IfOk result (λ taken. taken ≡ true → (s : State)
+            → ArePartsTakenBack (request.Merge source target) s lost.now self.old self.new) }
+        ensures counts { IfOk result (λ taken. taken ≡ true → (s : State)
+            → ArePartsAfter (request.Merge source target) s self.old
+            → AreCountsTakenBack (request.Merge source target) s lost.now self.old self.new) }
+    {
+        let Lost::Merge(loss) = lost else {
+            return Ok(false);
+        };
+        self.vocab.take_back_death(source)?;
+        self.vocab.drop_labels(target, loss.copies.as_slice());
+        self.graph.add_all(loss.links.as_slice())?;
+        self.graph.detach_all(loss.additions.as_slice());
+        self.book.take_back_moves(source, target, loss.moves)?;
         Ok(true)
     }
 

@@ -51,8 +51,10 @@ impl UndoLog {
 }
 
 impl Core {
-    // Returns what an accepted request takes from the state without naming it.
+    // Returns what an accepted request takes from the state, or adds to it, without naming it.
     fn lost_by_request(&self, command: &Command, facts: &Facts) -> Result<Lost, Fault>
+        requires unspent { self.now.spent ≡ false }
+        requires may { MayApply self.now command.now }
         ensures parts { IfOk result (IsLostFromParts command.now (with_histories [] self.now)) }
         ensures postings { IfOk result (λ lost. (s : State)
             → AreFacts command.now s.histories facts.now

@@ -92,7 +92,7 @@ with_has links (x ∷ xs) m has = elim (Contains-cons_cases x xs m has) [
   | inr later ↦ with_has (insert links x) xs m later
 ]
 
-without_from : (links : Links) (xs : List Link) (m : Link) → Holds (without_links links xs) m → Holds links m
+pub without_from : (links : Links) (xs : List Link) (m : Link) → Holds (without_links links xs) m → Holds links m
     × (Contains xs m → ⊥)
 without_from links [] m held = (held, λ has. Contains-none m has)
 without_from links (x ∷ xs) m held =
@@ -100,7 +100,7 @@ without_from links (x ∷ xs) m held =
     let c = removed_cases links x m r.0 in
     (c.1, λ has. elim (Contains-cons_cases x xs m has) [ inl same ↦ c.0 (sym same) | inr later ↦ r.1 later ])
 
-without_keeps : (links : Links) (xs : List Link) (m : Link) → Holds links m → (Contains xs m → ⊥)
+pub without_keeps : (links : Links) (xs : List Link) (m : Link) → Holds links m → (Contains xs m → ⊥)
     → Holds (without_links links xs) m
 without_keeps links [] m held off = held
 without_keeps links (x ∷ xs) m held off =

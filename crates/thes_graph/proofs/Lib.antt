@@ -14,3 +14,4 @@ mod CycleSearchLemmas
 mod UpperSetLemmas
 mod S27Lemmas
 mod PartLemmas
+pub mod LinkUndoLemmas

@@ -31,6 +31,11 @@ pub record AreMergeAdditions (net : GraphView) (source target : ℕ) (ms : List 
       → (Holds net.links m → ⊥) → Contains ms m
   pub distinct : is_marked net source ≡ is_marked net target → AllPairs (λ x y. x ≢ y) ms
 
+-- The list has exactly the links that are held after a change and weren't before it.
+pub record AreAddedLinks (before after : Links) (ms : List Link) : Type 0 where
+  pub sound : (m : Link) → Contains ms m → Holds after m × (Holds before m → ⊥)
+  pub complete : (m : Link) → Holds after m → (Holds before m → ⊥) → Contains ms m
+
 -- The links are new: each has two different ends, is in normal form, and isn't held.
 pub record AreNew (net : GraphView) (ls : List Link) : Type 0 where
   pub two_ends : HaveTwoEnds (Contains ls)

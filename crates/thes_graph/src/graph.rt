@@ -369,8 +369,8 @@ impl Graph {
         Ok(merge_additions)
     }
 
-    // Adds these links, none of which is held yet; adds none if memory runs out.
-    fn add_all(&mut self, links: &[Link]) -> Result<(), AllocError>
+    /// Adds these links, none of which is held yet; adds none if memory runs out.
+    pub fn add_all(&mut self, links: &[Link]) -> Result<(), AllocError>
         requires { AreNew self.old links.now }
         ensures ok { OnOk result
             (self.new ≡ record self.old { links = with_all self.old.links links.now }) }
@@ -385,8 +385,8 @@ impl Graph {
         Ok(())
     }
 
-    // Removes these links; it can't fail.
-    fn detach_all(&mut self, links: &[Link])
+    /// Removes these links, which are in normal form; it can't fail.
+    pub fn detach_all(&mut self, links: &[Link])
         ensures { self.new ≡ record self.old { links = without_links self.old.links links.now } }
     {
         for link in links {
@@ -441,6 +441,14 @@ impl Graph {
     {
         self.marked.insert(n)?;
         Ok(())
+    }
+
+    /// Removes the mark of a resource without links as an outside concept; it can't fail.
+    pub fn unmark_outside(&mut self, n: ResNo)
+        requires { (l : Link) → Holds self.old.links l → HasEnd n l → ⊥ }
+        ensures { self.new ≡ record self.old { outside = remove self.old.outside n } }
+    {
+        self.marked.remove(&n);
     }
 
     /// Returns a reader of the links, with its count of visits at 0.

@@ -1,4 +1,4 @@
--- The index of live concepts is complete after a resource is added or marked as dead.
+-- The index of live concepts is complete after a resource is added, marked as dead, or live again.
 use Rattle.std.proofs.Common.{arith}
 use Rattle.std.proofs.lemmas.Grind.{common_steps}
 use Rattle.std.proofs.Common.{◌≡◌, ◌≢◌, ◌⊎◌, inl, inr, ℕ, ◌+◌, length, List, [], ◌∷◌, ◌++◌, refl, sym, ◌∙◌}
@@ -9,7 +9,7 @@ use Rattle.std.proofs.lemmas.Cmp.{nat_cmp_total}
 use Rattle.std.proofs.lemmas.Map.Lookups.{exact_unsigned}
 use Rattle.std.proofs.lemmas.Bool.{cases_eq}
 use Rattle.thes_base.specs.declared.data.Resource.{Resource}
-use Rattle.thes_base.specs.Resources.{entry_at, set_entry_at}
+use Rattle.thes_base.specs.Resources.{entry_at, set_entry_at, IsLiveConcept}
 use Rattle.thes_base.specs.Changes.{resource_after_death}
 use Rattle.thes_base.proofs.UniquePreferredLemmas.{live_before}
 use Rattle.thes_base.proofs.NumberedLemmas.{push_old, push_new, push_cases, numbered_bound, set_other}
@@ -56,11 +56,11 @@ module _ (rs : List Resource) (n : ℕ) (replaced : Option ℕ) (r : Resource) (
   abbrev resources_with_dead : List Resource
   resources_with_dead = set_entry_at rs n (resource_after_death replaced r)
 
-  concept_before : (s m : ℕ) → IsConceptOf resources_with_dead s m → IsConceptOf rs s m × (m ≢ n)
+  pub concept_before : (s m : ℕ) → IsConceptOf resources_with_dead s m → IsConceptOf rs s m × (m ≢ n)
   concept_before s m c = let was = live_before rs n replaced r at m c.0 in ((was.1, sym was.2 ∙ c.1), was.0)
 
   -- A concept of a scheme before is one after, or is the dead one.
-  concept_after : (s m : ℕ) → IsConceptOf rs s m → IsConceptOf resources_with_dead s m ⊎ ((r.scheme ≡ Some s) × (m ≡ n))
+  pub concept_after : (s m : ℕ) → IsConceptOf rs s m → IsConceptOf resources_with_dead s m ⊎ ((r.scheme ≡ Some s) × (m ≡ n))
   concept_after s m c = grind (arith, common_steps, cases_eq, numbered_bound, scheme_at, set_other)
 
   pub listed_dead : (o : Option ℕ) → r.scheme ≡ o → ConceptListsAfterRemove old new o n
@@ -80,3 +80,22 @@ module _ (rs : List Resource) (n : ℕ) (replaced : Option ℕ) (r : Resource) (
         )
       ])
       (λ s m c. (concept_before s m c).0)
+
+  -- The index is complete if the concept is live again, and its number inserted again.
+  pub listed_alive : IsLiveConcept rs n → (o : Option ℕ) → r.scheme ≡ o → ConceptListsAfterInsert old new o n
+      → AreListings nat_cmp (IsConceptOf resources_with_dead) old → AreListings nat_cmp (IsConceptOf rs) new
+  listed_alive live None is same listed =
+      listings_same nat_cmp (IsConceptOf resources_with_dead) (IsConceptOf rs) old new same
+      (λ s m c. (concept_before s m c).0)
+      (λ s m c. elim (concept_after s m c) [ inl stays ↦ stays | inr here ↦ absurd (let e = sym is ∙ here.0 in cc) ])
+      listed
+  listed_alive live (Some scheme) is changes listed =
+      listings_insert nat_cmp nat_cmp_total exact_unsigned (IsConceptOf resources_with_dead) (IsConceptOf rs) old new
+      scheme n listed changes (live, scheme_at rs n r at ∙ is) (λ s m c. (concept_before s m c).0)
+      (λ s m c. elim (concept_after s m c) [
+        | inl stays ↦ inl stays
+        | inr here ↦ inr (
+          same_Some _ _ (sym here.0 ∙ is),
+          here.1,
+        )
+      ])

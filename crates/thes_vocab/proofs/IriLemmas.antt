@@ -116,6 +116,80 @@ module _ (iris now : Iris) (seen : iris ≡ now) (numbers more : Numbers) (n : �
       restored : IsNumberSet more back iri None → IsNumberSet numbers more iri (Some n) → AreInverse iris back
       restored unset set = grind (arith, common_steps, none-some, other_iri, same_or_not)
 
+pub iris_after_remove : (old new : BTreeMap ℕ (List ℕ)) (n : ℕ) → Updates nat_cmp old new n None
+    → iris_in new.entries ≡ dict.remove (iris_in old.entries) n
+iris_after_remove old new n u = dict.same_map nat_cmp_total dict.nat_cmp-IsAntisymmetric _ _ (λ q.
+    get_iri_at new q ∙ u.0 q ∙ ap (λ b. cond b None (get nat_cmp old q))
+    ((eq_by_cmp_equiv nat_cmp_total).symm n q)
+    ∙ sym (dict.get-remove nat_cmp_total (iris_in old.entries) n q ∙ ap (cond (eq_by_cmp nat_cmp q n) None)
+    (get_iri_at old q)))
+
+-- The IRI that was inserted is the one at its number.
+pub inserted_iri : (iris : Iris) (n : ℕ) (iri : List ℕ) → dict.get (dict.insert iris n iri) n ≡ Some iri
+inserted_iri iris n iri = dict.get-insert nat_cmp_total iris n iri n ∙ ap (λ b. cond b (Some iri) (dict.get iris n))
+    (ap is_eq (tied_itself nat_cmp_total n))
+
+-- Removing an IRI that was inserted under a new number restores the map.
+pub insert_then_remove_iri : (iris : Iris) (n : ℕ) (iri : List ℕ) → dict.get iris n ≡ None
+    → dict.remove (dict.insert iris n iri) n ≡ iris
+insert_then_remove_iri iris n iri none = dict.same_map nat_cmp_total dict.nat_cmp-IsAntisymmetric _ _ (λ q.
+    go q (eq_by_cmp nat_cmp q n) refl)
+  where
+    with_iri : Iris
+    with_iri = dict.insert iris n iri
+
+    go : (q : ℕ) (b : Bool) → eq_by_cmp nat_cmp q n ≡ b → dict.get (dict.remove with_iri n) q ≡ dict.get iris q
+    go q true tie = dict.get-remove nat_cmp_total with_iri n q ∙ ap (λ b. cond b None (dict.get with_iri q)) tie
+        ∙ sym (ap (dict.get iris) (exact_unsigned q n ((Equal-is (nat_cmp q n)).0 tie)) ∙ none)
+    go q false tie = dict.get-remove nat_cmp_total with_iri n q ∙ ap (λ b. cond b None (dict.get with_iri q)) tie
+        ∙ dict.get-insert nat_cmp_total iris n iri q ∙ ap (λ b. cond b (Some iri) (dict.get iris q)) tie
+
+-- A number and its IRI are removed.
+module _ (iris : Iris) (numbers fewer : Numbers) (n : ℕ) (iri : List ℕ) (tied : AreInverse iris numbers)
+    (has : dict.get iris n ≡ Some iri) (unset : IsNumberSet numbers fewer iri None) where
+  same_number : (m : ℕ) → dict.get iris m ≡ Some iri → m ≡ n
+  same_number m e = same_Some _ _ (sym (tied.number m iri e) ∙ tied.number n iri has)
+
+  at_number : (m : ℕ) (b : Bool) → eq_by_cmp nat_cmp m n ≡ b
+      → dict.get (dict.remove iris n) m ≡ cond b None (dict.get iris m)
+  at_number m b tie = dict.get-remove nat_cmp_total iris n m ∙ ap (λ b. cond b None (dict.get iris m)) tie
+
+  removed_iri : (m : ℕ) (i : List ℕ) → dict.get (dict.remove iris n) m ≡ Some i
+      → (m ≢ n) × (dict.get iris m ≡ Some i)
+  removed_iri m i e = go (eq_by_cmp nat_cmp m n) refl
+    where
+      go : (b : Bool) → eq_by_cmp nat_cmp m n ≡ b → (m ≢ n) × (dict.get iris m ≡ Some i)
+      go true tie = absurd (none-some _ (sym (at_number m true tie) ∙ e))
+      go false tie = (
+        λ same. let bad : false ≡ true =
+            sym tie ∙ ap (λ k. eq_by_cmp nat_cmp k n) same ∙ ap is_eq (tied_itself nat_cmp_total n) in cc,
+        sym (at_number m false tie) ∙ e,
+      )
+
+  other_iri_kept : (m : ℕ) (i : List ℕ) → m ≢ n → dict.get iris m ≡ Some i
+      → dict.get (dict.remove iris n) m ≡ Some i
+  other_iri_kept m i apart e = go (eq_by_cmp nat_cmp m n) refl
+    where
+      go : (b : Bool) → eq_by_cmp nat_cmp m n ≡ b → dict.get (dict.remove iris n) m ≡ Some i
+      go true tie = absurd (apart (exact_unsigned m n ((Equal-is (nat_cmp m n)).0 tie)))
+      go false tie = at_number m false tie ∙ e
+
+  iri_left : (m : ℕ) (i : List ℕ) → get iri_cmp fewer i ≡ Some m → (i ≡ iri) ⊎ (i ≡ iri → ⊥)
+      → dict.get (dict.remove iris n) m ≡ Some i
+  iri_left m i e (inl same) = absurd (none-some _ (sym unset.at ∙ ap (get iri_cmp fewer) (sym same) ∙ e))
+  iri_left m i e (inr apart) =
+      let held = tied.iri m i (sym (unset.others i apart) ∙ e) in
+      other_iri_kept m i (λ same. apart (same_Some _ _ (sym held ∙ ap (dict.get iris) same ∙ has))) held
+
+  -- Removing a number and its IRI keeps the maps inverse.
+  pub inverse_after_remove : AreInverse (dict.remove iris n) fewer
+  inverse_after_remove = record {
+    number = λ m i e.
+        let was = removed_iri m i e in
+        unset.others i (λ same. was.0 (same_number m (was.1 ∙ ap Some same))) ∙ tied.number m i was.1;
+    iri = λ m i e. iri_left m i e (same_or_not i iri);
+  }
+
 pub inverse_of_empty : (iris : Iris) (numbers : Numbers) → ((n : ℕ) → dict.get iris n ≡ None)
     → ((i : List ℕ) → get iri_cmp numbers i ≡ None) → AreInverse iris numbers
 inverse_of_empty iris numbers none no_number = record {

@@ -12,3 +12,6 @@ mod ForwardingLemmas
 mod LoadingLemmas
 pub mod SetUndoLemmas
 mod TakingBackLemmas
+mod OutsideUndoLemmas
+mod DeathUndoLemmas
+mod LabelUndoLemmas

@@ -1,7 +1,7 @@
 -- The target's row after a merge, and the number of labels copied to it, are those of the machine's definition.
 use Rattle.std.proofs.lemmas.Grind.{common_steps}
 use Rattle.std.proofs.Common.{◌≡◌, ◌⊎◌, inl, inr, ℕ, ◌+◌, length, List, [], ◌∷◌, refl, sym, ap, ◌∙◌}
-use Rattle.std.proofs.Common.{arith, Bool, true, false, not, ◌&&◌, ◌||◌, cond, map, eqb-true, eq-eqb}
+use Rattle.std.proofs.Common.{subst, arith, Bool, true, false, not, ◌&&◌, ◌||◌, cond, map, eqb-true, eq-eqb}
 use Rattle.std.specs.Prelude.{filter, if◌then◌else◌, ◌==◌}
 use Rattle.std.specs.declared.cmp.Ordering.{Ordering}
 use Rattle.std.specs.declared.cmp.Ordering.TheVariants.{Less}
@@ -267,6 +267,15 @@ module _ (labels : Labels) (source target : ℕ) (s13 : S13 labels) where
     missing_len =
         ap (λ n. set.len labels + n) (ap length missing.2 ∙ length-map (missing_labels missing.0) merged_label)
         ∙ taken_len missing.0 missing.1 ∙ ap (λ more. set.len (set.union labels more)) (sym missing_set)
+
+    -- None of the labels that the machine copies is there before.
+    pub missing_new : (q : Label) → set.contains (copied_labels source target labels) q ≡ true
+        → set.contains labels q ≡ true → ⊥
+    missing_new q copied held =
+        let found = built_from missing.0 q
+        (sym (set.contains-from_list labels_total (map as_taken (missing_labels missing.0)) q)
+        ∙ ap (λ (ls : Labels). set.contains ls q) (copies_are missing.0 missing.1) ∙ copied) in
+        copied_is_new found.0 found.1 (subst (λ (l : Label). set.contains labels l ≡ true) found.3 held)
 
 -- The set of labels after the insertion of labels of an owner is the union with them.
 pub union_rows : (old new : LabelRows) (owner : ℕ) (inserted : List LabelData)

@@ -1,10 +1,12 @@
--- A finite set is as before once an insertion or a removal is taken back.
-use Rattle.std.proofs.Common.{◌≡◌, inl, inr, true, subst, sym}
+-- A finite set is as before once an insertion, a removal or a union is taken back.
+use Rattle.std.proofs.Common.{◌≡◌, ◌∙◌, inl, inr, true, subst, sym}
+use Rattle.std.proofs.lemmas.Bool.{and_from, and_parts, both_ways, false_from_ne_true, not-true, not_from_false, or_left}
 use Rattle.std.specs.declared.cmp.Ordering.{Ordering}
 use Rattle.std.specs.Cmp.{IsTotalOrder}
-use Rattle.std.specs.FinSet.{FinSet, IsAntisymmetric, contains, insert, remove}
+use Rattle.std.specs.FinSet.{FinSet, IsAntisymmetric, contains, difference, insert, remove, union}
+use Rattle.std.specs.FinSet.{contains-difference, contains-union}
 use Rattle.thes_base.proofs.SetMemberLemmas.{inserted_cases, inserted_kept, inserted_new, removed_cases, removed_kept}
-use Rattle.thes_base.proofs.SetMemberLemmas.{same_members, same_or_not}
+use Rattle.thes_base.proofs.SetMemberLemmas.{same_members, same_or_not, union_cases}
 
 module _ {K : Type 0} {R : K → K → Ordering} (total : IsTotalOrder R) (exact : IsAntisymmetric R) where
   pub insert_then_remove : (s : FinSet R) (k : K) → (contains s k ≡ true → ⊥) → remove (insert s k) k ≡ s
@@ -27,3 +29,18 @@ module _ {K : Type 0} {R : K → K → Ordering} (total : IsTotalOrder R) (exact
             (inserted_new total exact (remove s k) k)
         | inr apart ↦ inserted_kept total exact (remove s k) k q (removed_kept total exact s k q apart held)
       ])
+
+  -- Removing what a union added restores the set.
+  pub union_then_difference : (s t : FinSet R)
+      → ((k : K) → contains t k ≡ true → contains s k ≡ true → ⊥) → difference (union s t) t ≡ s
+  union_then_difference s t new =
+      same_members total exact _ _
+      (λ q held.
+      let both = and_parts _ _ (sym (contains-difference total (union s t) t q) ∙ held) in
+      elim (union_cases total exact s t q both.0) [
+        | inl old ↦ old
+        | inr added ↦ absurd (both_ways _ (not-true _ both.1) added)
+      ])
+      (λ q held. contains-difference total (union s t) t q
+      ∙ and_from _ _ (contains-union total s t q ∙ or_left _ _ held)
+      (not_from_false _ (false_from_ne_true _ (λ added. new q added held))))

@@ -80,4 +80,13 @@ impl IriTable {
             }
         }
     }
+
+    // Removes the number of an outside concept and its IRI, in both directions.
+    pub(crate) fn remove(&mut self, n: ResNo, iri: &Iri)
+        requires { dict.get self.old n ≡ Some iri.now }
+        ensures { self.new ≡ dict.remove self.old n }
+    {
+        self.iris.remove(&n);
+        self.numbers.remove(iri);
+    }
 }

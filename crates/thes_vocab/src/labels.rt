@@ -162,6 +162,22 @@ impl LabelTable {
         }
     }
 
+    // Removes these labels, as far as the owner has them.
+    pub(crate) fn remove_all(&mut self, owner: ResNo, labels: &[Label])
+        ensures { self.new ≡ set.difference self.old (labels_of_owner owner labels.now) }
+    {
+        for label in labels {
+            self.remove_label(owner, label);
+        }
+    }
+
+    // Removes a label, if the owner has it.
+    fn remove_label(&mut self, owner: ResNo, label: &Label)
+        ensures { self.new ≡ set.remove self.old (owned_label owner label.now) }
+    {
+        self.remove(owner, label.kind(), &label.tag, label.text());
+    }
+
     // Replaces the owner's preferred label `old` in the language by `text`; keeps the old one as an
     // alternative label if `keep` is true.
     pub(crate) fn rename(

@@ -3,14 +3,16 @@ ghost use Rattle.std.specs.Prelude.{◌≡◌, ◌↔◌, ◌<◌, ◌^◌, ℕ,
 ghost use Rattle.std.specs.BTreeSet.{contains};
 ghost use Rattle.std.specs.BTreeMap.{is_at};
 ghost use Rattle.std.specs.List.{list_any};
+ghost use Rattle.thes_base.specs.Data.{LabelData};
 ghost use Rattle.thes_base.specs.Forms.{IsNumber};
 ghost use Rattle.thes_base.specs.Labels.{IsPreferredTaken};
-ghost use Rattle.thes_vocab.specs.Vocabulary.{IsHolder};
+ghost use Rattle.thes_vocab.specs.Vocabulary.{IsHolder, concept_scheme};
 ghost use Rattle.thes_vocab.specs.NameIndex.{name_digest, entry_cmp, has_digest, HasNameEntry, HasEntryInScheme, HasLabelEntry, KeepsNames, KeepsOtherNames, AreHoldersIndexed, LeadsToHolders};
+ghost use Rattle.thes_vocab.specs.OwnLabels.{has_own};
 ghost use Rattle.thes_vocab.specs.Rivals.{HasRival};
 
 use crate::labels::LabelTable;
-use crate::vocab::concept_scheme;
+use crate::vocab::{concept_scheme, scheme_if_concept};
 use std::alloc::{AllocError, Global};
 use std::collections::BTreeSet;
 use std::collections::btree_set::Range;
@@ -105,6 +107,24 @@ impl Names {
             LabelValue::Pref(text) => self.put(scheme, &label.tag, text, concept),
             _ => Ok(()),
         }
+    }
+
+    // Adds an entry for each preferred label of the resource, whose labels are in `own`, if it is a
+    // live concept.
+    pub(crate) fn put_all(
+        &mut self,
+        resource: &Resource,
+        own: &[Label],
+        n: ResNo,
+    ) -> Result<(), AllocError>
+        ensures keeps { KeepsNames self.old self.new }
+        ensures ok { OnOk result ((l : LabelData) → has_own own.now l ≡ true
+            → HasLabelEntry self.new (concept_scheme resource.now) l n) }
+    {
+        for label in own {
+            self.put_label(scheme_if_concept(resource), label, n)?;
+        }
+        Ok(())
     }
 
     // Adds an entry for the concept with the preferred label, if there is a scheme.

@@ -1,13 +1,18 @@
-//! Takes back the creation of the last resource.
-ghost use Rattle.std.specs.Prelude.{◌≡◌};
-ghost use Rattle.thes_vocab.specs.Vocabulary.{Vocabulary};
-ghost use Rattle.thes_vocab.specs.TakingBack.{IsBeforeCreation};
+//! Takes back the creation of the last resource, the death of a concept, and the labels that a merge
+//! copied.
+ghost use Rattle.std.specs.Prelude.{◌≡◌, ℕ, Option, OnOk, OnErr};
+ghost use Rattle.std.specs.FinSet as set;
+ghost use Rattle.thes_base.specs.Legal.{AreLegalLabels};
+ghost use Rattle.thes_vocab.specs.LabelRows.{labels_of_owner};
+ghost use Rattle.thes_vocab.specs.Vocabulary.{Vocabulary, with_labels};
+ghost use Rattle.thes_vocab.specs.TakingBack.{IsBeforeCreation, IsBeforeDeath, IsBeforeOutside};
 
 use crate::concepts;
 use crate::vocab::{Vocab, scheme_if_concept};
-use thes_base::data::LabelKind;
+use std::alloc::AllocError;
+use thes_base::data::{Label, LabelKind, Resource};
 use thes_base::number::ResNo;
-use thes_base::text::{Tag, Text};
+use thes_base::text::{Iri, Tag, Text};
 
 impl Vocab {
     /// Takes back the creation of the last resource with its preferred label; it can't fail.
@@ -26,5 +31,50 @@ impl Vocab {
         let scheme = scheme_if_concept(&resource);
         let own = self.labels.of_owner(n);
         self.names.forget(scheme, tag, text.as_str(), n, own);
+    }
+
+    /// Takes back the creation of the last resource, an outside concept with this IRI; it can't
+    /// fail.
+    pub fn take_back_outside(&mut self, iri: &Iri)
+        requires { (before : Vocabulary) × IsBeforeOutside iri.now before self.old }
+        ensures { (before : Vocabulary) → IsBeforeOutside iri.now before self.old
+            → self.new ≡ before }
+    {
+        let Some(_) = self.resources.pop() else {
+            return;
+        };
+        let n = ResNo::new(self.resources.len() as u32 + 1);
+        self.iris.remove(n, iri);
+    }
+
+    /// Takes back that a concept was marked as dead: it is live again, and has no replacement. If
+    /// memory runs out, nothing changes.
+    pub fn take_back_death(&mut self, n: ResNo) -> Result<(), AllocError>
+        requires { (before : Vocabulary) × (replaced : Option ℕ)
+            × IsBeforeDeath n replaced before self.old }
+        ensures ok { OnOk result ((before : Vocabulary) (replaced : Option ℕ)
+            → IsBeforeDeath n replaced before self.old → self.new ≡ before) }
+        ensures err { OnErr result (self.new ≡ self.old) }
+    {
+        let place = n.get() as usize - 1;
+        let dead = self.resources[place];
+        let concept = Resource::new(dead.kind, dead.scheme);
+        concepts::make_room(&mut self.concepts, &concept)?;
+        // The index may have lost the names of a dead concept.
+        let own = self.labels.of_owner(n);
+        self.names.put_all(&concept, own, n)?;
+        concepts::insert(&mut self.concepts, &concept, n);
+        self.resources[place] = concept;
+        Ok(())
+    }
+
+    /// Removes these labels of an owner; those that are left must be legal. It can't fail.
+    pub fn drop_labels(&mut self, owner: ResNo, labels: &[Label])
+        requires { AreLegalLabels self.old.resources
+            (set.difference self.old.labels (labels_of_owner owner labels.now)) }
+        ensures { self.new ≡ with_labels self.old
+            (set.difference self.old.labels (labels_of_owner owner labels.now)) }
+    {
+        self.labels.remove_all(owner, labels);
     }
 }

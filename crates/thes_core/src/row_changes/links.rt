@@ -57,7 +57,7 @@ fn push_labels(delta: &mut Delta, owner: ResNo, labels: Vec<Label>) -> Result<()
 impl Thesaurus {
     // Returns the held links with an end at a resource, each once.
     #[tactic(auto, using(crate::proofs::DeltaLemmas::take_got, crate::proofs::DeltaLemmas::take_none))]
-    fn links_at(&self, n: ResNo) -> Result<Vec<Link>, AllocError>
+    pub(crate) fn links_at(&self, n: ResNo) -> Result<Vec<Link>, AllocError>
         ensures { IfOk result (λ found. IsRow self.now.graph.links n found.items) }
     {
         let mut found = Vec::new(self.alloc);

@@ -28,6 +28,10 @@ take_back_named-requires-in-Collection c = (
       (subst (λ (x : Command). ArePartsAfter x c.requires.0 c.args.self.now) c.in-Collection.is c.requires.1),
 )
 
+pub take_back_outside-requires : goal.take_back_outside-requires
+take_back_outside-requires c =
+    (c.requires.0, subst (λ (x : Command). ArePartsAfter x c.requires.0 c.args.self.now) c.in-Outside.is c.requires.1)
+
 pub take_back_added-requires : goal.take_back_added-requires
 take_back_added-requires c =
     (c.requires.0, subst (λ (x : Command). ArePartsAfter x c.requires.0 c.args.self.now) c.in-AddLabel.is c.requires.1)
@@ -50,6 +54,20 @@ take_back_relabel-requires c = (
   c.in-Relabel.field-2,
   subst (λ (x : Command). ArePartsAfter x c.requires.0 c.args.self.now) c.in-Relabel.is c.requires.1,
   subst (λ (x : Command). IsLostFromParts x c.requires.0 c.args.lost.now) c.in-Relabel.is c.requires.2,
+)
+
+pub take_back_deprecate-requires : goal.take_back_deprecate-requires
+take_back_deprecate-requires c = (
+  c.requires.0,
+  subst (λ (x : Command). ArePartsAfter x c.requires.0 c.args.self.now) c.in-Deprecate.is c.requires.1,
+  subst (λ (x : Command). IsLostFromParts x c.requires.0 c.args.lost.now) c.in-Deprecate.is c.requires.2,
+)
+
+pub take_back_merge-requires : goal.take_back_merge-requires
+take_back_merge-requires c = (
+  c.requires.0,
+  subst (λ (x : Command). ArePartsAfter x c.requires.0 c.args.self.now) c.in-Merge.is c.requires.1,
+  subst (λ (x : Command). IsLostFromParts x c.requires.0 c.args.lost.now) c.in-Merge.is c.requires.2,
 )
 
 pub take_back_split-requires : goal.take_back_split-requires
