@@ -34,22 +34,29 @@ pub fn path_node_at<L: Links>(
     Ok(PathNode { node: n, above })
 }
 
+// A search: the nodes met, and the stack of those on the path to the last one.
+#[derive(Drop)]
+struct PathSearch {
+    nodes: Nodes,
+    stack: Vec<PathNode>,
+}
+
 // Advances the search by one broader node of `last`, the node popped from the stack. If that node
 // is done, removes it from the list of `last`; if it is new, pushes it above `last`; otherwise it
 // closes a cycle. If the list is empty, `last` is done. Returns whether a cycle was found.
 fn advance_path<L: Links>(
     alloc: Global,
     links: &mut L,
-    met: &mut Nodes,
+    search: &mut PathSearch,
     done: &mut Nodes,
-    stack: &mut Vec<PathNode>,
     mut last: PathNode,
 ) -> Result<bool, AllocError>
-    requires { IsCycleSearch (Holds (L.net links.old).links) met.old done.old
-        (stack.old.items ++ last ∷ []) }
+    requires { IsCycleSearch (Holds (L.net links.old).links) search.old.nodes done.old
+        (search.old.stack.items ++ last ∷ []) }
     ensures net { L.net links.new ≡ L.net links.old }
-    ensures outcome { IfOk result (IsSearchStep (Holds (L.net links.old).links) met.old done.old
-        (stack.old.items ++ last ∷ []) met.new done.new stack.new.items) }
+    ensures outcome { IfOk result
+        (IsSearchStep (Holds (L.net links.old).links) search.old.nodes done.old
+        (search.old.stack.items ++ last ∷ []) search.new.nodes done.new search.new.stack.items) }
 {
     let Some(high) = last.above.last().copied() else {
         done.meet(last.node)?;
@@ -57,16 +64,16 @@ fn advance_path<L: Links>(
     };
     if done.has(high) {
         last.above.pop();
-        stack.push(last)?;
+        search.stack.push(last)?;
         return Ok(false);
     }
-    if met.has(high) {
+    if search.nodes.has(high) {
         return Ok(true);
     }
-    met.meet(high)?;
+    search.nodes.meet(high)?;
     let next = path_node_at(alloc, links, high)?;
-    stack.push(last)?;
-    stack.push(next)?;
+    search.stack.push(last)?;
+    search.stack.push(next)?;
     Ok(false)
 }
 
@@ -87,11 +94,12 @@ pub fn find_cycle<L: Links>(
     if done.has(start) {
         return Ok(false);
     }
-    let mut met = Nodes::singleton(alloc, start)?;
+    let nodes = Nodes::singleton(alloc, start)?;
     let first = path_node_at(alloc, links, start)?;
-    let mut stack = vec![in alloc; first]?;
-    while let Some(last) = stack.pop() {
-        if advance_path(alloc, links, &mut met, done, &mut stack, last)? {
+    let stack = vec![in alloc; first]?;
+    let mut search = PathSearch { nodes, stack };
+    while let Some(last) = search.stack.pop() {
+        if advance_path(alloc, links, &mut search, done, last)? {
             return Ok(true);
         }
     }

@@ -17,7 +17,7 @@ ghost use Rattle.thes_graph.specs.MergeAdditions.{AreNormal, AreMergeAdditions, 
 
 use crate::first_ends::list_first_ends;
 use crate::mappings::{list_mapping, mapping_from, typed_link_from};
-use crate::neighbours::{NeighbourKind, direction_to, list_in};
+use crate::neighbours::{NeighbourKind, direction_to};
 use crate::sided_links::{SidedLink, count_before, count_until, sided_link_of};
 use crate::whole::check_listed_links;
 use std::alloc::{AllocError, Global};
@@ -31,7 +31,7 @@ use thes_links::links::Links;
 use thes_links::normal_form::normalize_ends;
 use thes_links::relation::lead;
 use thes_links::side::{Part, Side};
-use thes_lists::Lists;
+use thes_lists::{Lists, insert_sorted};
 
 // Reserves room for one more link in the rows of both its ends.
 fn reserve_ends(rows: &mut Lists<SidedLink>, link: &Link) -> Result<(), AllocError>
@@ -229,7 +229,7 @@ impl Graph {
             let link = sided_link.link;
             let direction = direction_to(neighbours, link.kind);
             if let Some(m) = lead(direction, &link, n) {
-                list_in(&mut found, m)?;
+                insert_sorted(&mut found, m)?;
             }
         }
         Ok(found)
@@ -291,7 +291,7 @@ impl Graph {
         let mut found = Vec::new(alloc);
         for sided_link in self.row_of_node(n) {
             if let Some(typed) = typed_link_from(&sided_link.link, n) {
-                list_in(&mut found, typed)?;
+                insert_sorted(&mut found, typed)?;
             }
         }
         Ok(found)

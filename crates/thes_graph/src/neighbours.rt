@@ -1,11 +1,8 @@
 //! The neighbours of a concept that a view lists: concepts of its scheme, and collections.
-ghost use Rattle.std.specs.Prelude.{◌≡◌, OnOk};
-ghost use Rattle.std.specs.BTreeSet.{insert_key};
-ghost use Rattle.std.specs.List.Sorted.{IsStrictlySortedBy};
+ghost use Rattle.std.specs.Prelude.{◌≡◌};
 ghost use Rattle.thes_base.specs.Links as links;
 ghost use Rattle.thes_graph.specs.Neighbours.{neighbour_direction};
 
-use std::alloc::AllocError;
 use thes_base::data::{Direction, LinkForm, LinkKind};
 use thes_links::relation::{Relation, direction};
 
@@ -48,16 +45,4 @@ pub fn direction_to(neighbours: NeighbourKind, kind: LinkKind) -> Direction
         (LinkForm::Membership, NeighbourKind::Collections) => Direction::Backward,
         _ => Direction::Never,
     }
-}
-
-/// Inserts what a look-up of links lists at its place in the list, unless an equal value is there.
-pub fn list_in<T: Ord + Drop>(list: &mut Vec<T>, x: T) -> Result<(), AllocError>
-    requires { IsStrictlySortedBy T.cmp list.old.items }
-    ensures { OnOk result (list.new.items ≡ insert_key T.cmp list.old.items x) }
-{
-    match list.binary_search(&x) {
-        Ok(_) => {}
-        Err(place) => list.insert(place, x)?,
-    }
-    Ok(())
 }

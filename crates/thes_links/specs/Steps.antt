@@ -31,7 +31,7 @@ abbrev pub HasDirection : Relation → Link → Type 0
 HasDirection relation l = direction_of relation l.kind ≢ Never
 
 -- A held link leads from x to y in the relation.
-abbrev pub Steps : Relation → (Link → Type 0) → ℕ → ℕ → Type 0
+abbrev pub Steps : Relation → (Link → Type 0) → (x y : ℕ) → Type 0
 Steps relation Held = IsJoined Held (direction_of relation)
 
 -- The end b of a link if x is its end a, or else None.

@@ -1,17 +1,11 @@
-//! Look-ups of resources by number, and the check of the ends of a link.
-ghost use Rattle.std.specs.Prelude.{◌≡◌, ◌↔◌, IsTrue, option_copied};
-ghost use Rattle.thes_base.specs.Resources.{entry_at, IsConcept, is_live_concept, is_outside};
+//! Checks of resources by number, and of the ends of a link.
+ghost use Rattle.std.specs.Prelude.{◌≡◌, ◌↔◌, IsTrue};
+ghost use Rattle.thes_base.specs.Resources.{IsConcept, is_live_concept};
 ghost use Rattle.thes_load_rows.specs.LinksSoFar.{IsFitLink};
 
 use thes_base::data::{Link, Resource, ResourceKind};
 use thes_base::number::ResNo;
-
-/// Returns the resource with this number, which is at index `n - 1`, or None if there is none.
-pub fn resource_at(resources: &[Resource], n: ResNo) -> Option<&Resource>
-    ensures { option_copied result ≡ entry_at resources.now n }
-{
-    resources.get(n.get() as usize - 1)
-}
+use thes_vocab::resource_at;
 
 /// Checks whether the number is that of a concept, live or dead.
 pub fn is_concept(resources: &[Resource], n: ResNo) -> bool
@@ -29,16 +23,6 @@ pub fn is_live(resources: &[Resource], n: ResNo) -> bool
 {
     match resource_at(resources, n).copied() {
         Some(resource) => resource.kind == ResourceKind::Concept && resource.live,
-        None => false,
-    }
-}
-
-/// Checks whether the number is that of an outside concept.
-pub fn is_outside(resources: &[Resource], n: ResNo) -> bool
-    ensures { result ≡ is_outside resources.now n }
-{
-    match resource_at(resources, n).copied() {
-        Some(resource) => resource.kind == ResourceKind::Outside,
         None => false,
     }
 }

@@ -10,7 +10,7 @@ ghost use Rattle.thes_load_rules.specs.Rules.{LinkRule, HierRule};
 ghost use Rattle.thes_load_rows.specs.ReadResults.{ReadResult};
 ghost use Rattle.thes_load_rows.specs.LinksSoFar.{AddLinkResult, HasLinks};
 
-use crate::ends::{is_fit, is_outside};
+use crate::ends::is_fit;
 use crate::rows::{hier_in, link_in};
 use std::alloc::{AllocError, Global};
 use thes_base::data::{Link, LinkKind, Resource};
@@ -19,7 +19,7 @@ use thes_graph::graph::Graph;
 use thes_links::normal_form::normalize_ends;
 use thes_tables::cells::Cell;
 use thes_tables::rows::{HierRow, HierType};
-use thes_vocab::Vocab;
+use thes_vocab::{Vocab, is_outside};
 
 /// A loaded vocabulary, with the links of the rows of the tables link and hier read so far.
 #[derive(Drop)]

@@ -7,7 +7,7 @@ ghost use Rattle.thes_tables.specs.Cells.{resource_rows};
 ghost use Rattle.thes_load_rows.specs.ReadResults.{ReadResult};
 ghost use Rattle.thes_load_rows.specs.ResourceChecks.{AppendResourceResult, SchemeFits, ReplacementFits, ResourceFits, EachResourceFits, NoneReplacesItself, HasReturn, is_cycle};
 
-use crate::ends::{is_concept, resource_at};
+use crate::ends::is_concept;
 use crate::rows::{ResourceRow, resource_in};
 use std::alloc::{AllocError, Global};
 use thes_base::data::{Link, LinkKind, Resource, ResourceKind};
@@ -15,6 +15,7 @@ use thes_base::fault::Refusal;
 use thes_base::number::ResNo;
 use thes_graph::graph::Graph;
 use thes_tables::cells::Cell;
+use thes_vocab::resource_at;
 
 /// The resources of the rows of table resource read so far.
 #[derive(Drop)]

@@ -12,6 +12,7 @@ ghost use Rattle.thes_vocab.specs.CopiedLabels.{lacks_name, AreMissingLabels};
 ghost use Rattle.thes_vocab.specs.NewResources.{unless_new, vocabulary_after_add, AddsResource, IsNewOwner, IsFreeName};
 
 use crate::concepts;
+use crate::names::{LabelledConcept, Name};
 use crate::row::merged_label;
 use crate::vocab::{Vocab, concept_scheme, scheme_if_concept};
 use std::alloc::AllocError;
@@ -107,7 +108,8 @@ impl Vocab {
         }
         let scheme = concept_scheme(self.resources.as_slice(), owner);
         self.names.put(scheme, tag, text, owner)?;
-        self.labels.rename(owner, tag, &old, text, keep)?;
+        let name = Name { tag, text };
+        self.labels.rename(owner, &name, &old, keep)?;
         self.forget_name(owner, tag, old.as_str());
         Ok(())
     }
@@ -191,7 +193,11 @@ impl Vocab {
     {
         let scheme = concept_scheme(self.resources.as_slice(), owner);
         let own = self.labels.of_owner(owner);
-        self.names.forget(scheme, tag, text, owner, own);
+        let concept = LabelledConcept {
+            number: owner,
+            labels: own,
+        };
+        self.names.forget(scheme, tag, text, &concept);
     }
 
     // Adds a resource other than an outside concept, with its preferred label.

@@ -13,6 +13,7 @@ ghost use Rattle.thes_vocab.specs.Vocabulary.{IsLiveOwner};
 ghost use Rattle.thes_vocab.specs.NewResources.{unless_new};
 ghost use Rattle.thes_vocab.specs.Rivals.{HasRival};
 
+use crate::names::Name;
 use crate::vocab::{Vocab, resource_at};
 use thes_base::data::{Label, LabelKind, LabelValue, ResourceKind};
 use thes_base::fault::Refusal;
@@ -155,7 +156,8 @@ impl Vocab {
         let Some(old) = self.labels.preferred(owner, tag) else {
             return Some(Refusal::NoSuchLabel);
         };
-        if self.labels.has_clash(owner, tag, old, text, keep) {
+        let name = Name { tag, text };
+        if self.labels.has_clash(owner, &name, old, keep) {
             return Some(Refusal::S13);
         }
         if self.has_rival(owner, tag, text) {
@@ -171,7 +173,7 @@ impl Vocab {
             ↔ HasRival self.now.resources self.now.labels owner tag.now text.now }
     {
         let resources = self.resources.as_slice();
-        self.names
-            .has_rival(resources, &self.labels, owner, tag, text)
+        let name = Name { tag, text };
+        self.names.has_rival(resources, &self.labels, owner, &name)
     }
 }

@@ -10,6 +10,7 @@ ghost use Rattle.thes_vocab.specs.Rivals.{HasTwoPreferred, HasClash};
 ghost use Rattle.thes_vocab.specs.OwnLabels.{own_label, has_own, AreLabelsOf};
 ghost use Rattle.thes_vocab.specs.LabelRows.{IsRowOfOwner, HasNoLabels, owner_row, InsertsInRow, RowsAfterRemove, RowsAfterInsertions, AreSameLabelRows, labels_of_owner};
 
+use crate::names::Name;
 use crate::row::OwnerRow;
 use std::alloc::{AllocError, Global};
 use std::marker::Model;
@@ -113,22 +114,16 @@ impl LabelTable {
         }
     }
 
-    // Checks whether the text, as the owner's new preferred label, would break S13: whether it is
+    // Checks whether the name, as the owner's new preferred label, would break S13: whether it is
     // an alternative or hidden label of the owner, or, if `keep` is true, the same as the old
     // preferred label.
-    pub(crate) fn has_clash(
-        &self,
-        owner: ResNo,
-        tag: &Tag,
-        old: &Text,
-        text: &Text,
-        keep: bool,
-    ) -> bool
-        ensures { IsTrue result ↔ HasClash self.now owner tag.now text.now old.now keep }
+    pub(crate) fn has_clash(&self, owner: ResNo, name: &Name<'_>, old: &Text, keep: bool) -> bool
+        ensures { IsTrue result
+            ↔ HasClash self.now owner name.now.tag.now name.now.text.now old.now keep }
     {
-        self.contains(owner, LabelKind::Alt, tag, text.as_str())
-            || self.contains(owner, LabelKind::Hidden, tag, text.as_str())
-            || keep && old == text
+        self.contains(owner, LabelKind::Alt, name.tag, name.text.as_str())
+            || self.contains(owner, LabelKind::Hidden, name.tag, name.text.as_str())
+            || keep && old == name.text
     }
 
     // Checks whether the owner has two different preferred labels.
@@ -178,31 +173,31 @@ impl LabelTable {
         self.remove(owner, label.kind(), &label.tag, label.text());
     }
 
-    // Replaces the owner's preferred label `old` in the language by `text`; keeps the old one as an
-    // alternative label if `keep` is true.
+    // Replaces the owner's preferred label `old` in the language of the name by the name; keeps the
+    // old one as an alternative label if `keep` is true.
     pub(crate) fn rename(
         &mut self,
         owner: ResNo,
-        tag: &Tag,
+        name: &Name<'_>,
         old: &Text,
-        text: &Text,
         keep: bool,
     ) -> Result<(), AllocError>
-        requires apart { old.now ≢ text.now }
-        requires new { set.contains self.old (label owner Pref tag.now text.now) ≡ false }
+        requires apart { old.now ≢ name.now.text.now }
+        requires new { set.contains self.old
+            (label owner Pref name.now.tag.now name.now.text.now) ≡ false }
         ensures ok { OnOk result (self.new
-            ≡ replace_preferred owner tag.now text.now keep old.now self.old) }
+            ≡ replace_preferred owner name.now.tag.now name.now.text.now keep old.now self.old) }
         ensures err { OnErr result (self.new ≡ self.old) }
     {
-        let value = LabelValue::Pref(text.try_clone(self.alloc)?);
-        self.insert_value(owner, tag, value)?;
+        let value = LabelValue::Pref(name.text.try_clone(self.alloc)?);
+        self.insert_value(owner, name.tag, value)?;
         if keep {
-            if let Err(refused) = self.insert_alternative(owner, tag, old) {
-                self.remove(owner, LabelKind::Pref, tag, text.as_str());
+            if let Err(refused) = self.insert_alternative(owner, name.tag, old) {
+                self.remove(owner, LabelKind::Pref, name.tag, name.text.as_str());
                 return Err(refused);
             }
         }
-        self.remove(owner, LabelKind::Pref, tag, old.as_str());
+        self.remove(owner, LabelKind::Pref, name.tag, old.as_str());
         Ok(())
     }
 

@@ -17,4 +17,4 @@ mod vocab;
 pub use forwarding::Forwarding;
 pub use load::VocabLoad;
 pub use thes_base::data::NewResource;
-pub use vocab::Vocab;
+pub use vocab::{Vocab, is_outside, resource_at};

@@ -15,8 +15,8 @@ ghost use Rattle.thes_vocab.specs.Loading.{AreSound, AreIrisSoFar, AreLabelsSoFa
 use crate::concepts;
 use crate::iris::IriTable;
 use crate::labels::LabelTable;
-use crate::names::Names;
-use crate::vocab::{Vocab, concept_scheme, resource_at};
+use crate::names::{Name, Names};
+use crate::vocab::{Vocab, concept_scheme, is_outside, resource_at};
 use std::alloc::{AllocError, Global};
 use std::marker::Model;
 use thes_base::data::{Label, LabelKind, LabelValue, Resource, ResourceKind};
@@ -177,16 +177,6 @@ fn list_all(concepts: &mut Lists<ResNo>, resources: &[Resource]) -> Result<(), A
     Ok(())
 }
 
-// Checks whether the number is that of an outside concept.
-fn is_outside(resources: &[Resource], n: ResNo) -> bool
-    ensures { IsTrue result ↔ IsOutside resources.now n }
-{
-    match resource_at(resources, n).copied() {
-        Some(resource) => resource.kind == ResourceKind::Outside,
-        None => false,
-    }
-}
-
 // Checks whether the number is that of a scheme, a concept or a collection, which can have labels.
 fn can_own(resources: &[Resource], n: ResNo) -> bool
     ensures { IsTrue result ↔ CanOwn resources.now n }
@@ -256,7 +246,13 @@ fn is_free_label(
         return false;
     }
     match &label.value {
-        LabelValue::Pref(text) => !names.has_rival(resources, labels, owner, &label.tag, text),
+        LabelValue::Pref(text) => {
+            let name = Name {
+                tag: &label.tag,
+                text,
+            };
+            !names.has_rival(resources, labels, owner, &name)
+        }
         _ => true,
     }
 }

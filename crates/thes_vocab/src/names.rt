@@ -21,6 +21,20 @@ use thes_base::data::{Label, LabelKind, LabelValue, Resource};
 use thes_base::number::ResNo;
 use thes_base::text::{Tag, Text};
 
+// A name: a text in a language.
+#[derive(Clone, Copy)]
+pub(crate) struct Name<'a> {
+    pub(crate) tag: &'a Tag,
+    pub(crate) text: &'a Text,
+}
+
+// A concept with its labels.
+#[derive(Clone, Copy)]
+pub(crate) struct LabelledConcept<'a> {
+    pub(crate) number: ResNo,
+    pub(crate) labels: &'a [Label],
+}
+
 // For each preferred label of a concept, an entry with a digest of the scheme, the language and the
 // text, and the concept. A look-up checks the labels of the concepts under a digest, so further
 // entries do no harm.
@@ -37,24 +51,24 @@ impl Names {
         }
     }
 
-    // Returns the live concept of the scheme that has the preferred label. There is at most one.
+    // Returns the live concept of the scheme that has the name as its preferred label. There is at
+    // most one.
     pub(crate) fn holder(
         &self,
         resources: &[Resource],
         labels: &LabelTable,
         scheme: ResNo,
-        tag: &Tag,
-        text: &Text,
+        name: &Name<'_>,
     ) -> Option<ResNo>
         requires few { length resources.now < 2 ^ 32 }
         requires found { AreHoldersIndexed resources.now labels.now self.now }
         ensures { MatchOption result
-            (¬ IsPreferredTaken resources.now labels.now scheme tag.now text.now)
-            (IsHolder resources.now labels.now scheme tag.now text.now) }
+            (¬ IsPreferredTaken resources.now labels.now scheme name.now.tag.now name.now.text.now)
+            (IsHolder resources.now labels.now scheme name.now.tag.now name.now.text.now) }
     {
-        let digest = name_digest(scheme, tag, text.as_str());
+        let digest = name_digest(scheme, name.tag, name.text.as_str());
         for entry in self.with_digest(digest) {
-            if is_held(resources, labels, entry.1, scheme, tag, text) {
+            if is_held(resources, labels, entry.1, scheme, name) {
                 return Some(entry.1);
             }
         }
@@ -62,22 +76,22 @@ impl Names {
     }
 
     // Checks whether the owner is a live concept, and another live concept of its scheme has the
-    // preferred label.
+    // name as its preferred label.
     pub(crate) fn has_rival(
         &self,
         resources: &[Resource],
         labels: &LabelTable,
         owner: ResNo,
-        tag: &Tag,
-        text: &Text,
+        name: &Name<'_>,
     ) -> bool
         requires { LeadsToHolders resources.now labels.now self.now }
-        ensures { IsTrue result ↔ HasRival resources.now labels.now owner tag.now text.now }
+        ensures { IsTrue result
+            ↔ HasRival resources.now labels.now owner name.now.tag.now name.now.text.now }
     {
         let Some(scheme) = concept_scheme(resources, owner) else {
             return false;
         };
-        match self.holder(resources, labels, scheme, tag, text) {
+        match self.holder(resources, labels, scheme, name) {
             Some(n) => n != owner,
             None => false,
         }
@@ -161,50 +175,53 @@ impl Names {
     }
 
     // Removes the entry for a label that the concept doesn't have, if there is a scheme, unless one
-    // of its preferred labels, which are in `own`, has the same digest.
+    // of its preferred labels has the same digest.
     pub(crate) fn forget(
         &mut self,
         scheme: Option<ResNo>,
         tag: &Tag,
         text: &str,
-        concept: ResNo,
-        own: &[Label],
+        concept: &LabelledConcept<'_>,
     )
-        ensures { KeepsOtherNames self.old self.new scheme concept own.now }
+        ensures { KeepsOtherNames self.old self.new scheme
+            concept.now.number concept.now.labels.now }
     {
         match scheme {
-            Some(scheme) => self.forget_in(scheme, tag, text, concept, own),
+            Some(scheme) => self.forget_in(scheme, tag, text, concept),
             None => {}
         }
     }
 
     // Removes the entry for a label that the concept doesn't have in the scheme, unless one of its
     // preferred labels has the same digest.
-    fn forget_in(&mut self, scheme: ResNo, tag: &Tag, text: &str, concept: ResNo, own: &[Label])
-        ensures keeps { KeepsOtherNames self.old self.new (Some scheme) concept own.now }
-        ensures gone { list_any (has_digest scheme (name_digest scheme tag.now text.now)) own.now
-            ≡ false → ¬ HasNameEntry self.new scheme tag.now text.now concept }
+    fn forget_in(&mut self, scheme: ResNo, tag: &Tag, text: &str, concept: &LabelledConcept<'_>)
+        ensures keeps { KeepsOtherNames self.old self.new (Some scheme)
+            concept.now.number concept.now.labels.now }
+        ensures gone { list_any (has_digest scheme (name_digest scheme tag.now text.now))
+            concept.now.labels.now ≡ false
+            → ¬ HasNameEntry self.new scheme tag.now text.now concept.now.number }
     {
         let digest = name_digest(scheme, tag, text);
-        if !is_digest_of_one(own, scheme, digest) {
-            self.entries.remove(&(digest, concept));
+        if !is_digest_of_one(concept.labels, scheme, digest) {
+            self.entries.remove(&(digest, concept.number));
         }
     }
 }
 
-// Checks whether the number is that of a live concept of the scheme that has the preferred label.
+// Checks whether the number is that of a live concept of the scheme that has the name as its
+// preferred label.
 fn is_held(
     resources: &[Resource],
     labels: &LabelTable,
     n: ResNo,
     scheme: ResNo,
-    tag: &Tag,
-    text: &Text,
+    name: &Name<'_>,
 ) -> bool
-    ensures { IsTrue result ↔ IsHolder resources.now labels.now scheme tag.now text.now n }
+    ensures { IsTrue result
+        ↔ IsHolder resources.now labels.now scheme name.now.tag.now name.now.text.now n }
 {
     concept_scheme(resources, n) == Some(scheme)
-        && labels.contains(n, LabelKind::Pref, tag, text.as_str())
+        && labels.contains(n, LabelKind::Pref, name.tag, name.text.as_str())
 }
 
 // Checks whether one of the labels is a preferred one with the digest in the scheme.

@@ -8,6 +8,7 @@ ghost use Rattle.thes_vocab.specs.Vocabulary.{Vocabulary, with_labels};
 ghost use Rattle.thes_vocab.specs.TakingBack.{IsBeforeCreation, IsBeforeDeath, IsBeforeOutside};
 
 use crate::concepts;
+use crate::names::LabelledConcept;
 use crate::vocab::{Vocab, scheme_if_concept};
 use std::alloc::AllocError;
 use thes_base::data::{Label, LabelKind, Resource};
@@ -30,7 +31,11 @@ impl Vocab {
         self.labels.remove(n, LabelKind::Pref, tag, text.as_str());
         let scheme = scheme_if_concept(&resource);
         let own = self.labels.of_owner(n);
-        self.names.forget(scheme, tag, text.as_str(), n, own);
+        let concept = LabelledConcept {
+            number: n,
+            labels: own,
+        };
+        self.names.forget(scheme, tag, text.as_str(), &concept);
     }
 
     /// Takes back the creation of the last resource, an outside concept with this IRI; it can't

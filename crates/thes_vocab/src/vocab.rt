@@ -4,14 +4,14 @@ ghost use Rattle.std.specs.FinMap as dict;
 ghost use Rattle.std.specs.FinSet as set;
 ghost use Rattle.std.specs.Ordering.{nat_cmp};
 ghost use Rattle.thes_base.specs.Listing.{IsListing};
-ghost use Rattle.thes_base.specs.Resources.{entry_at, IsLive};
+ghost use Rattle.thes_base.specs.Resources.{entry_at, is_outside, IsLive, IsOutside};
 ghost use Rattle.thes_base.specs.Labels.{preferred_label_in, IsPreferredTaken};
 ghost use Rattle.thes_vocab.specs.OwnLabels.{AreLabelsOf};
 ghost use Rattle.thes_vocab.specs.Vocabulary.{empty_vocabulary, concept_scheme, IsConceptOf, IsConceptIn, IsHolder};
 
 use crate::iris::IriTable;
 use crate::labels::LabelTable;
-use crate::names::Names;
+use crate::names::{Name, Names};
 use std::alloc::Global;
 use std::marker::Model;
 use thes_base::data::{Label, Resource, ResourceKind};
@@ -137,8 +137,8 @@ impl Vocab {
             (IsHolder self.now.resources self.now.labels scheme tag.now text.now) }
     {
         let resources = self.resources.as_slice();
-        self.names
-            .holder(resources, &self.labels, scheme, tag, text)
+        let name = Name { tag, text };
+        self.names.holder(resources, &self.labels, scheme, &name)
     }
 
     /// Returns the number of the outside concept that has the IRI.
@@ -159,11 +159,22 @@ impl Vocab {
     }
 }
 
-// Returns the resource with this number, at index `n - 1`.
-pub(crate) fn resource_at(resources: &[Resource], n: ResNo) -> Option<&Resource>
+/// Returns the resource with this number, which is at index `n - 1`, or None if there is none.
+pub fn resource_at(resources: &[Resource], n: ResNo) -> Option<&Resource>
     ensures { option_copied result ≡ entry_at resources.now n }
 {
     resources.get(n.get() as usize - 1)
+}
+
+/// Checks whether the number is that of an outside concept.
+pub fn is_outside(resources: &[Resource], n: ResNo) -> bool
+    ensures value { result ≡ is_outside resources.now n }
+    ensures outside { IsTrue result ↔ IsOutside resources.now n }
+{
+    match resource_at(resources, n).copied() {
+        Some(resource) => resource.kind == ResourceKind::Outside,
+        None => false,
+    }
 }
 
 // Returns the scheme of a live concept by its number; None if the number isn't that of a live

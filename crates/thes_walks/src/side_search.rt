@@ -38,6 +38,21 @@ struct LinkRange {
     part: Part,
 }
 
+/// A node, with the range of its held links on one side.
+#[derive(Clone, Copy)]
+pub struct NodePart {
+    pub node: ResNo,
+    pub part: Part,
+}
+
+// A merge, with the range of the links held at its target on one side.
+#[derive(Clone, Copy)]
+struct MergePart {
+    source: ResNo,
+    target: ResNo,
+    part: Part,
+}
+
 /// A breadth-first search: the nodes met so far, and the number of them whose links were read.
 #[derive(Drop)]
 pub struct SideSearch {
@@ -171,68 +186,70 @@ fn follow<L: Links>(
 }
 
 // Appends the nodes to which the target of a merge leads in the relation after it, up to the first
-// goal. Returns whether there is a goal. Reads this range of the links held at the target, and then
+// goal. Returns whether there is a goal. Reads the range of the links held at the target, and then
 // those held at the source.
 fn follow_merged<L: Links>(
     links: &mut L,
     nodes: &mut Nodes,
     relation: Relation,
-    source: ResNo,
-    target: ResNo,
-    part: Part,
+    merge: MergePart,
     goals: &Nodes,
 ) -> Result<bool, AllocError>
-    requires { CanFollow (AfterMerge source target) (L.net links.old).links
-        (L.links_of (L.net links.old)) relation target part }
+    requires { CanFollow (AfterMerge merge.source merge.target) (L.net links.old).links
+        (L.links_of (L.net links.old)) relation merge.target merge.part }
     ensures net { L.net links.new ≡ L.net links.old }
     ensures finds { IfOk result (λ found. IsSearchResult found nodes.old nodes.new goals.now
-        (Steps relation (HeldAfter (AfterMerge source target) (L.net links.old).links) target)) }
-    ensures count { OnOk result
-        ((ns : List Link) → CoversAt (AfterMerge source target) (L.net links.old).links target ns
-        → L.count links.new ≤ L.count links.old
-        + sum_by (link_visits (AfterMerge source target) target (side_in relation)) ns) }
+        (Steps relation (HeldAfter (AfterMerge merge.source merge.target) (L.net links.old).links)
+        merge.target)) }
+    ensures count { OnOk result ((ns : List Link)
+        → CoversAt (AfterMerge merge.source merge.target) (L.net links.old).links merge.target ns
+        → L.count links.new ≤ L.count links.old + sum_by
+        (link_visits (AfterMerge merge.source merge.target) merge.target (side_in relation)) ns) }
 {
-    let edit = LinkEdit::AfterMerge(source, target);
+    let edit = LinkEdit::AfterMerge(merge.source, merge.target);
     let range = LinkRange {
-        at: target,
-        x: target,
-        part,
+        at: merge.target,
+        x: merge.target,
+        part: merge.part,
     };
     if follow(links, nodes, &edit, range, goals)? {
         return Ok(true);
     }
-    let more = part_along(links, relation, source);
+    let more = part_along(links, relation, merge.source);
     let moved = LinkRange {
-        at: source,
-        x: target,
+        at: merge.source,
+        x: merge.target,
         part: more,
     };
     let found = follow(links, nodes, &edit, moved, goals)?;
     Ok(found)
 }
 
-/// Appends the nodes to which `x` leads in the relation after the edit, up to the first goal, and
-/// returns whether there is a goal. The range has the links held at `x` on the side of the
+/// Appends the nodes to which a node leads in the relation after the edit, up to the first goal,
+/// and returns whether there is a goal. The node's range has its held links on the side of the
 /// relation.
 pub fn follow_after_edit<L: Links>(
     links: &mut L,
     nodes: &mut Nodes,
     along: &EditedRelation,
-    x: ResNo,
-    part: Part,
+    from: NodePart,
     goals: &Nodes,
 ) -> Result<bool, AllocError>
     requires { CanFollow along.now.edit (L.net links.old).links (L.links_of (L.net links.old))
-        along.now.relation x part }
+        along.now.relation from.node from.part }
     ensures net { L.net links.new ≡ L.net links.old }
     ensures finds { IfOk result (λ found. IsSearchResult found nodes.old nodes.new goals.now
-        (Steps along.now.relation (HeldAfter along.now.edit (L.net links.old).links) x)) }
+        (Steps along.now.relation (HeldAfter along.now.edit (L.net links.old).links) from.node)) }
     ensures count { OnOk result
-        ((ns : List Link) → CoversAt along.now.edit (L.net links.old).links x ns
+        ((ns : List Link) → CoversAt along.now.edit (L.net links.old).links from.node ns
         → L.count links.new ≤ L.count links.old
-        + sum_by (link_visits along.now.edit x (side_in along.now.relation)) ns) }
+        + sum_by (link_visits along.now.edit from.node (side_in along.now.relation)) ns) }
 {
-    let range = LinkRange { at: x, x, part };
+    let range = LinkRange {
+        at: from.node,
+        x: from.node,
+        part: from.part,
+    };
     match &along.edit {
         LinkEdit::NoEdit => {
             let found = follow(links, nodes, &along.edit, range, goals)?;
@@ -242,16 +259,20 @@ pub fn follow_after_edit<L: Links>(
             if follow(links, nodes, &along.edit, range, goals)? {
                 return Ok(true);
             }
-            let found = take(nodes, step(along.relation, new, x), goals)?;
+            let found = take(nodes, step(along.relation, new, from.node), goals)?;
             Ok(found)
         }
         LinkEdit::AfterMerge(source, target) => {
-            if x == *source {
+            if from.node == *source {
                 return Ok(false);
             }
-            if x == *target {
-                let relation = along.relation;
-                let found = follow_merged(links, nodes, relation, *source, *target, part, goals)?;
+            if from.node == *target {
+                let merge = MergePart {
+                    source: *source,
+                    target: *target,
+                    part: from.part,
+                };
+                let found = follow_merged(links, nodes, along.relation, merge, goals)?;
                 return Ok(found);
             }
             let found = follow(links, nodes, &along.edit, range, goals)?;
@@ -299,7 +320,8 @@ impl SideSearch {
             (L.count links.new - L.count links.old)) }
     {
         let x = self.nodes.as_slice()[self.next];
-        let found = follow_after_edit(links, &mut self.nodes, along, x, part, goals)?;
+        let from = NodePart { node: x, part };
+        let found = follow_after_edit(links, &mut self.nodes, along, from, goals)?;
         self.next += 1;
         Ok(found)
     }

@@ -11,7 +11,9 @@ ghost use Rattle.thes_walks.specs.Ends.{IsEnd};
 ghost use Rattle.thes_walks.specs.SideSearch.{read_cost, IsHierarchySearch, IsSideSearch, AreAmong, ContinuesInTurn, AreTied, IsSecondResult, IsBrokenBetween, CoversBetween};
 
 use crate::ends::is_end_after;
-use crate::side_search::{EditedRelation, SideSearch, TURN, follow_after_edit, part_along};
+use crate::side_search::{
+    EditedRelation, NodePart, SideSearch, TURN, follow_after_edit, part_along,
+};
 use std::alloc::{AllocError, Global};
 use thes_base::fault::Refusal;
 use thes_base::number::ResNo;
@@ -118,7 +120,8 @@ fn are_tied<L: Links>(
             relation: Relation::Related,
         };
         let part = part_along(links, Relation::Related, *x);
-        if follow_after_edit(links, &mut met, &related, *x, part, ys)? {
+        let from = NodePart { node: *x, part };
+        if follow_after_edit(links, &mut met, &related, from, ys)? {
             return Ok(true);
         }
     }

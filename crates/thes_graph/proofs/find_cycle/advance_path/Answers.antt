@@ -18,14 +18,14 @@ popped g c =
 pub returns-in_default-clause-outcome : goal.returns-in_default-clause-outcome
 returns-in_default-clause-outcome g c = record {
   verdict =
-      IsCycleSearch-done (Holds (g.L.Links.net c.args.links.now).links) c.args.met.now c.args.done.now
-      c.args.stack.now.items c.args.last c.requires c.meet.new.self
+      IsCycleSearch-done (Holds (g.L.Links.net c.args.links.now).links) c.args.search.now.nodes c.args.done.now
+      c.args.search.now.stack.items c.args.last c.requires c.meet.new.self
       (none_above c.args.last.above.items c.copied.result (c.copied.ensures ∙ rw c.deref.ensures.value
       at c.last.ensures.value) c.in_default.not-Some)
       c.in_ok-meet.ensures.grows;
   met_growth = λ n has. has;
   done_growth = GrowsBy-keeps c.args.done.now c.meet.new.self (λ n. c.args.last.node ≡ n) c.in_ok-meet.ensures.grows;
-  descent = λ _. search_measure-done c.args.met.now c.args.stack.now.items c.args.last;
+  descent = λ _. search_measure-done c.args.search.now.nodes c.args.search.now.stack.items c.args.last;
 }
 
 pub returns-then-has-clause-outcome : goal.returns-then-has-clause-outcome
@@ -34,21 +34,23 @@ returns-then-has-clause-outcome g c =
     record {
       verdict =
           rw c.in_ok-push.ensures.items
-          (IsCycleSearch-fewer (Holds (g.L.Links.net c.args.links.now).links) c.args.met.now c.args.done.now
-          c.args.stack.now.items c.args.last c.requires _ refl
+          (IsCycleSearch-fewer (Holds (g.L.Links.net c.args.links.now).links) c.args.search.now.nodes c.args.done.now
+          c.args.search.now.stack.items c.args.last c.requires _ refl
           (done_or_left c.args.last.above.items c.pop.new.self.items c.in-Some.high all c.args.done.now
           (rw c.if-has.true at c.has.ensures))
           (left_above c.args.last.above.items c.pop.new.self.items c.in-Some.high all));
       met_growth = λ n has. has;
       done_growth = λ n has. has;
-      descent = λ _. rw c.in_ok-push.ensures.items (search_measure-fewer c.args.met.now c.args.stack.now.items
+      descent = λ _. rw c.in_ok-push.ensures.items (search_measure-fewer c.args.search.now.nodes
+          c.args.search.now.stack.items
           c.args.last _ (fewer_left c.args.last.above.items c.pop.new.self.items c.in-Some.high all));
     }
 
 pub returns-then-has-2-clause-outcome : goal.returns-then-has-2-clause-outcome
 returns-then-has-2-clause-outcome g c = record {
   verdict =
-      HasCycle-met (Holds (g.L.Links.net c.args.links.now).links) c.args.met.now c.args.done.now c.args.stack.now.items
+      HasCycle-met (Holds (g.L.Links.net c.args.links.now).links) c.args.search.now.nodes c.args.done.now
+          c.args.search.now.stack.items
       c.args.last c.requires c.in-Some.high
       (last_above c.args.last.above.items c.in-Some.high (c.in-Some.ensures ∙ rw c.deref.ensures.value
       at c.last.ensures.value))
@@ -62,18 +64,20 @@ pub returns-clause-outcome : goal.returns-clause-outcome
 returns-clause-outcome g c = record {
   verdict =
       rw (c.in_ok-push-3.ensures.items, c.in_ok-push-2.ensures.items)
-      (IsCycleSearch-more (Holds (g.L.Links.net c.args.links.now).links) c.args.met.now c.args.done.now
-      c.args.stack.now.items c.args.last c.requires c.meet-2.new.self c.in_ok-next.next
+      (IsCycleSearch-more (Holds (g.L.Links.net c.args.links.now).links) c.args.search.now.nodes c.args.done.now
+      c.args.search.now.stack.items c.args.last c.requires c.meet-2.new.self c.in_ok-next.next
       (rw c.in_ok-next.ensures.node (last_above c.args.last.above.items c.in-Some.high
       (c.in-Some.ensures ∙ rw c.deref.ensures.value at c.last.ensures.value)))
       (rw c.in_ok-next.ensures.node c.in_ok-meet-2.ensures.grows)
       (rw c.in_ok-next.ensures.node c.in_ok-next.ensures.above));
-  met_growth = GrowsBy-keeps c.args.met.now c.meet-2.new.self (λ n. c.in-Some.high ≡ n) c.in_ok-meet-2.ensures.grows;
+  met_growth = GrowsBy-keeps c.args.search.now.nodes c.meet-2.new.self (λ n. c.in-Some.high
+      ≡ n) c.in_ok-meet-2.ensures.grows;
   done_growth = λ n has. has;
   descent = λ _.
       rw (c.in_ok-push-3.ensures.items, c.in_ok-push-2.ensures.items)
-      (search_measure-more c.args.met.now c.meet-2.new.self c.args.stack.now.items c.args.last c.in_ok-next.next
-      (GrowsBy-longer c.args.met.now c.meet-2.new.self c.in-Some.high c.in_ok-meet-2.ensures.grows
+      (search_measure-more c.args.search.now.nodes c.meet-2.new.self c.args.search.now.stack.items c.args.last
+      c.in_ok-next.next
+      (GrowsBy-longer c.args.search.now.nodes c.meet-2.new.self c.in-Some.high c.in_ok-meet-2.ensures.grows
       (rw c.if-has-2.false at c.has-2.ensures))
       c.in_ok-meet-2.ensures.small (omega (arith, c.in_ok-next.next.above.small)));
 }

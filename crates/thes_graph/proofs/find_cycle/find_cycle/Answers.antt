@@ -12,12 +12,12 @@ pub loop-last-init : goal.loop-last-init
 loop-last-init g c = record {
   net = c.in_ok-first.ensures.net;
   climbs =
-      rw (c.in_ok-stack.ensures.items, c.in_ok-met.ensures)
+      rw (c.in_ok-stack.ensures.items, c.in_ok-nodes.ensures)
       (subst (λ (n : ℕ). IsCycleSearch (Holds (g.L.Links.net c.args.links.now).links) (n ∷ []) c.args.done.now
       (c.in_ok-first.first ∷ [])) c.in_ok-first.ensures.node
       (IsCycleSearch-start (Holds (g.L.Links.net c.args.links.now).links) c.args.done.now c.in_ok-first.first c.requires
       (rw c.in_ok-first.ensures.node c.in_ok-first.ensures.above)));
-  start = rw c.in_ok-met.ensures (Contains-head c.args.start []);
+  start = rw c.in_ok-nodes.ensures (Contains-head c.args.start []);
   extends = λ n has. has;
 }
 
@@ -25,8 +25,9 @@ pub loop-last-preserved : goal.loop-last-preserved
 loop-last-preserved g c = record {
   net = c.in_ok-advance_path.ensures.net ∙ c.loop-last.invariant.net;
   climbs =
-      subst (λ (net : GraphView). IsCycleSearch (Holds net.links) c.advance_path.new.met c.advance_path.new.done
-      c.advance_path.new.stack.items) c.loop-last.invariant.net
+      subst (λ (net : GraphView). IsCycleSearch (Holds net.links) c.advance_path.new.search.nodes
+      c.advance_path.new.done
+      c.advance_path.new.search.stack.items) c.loop-last.invariant.net
       (rw c.if-branch.false at c.in_ok-advance_path.ensures.outcome.verdict);
   start = c.in_ok-advance_path.ensures.outcome.met_growth c.args.start c.loop-last.invariant.start;
   extends = λ n has. c.in_ok-advance_path.ensures.outcome.done_growth n (c.loop-last.invariant.extends n has);
@@ -44,10 +45,12 @@ returns-then-branch-clause-outcome g c = record {
 pub returns-clause-outcome : goal.returns-clause-outcome
 returns-clause-outcome g c = record {
   verdict =
-      IsCycleSearch-end (Holds (g.L.Links.net c.args.links.now).links) c.loop-last.met c.loop-last.done
-      (subst (λ (stack : List PathNode). IsCycleSearch (Holds (g.L.Links.net c.args.links.now).links) c.loop-last.met
+      IsCycleSearch-end (Holds (g.L.Links.net c.args.links.now).links) c.loop-last.search.nodes c.loop-last.done
+      (subst (λ (stack : List PathNode). IsCycleSearch (Holds (g.L.Links.net c.args.links.now).links)
+      c.loop-last.search.nodes
       c.loop-last.done stack)
-      (nil_from_length c.loop-last.stack.items (sym c.loop-last.stack.ok.0 ∙ c.in_default.ensures.cases.0))
+      (nil_from_length c.loop-last.search.stack.items (sym c.loop-last.search.stack.ok.0
+      ∙ c.in_default.ensures.cases.0))
       c.loop-last.invariant.climbs)
       c.args.start c.loop-last.invariant.start;
   growth = c.loop-last.invariant.extends;

@@ -6,10 +6,10 @@ use Rattle.thes_graph.proofs.find_cycle.find_cycle.Given as goal
 abbrev pub invariant-loop-last : goal.invariant-loop-last
 invariant-loop-last g l = record {
   net : g.L.Links.net l.links ≡ g.L.Links.net l.fn.links;
-  climbs : IsCycleSearch (Holds (g.L.Links.net l.fn.links).links) l.met l.done l.stack.items;
-  start : Contains l.met l.fn.start;
+  climbs : IsCycleSearch (Holds (g.L.Links.net l.fn.links).links) l.search.nodes l.done l.search.stack.items;
+  start : Contains l.search.nodes l.fn.start;
   extends : (n : ℕ) → Contains l.fn.done n → Contains l.done n;
 }
 
 abbrev pub decreases-loop-last : goal.decreases-loop-last
-decreases-loop-last g l = search_measure l.met l.stack.items
+decreases-loop-last g l = search_measure l.search.nodes l.search.stack.items

@@ -20,7 +20,7 @@ loop-i-preserved c = elim c.if-is_outside.branch [
       let rs = c.args.resources.now in
       let g = c.loop-i.graph in
       let outside : is_outside rs (c.loop-i.i + 1) ≡ true = ap (is_outside rs) (sym c.new-n.ensures)
-      ∙ sym c.is_outside.ensures ∙ w.if-is_outside.true in
+      ∙ sym c.is_outside.ensures.value ∙ w.if-is_outside.true in
       let graph = w.graph-is ∙ w.in_ok-mark_outside.ensures.ok
       ∙ ap (λ (n : ℕ). let more : GraphView = record g { outside = insert g.outside n } in more) c.new-n.ensures in
       subst (λ (g : GraphView). MarksFirst rs (c.loop-i.i + 1) g) (sym graph)
@@ -28,7 +28,7 @@ loop-i-preserved c = elim c.if-is_outside.branch [
   | else-is_outside w ↦
       let rs = c.args.resources.now in
       let inside : is_outside rs (c.loop-i.i + 1) ≡ false = ap (is_outside rs) (sym c.new-n.ensures)
-      ∙ sym c.is_outside.ensures ∙ w.if-is_outside.false in
+      ∙ sym c.is_outside.ensures.value ∙ w.if-is_outside.false in
       subst (λ (g : GraphView). MarksFirst rs (c.loop-i.i + 1) g) (sym w.graph-is)
       (marks_skip rs c.loop-i.i c.loop-i.graph c.loop-i.invariant inside)
 ]

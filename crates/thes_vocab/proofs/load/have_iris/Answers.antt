@@ -12,7 +12,7 @@ pub returns-in-None : goal.returns-in-None
 returns-in-None c = (
   λ (t : IsTrue false). let e : ⊥ = cc in absurd e,
   λ all.
-      let has = all c.new-n.result (c.is_outside.ensures.0 c.if-is_outside.true) in
+      let has = all c.new-n.result (c.is_outside.ensures.outside.0 c.if-is_outside.true) in
       let e : None ≡ Some has.0 = sym (ap option_copied c.in-None.is) ∙ c.iri.ensures ∙ has.1 in
       absurd (cc),
 )
@@ -23,7 +23,8 @@ loop-i-preserved c =
     next_of P c.loop-i.i c.loop-i.invariant
     (subst P c.new-n.ensures (elim c.if-is_outside.branch [
       | then-is_outside+in-Some w ↦ λ can. (w.in-Some.field-0.now, sym w.iri.ensures ∙ ap option_copied w.in-Some.is)
-      | else-is_outside w ↦ λ can. absurd (true≢false (sym (c.is_outside.ensures.1 can) ∙ w.if-is_outside.false))
+      | else-is_outside w ↦ λ can. absurd (true≢false (sym (c.is_outside.ensures.outside.1 can)
+          ∙ w.if-is_outside.false))
     ]))
 
 pub returns : goal.returns

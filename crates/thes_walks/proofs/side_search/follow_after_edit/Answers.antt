@@ -19,18 +19,20 @@ follow_merged-requires g c = record {
   ready =
       let rows : ℕ → List Link = g.L.Links.links_of (g.L.Links.net c.args.links.now) in
       let P : ℕ → Type 0 = λ n. IsPartAt (g.L.Links.net c.args.links.now).links (rows n) n
-      (side_in c.args.along.now.relation) c.args.part in
+      (side_in c.args.along.now.relation) c.args.from.part in
       subst P (eq_same _ _ _ c.eq-in-AfterMerge.ensures c.if-eq-2.true) c.requires.ready;
 }
 
 pub returns-in_ok-found-in-NoEdit-clause-finds : goal.returns-in_ok-found-in-NoEdit-clause-finds
 returns-in_ok-found-in-NoEdit-clause-finds g c = rw c.in-NoEdit.is (
     IsSearchResult-same c.args.nodes.now c.follow.new.nodes c.args.goals.now
-    (LeadsFrom NoEdit (g.L.Links.net c.args.links.now).links c.args.along.now.relation c.args.x c.args.x)
-    (Steps c.args.along.now.relation (HeldAfter NoEdit (g.L.Links.net c.args.links.now).links) c.args.x)
-    (Steps-sound (g.L.Links.net c.args.links.now).links c.args.along.now.relation NoEdit c.args.x c.args.x)
+    (LeadsFrom NoEdit (g.L.Links.net c.args.links.now).links c.args.along.now.relation c.args.from.node
+    c.args.from.node)
+    (Steps c.args.along.now.relation (HeldAfter NoEdit (g.L.Links.net c.args.links.now).links) c.args.from.node)
+    (Steps-sound (g.L.Links.net c.args.links.now).links c.args.along.now.relation NoEdit c.args.from.node
+    c.args.from.node)
     (Steps-held (g.L.Links.net c.args.links.now).links c.args.along.now.relation c.requires.one_side
-    c.requires.ready.two_ends c.args.x)
+    c.requires.ready.two_ends c.args.from.node)
     c.in_ok-found-in-NoEdit.found ((rw c.in-NoEdit.is at c.in_ok-found-in-NoEdit.ensures.finds)
     c.args.along.now.relation
     (record { one_side = c.requires.one_side; replaces = refl; ready = c.requires.ready })))
@@ -48,20 +50,22 @@ returns-then-branch-clause-count g c =
 pub returns-in_ok-found-in-WithLink-clause-finds : goal.returns-in_ok-found-in-WithLink-clause-finds
 returns-in_ok-found-in-WithLink-clause-finds g c = rw c.in-WithLink.is (
     IsSearchResult-then c.args.nodes.now c.follow-in-WithLink.new.nodes c.take.new.nodes c.args.goals.now
-    (LeadsFrom (WithLink c.in-WithLink.new) (g.L.Links.net c.args.links.now).links c.args.along.now.relation c.args.x
-    c.args.x)
+    (LeadsFrom (WithLink c.in-WithLink.new) (g.L.Links.net c.args.links.now).links c.args.along.now.relation
+    c.args.from.node
+    c.args.from.node)
     (λ y. c.step.result ≡ Some y)
     (Steps c.args.along.now.relation (HeldAfter (WithLink c.in-WithLink.new) (g.L.Links.net c.args.links.now).links)
-    c.args.x)
+    c.args.from.node)
     (λ y steps. elim (Steps-with (g.L.Links.net c.args.links.now).links c.args.along.now.relation c.requires.one_side
-    c.requires.ready.two_ends c.in-WithLink.new c.args.x y steps) [
+    c.requires.ready.two_ends c.in-WithLink.new c.args.from.node y steps) [
       | inl held ↦ inl held
       | inr new ↦ inr (c.step.ensures ∙ new)
     ])
-    (Steps-sound (g.L.Links.net c.args.links.now).links c.args.along.now.relation (WithLink c.in-WithLink.new) c.args.x
-    c.args.x)
+    (Steps-sound (g.L.Links.net c.args.links.now).links c.args.along.now.relation (WithLink c.in-WithLink.new)
+    c.args.from.node
+    c.args.from.node)
     (λ y is. Steps-with_new (g.L.Links.net c.args.links.now).links c.args.along.now.relation c.requires.one_side
-    c.requires.ready.two_ends c.in-WithLink.new c.args.x y (sym c.step.ensures ∙ is))
+    c.requires.ready.two_ends c.in-WithLink.new c.args.from.node y (sym c.step.ensures ∙ is))
     ((rw (c.if-branch.false, c.in-WithLink.is) at c.in_ok-follow-in-WithLink.ensures.finds) c.args.along.now.relation
     (record { one_side = c.requires.one_side; replaces = refl; ready = c.requires.ready }))
     c.in_ok-found-in-WithLink.found c.in_ok-found-in-WithLink.ensures)
@@ -81,18 +85,18 @@ returns-in_ok-found-in-AfterMerge-2-clause-finds g c =
     rw c.in-AfterMerge.is (
     IsSearchResult-same c.args.nodes.now c.follow-in-AfterMerge.new.nodes c.args.goals.now
     (LeadsFrom (AfterMerge c.in-AfterMerge.source c.in-AfterMerge.target) (g.L.Links.net c.args.links.now).links
-    c.args.along.now.relation c.args.x c.args.x)
+    c.args.along.now.relation c.args.from.node c.args.from.node)
     (Steps c.args.along.now.relation (HeldAfter (AfterMerge c.in-AfterMerge.source c.in-AfterMerge.target)
-    (g.L.Links.net c.args.links.now).links) c.args.x)
+    (g.L.Links.net c.args.links.now).links) c.args.from.node)
     (Steps-sound (g.L.Links.net c.args.links.now).links c.args.along.now.relation
-    (AfterMerge c.in-AfterMerge.source c.in-AfterMerge.target) c.args.x c.args.x)
+    (AfterMerge c.in-AfterMerge.source c.in-AfterMerge.target) c.args.from.node c.args.from.node)
     (λ y. Steps-other (g.L.Links.net c.args.links.now).links c.in-AfterMerge.source c.in-AfterMerge.target two
-    c.args.along.now.relation c.requires.one_side c.requires.ready.two_ends c.args.x y
+    c.args.along.now.relation c.requires.one_side c.requires.ready.two_ends c.args.from.node y
     (eq_other _ _ _ c.eq-in-AfterMerge.ensures c.if-eq-2.false))
     c.in_ok-found-in-AfterMerge-2.found
     ((rw c.in-AfterMerge.is at c.in_ok-found-in-AfterMerge-2.ensures.finds) c.args.along.now.relation (record {
       one_side = c.requires.one_side;
-      replaces = node_after-stays c.in-AfterMerge.source c.in-AfterMerge.target two c.args.x c.args.x
+      replaces = node_after-stays c.in-AfterMerge.source c.in-AfterMerge.target two c.args.from.node c.args.from.node
           (eq_other _ _ _ c.eq.ensures c.if-eq.false) refl;
       ready = c.requires.ready;
     })))
@@ -100,17 +104,18 @@ returns-in_ok-found-in-AfterMerge-2-clause-finds g c =
 pub returns-in_ok-found-in-AfterMerge-2-clause-count : goal.returns-in_ok-found-in-AfterMerge-2-clause-count
 returns-in_ok-found-in-AfterMerge-2-clause-count g c =
     let two : c.in-AfterMerge.source ≢ c.in-AfterMerge.target = rw c.in-AfterMerge.is at c.requires.fit in
-    let off : c.args.x ≢ c.in-AfterMerge.source = eq_other _ _ _ c.eq.ensures c.if-eq.false in
+    let off : c.args.from.node ≢ c.in-AfterMerge.source = eq_other _ _ _ c.eq.ensures c.if-eq.false in
     rw c.in-AfterMerge.is (λ ns covers.
     let one : g.L.Links.count c.follow-in-AfterMerge.new.links ≤ g.L.Links.count c.args.links.now
-    + sum_by (one_on_side c.args.x (side_in c.args.along.now.relation)) ns =
+    + sum_by (one_on_side c.args.from.node (side_in c.args.along.now.relation)) ns =
     c.in_ok-found-in-AfterMerge-2.ensures.count (side_in c.args.along.now.relation) c.requires.ready ns
     (CoversSide-other (g.L.Links.net c.args.links.now).links
-    c.in-AfterMerge.source c.in-AfterMerge.target two (side_in c.args.along.now.relation) ns c.args.x off covers) in
+    c.in-AfterMerge.source c.in-AfterMerge.target two (side_in c.args.along.now.relation) ns c.args.from.node off
+    covers) in
     omega (
       arith,
       one,
       other_cost (g.L.Links.net c.args.links.now).links c.in-AfterMerge.source c.in-AfterMerge.target two
-          (side_in c.args.along.now.relation) ns c.args.x off
+          (side_in c.args.along.now.relation) ns c.args.from.node off
           (eq_other _ _ _ c.eq-in-AfterMerge.ensures c.if-eq-2.false),
     ))

@@ -8,7 +8,7 @@ use Rattle.thes_base.proofs.ListMemberLemmas.{Contains-none}
 use Rattle.thes_lists.proofs.ListingLemmas.{listing_none}
 use Rattle.thes_graph.proofs.ReaderLemmas.{seen_more, seen_no_more, seen_listing, linked_from, linked_to}
 use Rattle.thes_graph.proofs.graph.Graph.neighbours.Goals as goal
-use Rattle.thes_graph.proofs.graph.Graph.neighbours.Goals.{in-Some+in_ok-list_in, in_default}
+use Rattle.thes_graph.proofs.graph.Graph.neighbours.Goals.{in-Some+in_ok-insert_sorted, in_default}
 
 pub loop-sided_link-init : goal.loop-sided_link-init
 loop-sided_link-init c = rw c.new-found.ensures.items (listing_none nat_cmp _ (λ p has. Contains-none p has))
@@ -16,8 +16,8 @@ loop-sided_link-init c = rw c.new-found.ensures.items (listing_none nat_cmp _ (�
 pub loop-sided_link-preserved : goal.loop-sided_link-preserved
 loop-sided_link-preserved c =
     elim c.match-lead.branch [
-      | in-Some+in_ok-list_in w ↦
-          rw (w.found-is, w.in_ok-list_in.ensures)
+      | in-Some+in_ok-insert_sorted w ↦
+          rw (w.found-is, w.in_ok-insert_sorted.ensures)
           (seen_more nat_cmp (neighbour_by_link c.args.neighbours c.args.n) c.row_of_node-sided_link-items.result.now
           c.loop-sided_link.sided_link-index c.sided_link-item.result c.loop-sided_link-test.true
           c.sided_link-item.is c.loop-sided_link.found.items c.loop-sided_link.invariant nat_cmp_total

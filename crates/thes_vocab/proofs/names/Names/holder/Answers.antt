@@ -19,13 +19,15 @@ pub returns : goal.returns
 returns c taken =
     let n = taken.0 in
     let digest = c.name_digest-digest.result in
-    let holds : IsHolder c.args.resources.now c.args.labels.now c.args.scheme c.args.tag.now c.args.text.now n =
+    let tag = c.args.name.now.tag.now in
+    let text = c.args.name.now.text.now in
+    let holds : IsHolder c.args.resources.now c.args.labels.now c.args.scheme tag text n =
     ((taken.1, taken.2), taken.3) in
     let bound = numbered_bound c.args.resources.now n taken.1.0 taken.1.1 in
     let number : IsNumber n = (bound.0, omega (arith, bound.1, c.requires.few)) in
-    let is : digest ≡ name_digest c.args.scheme c.args.tag.now c.args.text.now = search rules in
+    let is : digest ≡ name_digest c.args.scheme tag text = search rules in
     let entry = subst (λ d. contains entry_cmp c.args.self.now.entries (d, n) ≡ true) (sym is)
-    (c.requires.found c.args.scheme n c.args.tag.now c.args.text.now holds) in
+    (c.requires.found c.args.scheme n tag text holds) in
     let all = (iter_end deref c.with_digest-entry-items.result c.loop-entry.yielded c.into_iter-entry-iterator.result
     c.loop-entry.entry-iterator c.next.new.self c.next.result c.into_iter-entry-iterator.ensures.into_iter_gives
     c.loop-entry.yielded_by c.in-None.is c.next.ensures.steps).0 in

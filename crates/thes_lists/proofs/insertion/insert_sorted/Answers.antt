@@ -1,6 +1,6 @@
 use Rattle.std.proofs.Common.{◌∙◌, sym}
 use Rattle.thes_lists.proofs.OrderLemmas.{insert_found, insert_missing, sorted_by_index}
-use Rattle.thes_graph.proofs.neighbours.list_in.Goals as goal
+use Rattle.thes_lists.proofs.insertion.insert_sorted.Goals as goal
 
 pub returns-in-Ok : goal.returns-in-Ok
 returns-in-Ok g c =
