@@ -3,7 +3,7 @@ use Rattle.std.proofs.Common.{◌≡◌, ◌≢◌, ◌<◌, ◌≤◌, ◌^◌,
 use Rattle.std.proofs.Common.{◌∙◌, subst, rules, arith, get_or, length, take}
 use Rattle.std.proofs.lemmas.List.{take_more}
 use Rattle.std.proofs.lemmas.List.Sums.{count_by-le-length}
-use Rattle.std.specs.Prelude.{Result, Ok, Err, IfOk, OnOk, None, Some, count_by}
+use Rattle.std.specs.Prelude.{Result, Ok, Err, OnOk, None, Some, count_by}
 use Rattle.std.proofs.lemmas.Option.{same_Some}
 use Rattle.thes_base.specs.declared.data.History.{History}
 use Rattle.thes_base.specs.declared.data.Resource.{Resource}
@@ -16,7 +16,7 @@ use Rattle.thes_base.specs.Machine.{next_state}
 use Rattle.thes_base.specs.Postings.{assigned_count, is_assigned_to, move_count}
 use Rattle.thes_base.specs.RefusalRules.{accepted}
 use Rattle.thes_base.specs.Refusals.{Setting}
-use Rattle.thes_base.specs.Resources.{IsConcept, replacements}
+use Rattle.thes_base.specs.Resources.{IsConcept, entry_at, replacements}
 use Rattle.thes_base.specs.RuleParts.{unless_split_postings}
 use Rattle.thes_base.specs.State.{State}
 use Rattle.thes_base.proofs.ListedLemmas.{listed_count}
@@ -45,7 +45,7 @@ use Rattle.thes_core.specs.declared.losses.MergeLoss.{MergeLoss}
 use Rattle.thes_core.specs.declared.losses.Lost.TheVariants.{Links, Merge, Place, Preferred}
 use Rattle.thes_core.specs.declared.undo_log.UndoStep.{UndoStep}
 use Rattle.thes_core.proofs.ApplyLemmas.{held_of, kept_after}
-use Rattle.thes_core.proofs.FactLemmas.{listed_stand, row_of_one}
+use Rattle.thes_core.proofs.FactLemmas.{listed_stand, row_missing, row_of_one}
 use Rattle.thes_core.proofs.MergeDeltaLemmas.{standing_length}
 use Rattle.thes_core.proofs.PartLemmas.{legal_without}
 
@@ -168,11 +168,10 @@ module _ (t : Thesaurus) (spent : Bool) (k : CoreView) (is : parts_view t spent 
       subst (λ (x : CoreView). IsViewOf x s) shows
       (held_of new false s whole.state (kept_after t new s fit.fit then.legal whole) counts)
 
--- What holds after a call that succeeds holds for its value.
-pub taken_if_ok : {A E : Type 0} (r : Result A E) (P : Type 0) (Q : A → Type 0) → ((x : A) → P → Q x) → OnOk r P
-    → IfOk r Q
-taken_if_ok (Ok x) P Q to p = to x p
-taken_if_ok (Err e) P Q to p = tt
+-- What holds after a call that succeeds implies what follows from it.
+pub follows_if_ok : {A E : Type 0} (r : Result A E) (P Q : Type 0) → (P → Q) → OnOk r P → OnOk r Q
+follows_if_ok (Ok x) P Q to p = to p
+follows_if_ok (Err e) P Q to p = tt
 
 -- Assumes that the request is `shown`.
 module _ (command shown : Command) (is : command ≡ shown) (s : State) (old new : Thesaurus) where
@@ -307,6 +306,16 @@ pub place_lost : (posting : ℕ) (s : State) (facts : Facts) (row : PostingRow)
 place_lost posting s facts row are first =
     let found = row_of_one s.histories posting facts.named_postings.items row are.named_postings first in
     (found.0, found.1, ap (λ (r : PostingRow). r.place) found.2)
+
+-- The facts of a Withdraw that passes its checks have the row of its posting.
+pub place_known : (setting : Setting) (posting : ℕ) (s : State) (facts : Facts)
+    → IsAccepted setting s (request.Withdraw posting) → AreFacts (request.Withdraw posting) s.histories facts
+    → first_named_posting facts.named_postings.items ≡ None → ⊥
+place_known setting posting s facts accepts are first =
+    let stood = passed_standing s.histories posting accepts.row in
+    let none = row_missing (entry_at s.histories posting) (ap first_named_posting (sym are.named_postings) ∙ first) in
+    let bad = sym none ∙ stood.1 in
+    cc
 
 -- What a request takes from the parts of a core it takes from each state of which the core is a view.
 pub lost_from_view : (k : CoreView) (s : State) (command : Command) (lost : Lost) → IsViewOf k s

@@ -32,19 +32,24 @@ pub record IsMergeLoss (source target : ℕ) (s : State) (loss : MergeLoss) : Ty
   pub copies : AreMissingLabels s.labels source target loss.copies.items
 
 -- The loss is what the request changes in the labels and links: for a Relabel the former preferred label, for a
--- Deprecate the links of its concept, for a Merge what it takes and adds.
+-- Deprecate the links of its concept, for a Merge what it takes and adds; any loss for another request.
 abbrev pub IsLostFromParts : Command → State → Lost → Type 0
 IsLostFromParts (request.Relabel owner tag text keep) s (Preferred old) =
     preferred_label_in s.labels owner tag ≡ Some old
+IsLostFromParts (request.Relabel owner tag text keep) s _ = ⊥
 IsLostFromParts (request.Deprecate concept) s (Links row) = IsRow s.links concept row.items
+IsLostFromParts (request.Deprecate concept) s _ = ⊥
 IsLostFromParts (request.Merge source target) s (Merge loss) = IsMergeLoss source target s loss
+IsLostFromParts (request.Merge source target) s _ = ⊥
 IsLostFromParts _ s _ = Unit {0}
 
 -- The loss is what the request changes in the postings: for a Withdraw the place of its posting, for a Merge the number
--- of those that move, if there are fewer than 2³² postings.
+-- of those that move, if there are fewer than 2³² postings; any loss for another request.
 abbrev pub IsLostFromPostings : Command → State → Lost → Type 0
 IsLostFromPostings (request.Withdraw posting) s (Place concept) =
     (h : History) × (entry_at s.histories posting ≡ Some h) × (concept ≡ place h)
+IsLostFromPostings (request.Withdraw posting) s _ = ⊥
 IsLostFromPostings (request.Merge source target) s (Merge loss) =
     length s.histories < 2 ^ 32 → loss.moves ≡ assigned_count source s.histories
+IsLostFromPostings (request.Merge source target) s _ = ⊥
 IsLostFromPostings _ s _ = Unit {0}

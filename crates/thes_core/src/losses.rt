@@ -2,8 +2,10 @@
 ghost use Rattle.std.specs.Prelude.{◌≡◌, ◌<◌, ◌^◌, ℕ, [], IfOk, length};
 ghost use Rattle.thes_base.specs.declared.request.Command.TheVariants as request;
 ghost use Rattle.thes_base.specs.State.{State};
-ghost use Rattle.thes_core.specs.Facts.{AreFacts};
+ghost use Rattle.thes_base.specs.Refusals.{Setting};
 ghost use Rattle.thes_base.specs.Postings.{assigned_count};
+ghost use Rattle.thes_core.specs.CoreDecisions.{IsAccepted};
+ghost use Rattle.thes_core.specs.Facts.{AreFacts};
 ghost use Rattle.thes_core.specs.Losses.{IsLostFromParts, IsLostFromPostings, IsMergeLoss};
 ghost use Rattle.thes_core.specs.PartsView.{parts_state};
 ghost use Rattle.thes_core.specs.Requests.{MayChange, PartsAccept};
@@ -34,7 +36,7 @@ pub struct MergeLoss {
 /// the request back needs it.
 #[derive(Debug, Drop)]
 pub enum Lost {
-    /// Nothing.
+    /// Nothing, since the request names all that it changes.
     Nothing,
     /// The concept to which a withdrawn posting was assigned.
     Place(ResNo),
@@ -48,7 +50,9 @@ pub enum Lost {
 
 // Returns the place of a posting that is withdrawn, if the facts have it.
 fn lost_place(facts: &Facts) -> Lost
-    ensures { (posting : ℕ) (s : State) → AreFacts (request.Withdraw posting) s.histories facts.now
+    ensures { (posting : ℕ) (setting : Setting) (s : State)
+        → IsAccepted setting s (request.Withdraw posting)
+        → AreFacts (request.Withdraw posting) s.histories facts.now
         → IsLostFromPostings (request.Withdraw posting) s result }
 {
     match facts.first() {
@@ -86,8 +90,8 @@ impl Thesaurus {
     pub(crate) fn lost_by(&self, command: &Command, facts: &Facts) -> Result<Lost, AllocError>
         requires { MayChange self.now command.now }
         ensures parts { IfOk result (IsLostFromParts command.now (parts_state self.now [])) }
-        ensures postings { IfOk result (λ lost. (s : State)
-            → AreFacts command.now s.histories facts.now
+        ensures postings { IfOk result (λ lost. (setting : Setting) (s : State)
+            → IsAccepted setting s command.now → AreFacts command.now s.histories facts.now
             → IsLostFromPostings command.now s lost) }
     {
         match command {

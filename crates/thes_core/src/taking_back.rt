@@ -38,36 +38,35 @@ fn alternative_label(alloc: Global, tag: &Tag, text: &Text) -> Result<Label, All
 }
 
 impl Thesaurus {
-    // Takes back the request that was applied last, and returns whether it can be taken back.
-    pub(crate) fn take_back(&mut self, command: &Command, lost: &Lost) -> Result<bool, AllocError>
+    // Takes back the request that was applied last.
+    pub(crate) fn take_back(&mut self, command: &Command, lost: &Lost) -> Result<(), AllocError>
         requires { (s : State) × ArePartsAfter command.now s self.old
             × IsLostFromParts command.now s lost.now }
-        ensures parts { IfOk result (λ taken. taken ≡ true → (s : State)
+        ensures parts { OnOk result ((s : State)
             → ArePartsTakenBack command.now s lost.now self.old self.new) }
-        ensures counts { IfOk result (λ taken. taken ≡ true → (s : State)
-            → ArePartsAfter command.now s self.old
+        ensures counts { OnOk result ((s : State) → ArePartsAfter command.now s self.old
             → AreCountsTakenBack command.now s lost.now self.old self.new) }
     {
         match command {
             Command::Scheme(tag, text) => {
                 self.take_back_named(tag, text);
-                Ok(true)
+                Ok(())
             }
             Command::Concept(_, tag, text) => {
                 self.take_back_named(tag, text);
-                Ok(true)
+                Ok(())
             }
             Command::Collection(_, tag, text) => {
                 self.take_back_named(tag, text);
-                Ok(true)
+                Ok(())
             }
             Command::Outside(iri) => {
                 self.take_back_outside(iri);
-                Ok(true)
+                Ok(())
             }
             Command::AddLabel(owner, label) => {
                 self.take_back_added(*owner, label);
-                Ok(true)
+                Ok(())
             }
             Command::DropLabel(owner, label) => self.take_back_dropped(*owner, label),
             Command::Relabel(owner, tag, _, keep) => {
@@ -75,12 +74,12 @@ impl Thesaurus {
             }
             Command::Link(kind, a, b) => {
                 self.take_back_link(*kind, *a, *b);
-                Ok(true)
+                Ok(())
             }
             Command::Unlink(kind, a, b) => self.take_back_unlink(*kind, *a, *b),
             Command::Post(_, _, concept) => {
                 self.take_back_post(*concept);
-                Ok(true)
+                Ok(())
             }
             Command::Withdraw(_) => self.take_back_withdrawal(lost),
             Command::Split(source, tag, text, postings) => {
@@ -123,8 +122,8 @@ impl Thesaurus {
         self.vocab.drop_label(owner, label);
     }
 
-    // Takes back the removal of a label; returns true.
-    fn take_back_dropped(&mut self, owner: ResNo, label: &Label) -> Result<bool, AllocError>
+    // Takes back the removal of a label.
+    fn take_back_dropped(&mut self, owner: ResNo, label: &Label) -> Result<(), AllocError>
         requires { (s : State) × ArePartsAfter (request.DropLabel owner label.now) s self.old }
         ensures parts { OnOk result ((s : State)
             → ArePartsAfter (request.DropLabel owner label.now) s self.old
@@ -132,7 +131,7 @@ impl Thesaurus {
         ensures book { OnOk result (self.new.book ≡ self.old.book) }
     {
         self.vocab.add_label(owner, label)?;
-        Ok(true)
+        Ok(())
     }
 
     // Takes back the addition of a link.
@@ -145,57 +144,57 @@ impl Thesaurus {
         self.graph.remove(&Link { kind, a, b });
     }
 
-    // Takes back the removal of a link; returns true.
-    fn take_back_unlink(&mut self, kind: LinkKind, a: ResNo, b: ResNo) -> Result<bool, AllocError>
+    // Takes back the removal of a link.
+    fn take_back_unlink(&mut self, kind: LinkKind, a: ResNo, b: ResNo) -> Result<(), AllocError>
         requires { (s : State) × ArePartsAfter (request.Unlink kind a b) s self.old }
         ensures parts { OnOk result ((s : State) → ArePartsAfter (request.Unlink kind a b) s self.old
             → PartsOfState self.old (without_postings s) self.new) }
         ensures book { OnOk result (self.new.book ≡ self.old.book) }
     {
         self.graph.add(&Link { kind, a, b })?;
-        Ok(true)
+        Ok(())
     }
 
-    // Takes back that a concept was deprecated, and returns whether its links are known.
-    fn take_back_deprecate(&mut self, concept: ResNo, lost: &Lost) -> Result<bool, AllocError>
+    // Takes back the deprecation of a concept, whose links are in `lost`.
+    fn take_back_deprecate(&mut self, concept: ResNo, lost: &Lost) -> Result<(), AllocError>
         requires { (s : State) × ArePartsAfter (request.Deprecate concept) s self.old
             × IsLostFromParts (request.Deprecate concept) s lost.now }
-        ensures parts { IfOk result (λ taken. taken ≡ true → (s : State)
+        ensures parts { OnOk result ((s : State)
             → ArePartsTakenBack (request.Deprecate concept) s lost.now self.old self.new) }
         ensures book { OnOk result (self.new.book ≡ self.old.book) }
     {
         let Lost::Links(links) = lost else {
-            return Ok(false);
+            return Ok(());
         };
         self.vocab.take_back_death(concept)?;
         self.graph.add_all(links.as_slice())?;
-        Ok(true)
+        Ok(())
     }
 
-    // Takes back a merge, and returns whether what it changed is known.
+    // Takes back a merge; what it changed is in `lost`.
     fn take_back_merge(
         &mut self,
         source: ResNo,
         target: ResNo,
         lost: &Lost,
-    ) -> Result<bool, AllocError>
+    ) -> Result<(), AllocError>
         requires { (s : State) × ArePartsAfter (request.Merge source target) s self.old
             × IsLostFromParts (request.Merge source target) s lost.now }
-        ensures parts { IfOk result (λ taken. taken ≡ true → (s : State)
+        ensures parts { OnOk result ((s : State)
             → ArePartsTakenBack (request.Merge source target) s lost.now self.old self.new) }
-        ensures counts { IfOk result (λ taken. taken ≡ true → (s : State)
+        ensures counts { OnOk result ((s : State)
             → ArePartsAfter (request.Merge source target) s self.old
             → AreCountsTakenBack (request.Merge source target) s lost.now self.old self.new) }
     {
         let Lost::Merge(loss) = lost else {
-            return Ok(false);
+            return Ok(());
         };
         self.vocab.take_back_death(source)?;
         self.vocab.drop_labels(target, loss.copies.as_slice());
         self.graph.add_all(loss.links.as_slice())?;
         self.graph.detach_all(loss.additions.as_slice());
         self.book.take_back_moves(source, target, loss.moves)?;
-        Ok(true)
+        Ok(())
     }
 
     // Takes back the count of a posting to a concept.
@@ -210,43 +209,42 @@ impl Thesaurus {
         self.book.take_back_post(way.place, way.steps);
     }
 
-    // Takes back the count of a withdrawal, and returns whether the concept to which the posting was
-    // assigned is known.
-    fn take_back_withdrawal(&mut self, lost: &Lost) -> Result<bool, AllocError>
+    // Takes back the count of a withdrawal, if the concept to which the posting was assigned is known.
+    fn take_back_withdrawal(&mut self, lost: &Lost) -> Result<(), AllocError>
         ensures same { OnOk result (self.new ≡ record self.old { book = self.new.book }) }
-        ensures counts { IfOk result (λ taken. taken ≡ true → (posting : ℕ) (s : State)
+        ensures counts { OnOk result ((posting : ℕ) (s : State)
             → ArePartsAfter (request.Withdraw posting) s self.old
             → AreCountsTakenBack (request.Withdraw posting) s lost.now self.old self.new) }
     {
         let Lost::Place(concept) = lost else {
-            return Ok(false);
+            return Ok(());
         };
         self.book.take_back_withdrawal(*concept)?;
-        Ok(true)
+        Ok(())
     }
 
-    // Takes back the replacement of a preferred label, and returns whether the former one is known.
+    // Takes back the replacement of a preferred label, whose text is in `lost`.
     fn take_back_relabel(
         &mut self,
         owner: ResNo,
         tag: &Tag,
         keep: bool,
         lost: &Lost,
-    ) -> Result<bool, AllocError>
+    ) -> Result<(), AllocError>
         requires { (s : State) × (text : List ℕ)
             × ArePartsAfter (request.Relabel owner tag.now text keep) s self.old
             × IsLostFromParts (request.Relabel owner tag.now text keep) s lost.now }
-        ensures parts { IfOk result (λ taken. taken ≡ true → (s : State) (text : List ℕ)
+        ensures parts { OnOk result ((s : State) (text : List ℕ)
             → ArePartsTakenBack (request.Relabel owner tag.now text keep) s lost.now self.old
             self.new) }
         ensures book { OnOk result (self.new.book ≡ self.old.book) }
     {
         let Lost::Preferred(old) = lost else {
-            return Ok(false);
+            return Ok(());
         };
         self.drop_kept(owner, tag, keep, old)?;
         self.vocab.relabel(owner, tag, old, false)?;
-        Ok(true)
+        Ok(())
     }
 
     // Removes the alternative label that the replacement of a preferred label kept, if `keep` is
@@ -274,14 +272,14 @@ impl Thesaurus {
         Ok(())
     }
 
-    // Takes back a split; returns true.
+    // Takes back a split.
     fn take_back_split(
         &mut self,
         source: ResNo,
         tag: &Tag,
         text: &Text,
         postings: &[PostNo],
-    ) -> Result<bool, AllocError>
+    ) -> Result<(), AllocError>
         requires { (s : State)
             × ArePartsAfter (request.Split source tag.now text.now postings.now) s self.old }
         ensures parts { OnOk result ((s : State)
@@ -296,6 +294,6 @@ impl Thesaurus {
         self.take_back_named(tag, text);
         self.book
             .take_back_moves(source, concept, count_named(postings))?;
-        Ok(true)
+        Ok(())
     }
 }

@@ -1,5 +1,5 @@
 //! Takes back requests that were applied to a core.
-ghost use Rattle.std.specs.Prelude.{◌≡◌, [], false, IfErr, IfOk, OnOk};
+ghost use Rattle.std.specs.Prelude.{◌≡◌, ◌⊎◌, [], false, true, IfErr, IfOk, OnErr, OnOk};
 ghost use Rattle.thes_base.specs.Machine.{next_state};
 ghost use Rattle.thes_base.specs.State.{State};
 ghost use Rattle.thes_core.specs.CoreDecisions.{IsAccepted, MayApply};
@@ -12,7 +12,7 @@ ghost use Rattle.thes_core.specs.UndoLogs.{IsUndoStep, StepsLead};
 use crate::facts::Facts;
 use crate::losses::Lost;
 use crate::machine::Core;
-use std::alloc::Global;
+use std::alloc::{AllocError, Global};
 use std::marker::Model;
 use thes_base::fault::Fault;
 use thes_base::request::Command;
@@ -57,6 +57,7 @@ impl Core {
         requires may { MayApply self.now command.now }
         ensures parts { IfOk result (IsLostFromParts command.now (with_histories [] self.now)) }
         ensures postings { IfOk result (λ lost. (s : State)
+            → IsAccepted self.now.setting s command.now
             → AreFacts command.now s.histories facts.now
             → IsLostFromPostings command.now s lost) }
         ensures err { IfErr result (λ fault. fault ≡ Fault.OutOfMemory) }
@@ -64,8 +65,8 @@ impl Core {
         Ok(self.thesaurus.lost_by(command, facts)?)
     }
 
-    /// Applies an accepted request, and appends it to a log. If memory runs out, the log may lack
-    /// the request.
+    /// Applies an accepted request, and appends it to a log. If memory runs out, the core is
+    /// unchanged or unusable (`is_spent`).
     pub fn apply_logged(
         &mut self,
         command: Command,
@@ -80,6 +81,7 @@ impl Core {
         ensures usable { OnOk result ((self.new.spent ≡ false)
             × (self.new.setting ≡ self.old.setting)) }
         ensures err { IfErr result (λ fault. fault ≡ Fault.OutOfMemory) }
+        ensures failed { OnErr result ((self.new ≡ self.old) ⊎ (self.new.spent ≡ true)) }
         ensures logs { OnOk result (IsLogOf log.old self.old → IsLogOf log.new self.new) }
         ensures steps { (first s : State) → IsViewOf self.old s
             → AreFacts command s.histories facts.now → IsAccepted self.old.setting s command
@@ -89,12 +91,16 @@ impl Core {
     {
         let lost = self.lost_by_request(&command, facts)?;
         self.apply(&command, facts)?;
-        log.steps.push(UndoStep { command, lost })?;
-        Ok(())
+        match log.steps.push(UndoStep { command, lost }) {
+            Ok(()) => Ok(()),
+            Err(AllocError) => {
+                self.spent = true;
+                Err(Fault::OutOfMemory)
+            }
+        }
     }
 
-    // Takes back the request that was applied last. The core is unusable if memory runs out, or if
-    // the request can't be taken back.
+    // Takes back the request that was applied last. If memory runs out, the core is unusable.
     fn take_back_step(&mut self, step: &UndoStep)
         requires unspent { self.old.spent ≡ false }
         requires applied { (s : State) × LeadsWithoutPostings self.old.setting s step.now
@@ -108,13 +114,13 @@ impl Core {
             → IsViewOf self.new s }
     {
         self.spent = true;
-        if let Ok(true) = self.thesaurus.take_back(&step.command, &step.lost) {
+        if let Ok(()) = self.thesaurus.take_back(&step.command, &step.lost) {
             self.spent = false;
         }
     }
 
     /// Takes back the requests of a log, so that the core is a view of the state before them. If
-    /// memory runs out, or if one can't be taken back, the core is unusable (`is_spent`).
+    /// memory runs out, the core is unusable (`is_spent`).
     pub fn take_back(&mut self, log: &UndoLog)
         requires unspent { self.old.spent ≡ false }
         requires logged { IsLogOf log.now self.old }

@@ -104,8 +104,9 @@ impl Book {
     /// Takes back the count of a posting that is assigned to the concept after `moves` moves;
     /// changes nothing if there can't be one.
     pub fn take_back_post(&mut self, concept: ResNo, moves: u64)
-        ensures { HasPostToTakeBack concept moves self.old
+        ensures counted { HasPostToTakeBack concept moves self.old
             → CountsAfterPost concept moves self.new self.old }
+        ensures none { (HasPostToTakeBack concept moves self.old → ⊥) → self.new ≡ self.old }
     {
         let place = concept.get() as usize;
         let count = count_at(self.counts.as_slice(), place);
@@ -181,6 +182,7 @@ impl Book {
         requires apart { source ≢ target }
         ensures ok { OnOk result (HasMovesToTakeBack source target count self.old
             → CountsAfterMoves source target count self.new self.old) }
+        ensures fewer { count_of self.old target < count → self.new ≡ self.old }
         ensures err { OnErr result (self.new ≡ self.old) }
     {
         let there = count_at(self.counts.as_slice(), target.get() as usize);

@@ -10,3 +10,6 @@ lost_by-requires c = grind (arith, parts_may_change)
 pub returns-clause-parts : goal.returns-clause-parts
 returns-clause-parts c = subst (λ (k : CoreView). IsLostFromParts c.args.command.now (with_histories [] k)
     c.in_ok-lost_by.field-0) c.self.view_is c.in_ok-lost_by.ensures.parts
+
+pub returns-clause-postings : goal.returns-clause-postings
+returns-clause-postings c = λ s accepts are. c.in_ok-lost_by.ensures.postings c.args.self.now.setting s accepts are

@@ -25,28 +25,28 @@ invariant_of-self c = λ _.
     let after = parts_after_applied c.self.inside.thesaurus c.self.inside.spent c.args.self.now is fit s
     c.args.step.now.command c.requires.applied.1.application in
     fit_before c.self.inside.thesaurus c.self.inside.spent c.args.self.now is fit s c.args.step.now.command
-    c.take_back.new.self after (c.in-Ok-true.ensures.parts c.in-Ok-true.field-0-test s after
+    c.take_back.new.self after (c.in-Ok.ensures.parts s after
     c.requires.applied.1.lost)
 
-pub returns-in-Ok-true-clause-setting : goal.returns-in-Ok-true-clause-setting
-returns-in-Ok-true-clause-setting c = λ _.
+pub returns-in-Ok-clause-setting : goal.returns-in-Ok-clause-setting
+returns-in-Ok-clause-setting c = λ _.
     let is = c.self.view_is in
     let fit = c.self.invariant (ap (λ (x : CoreView). x.spent) is ∙ c.requires.unspent) in
     let s = c.requires.applied.0 in
     let after = parts_after_applied c.self.inside.thesaurus c.self.inside.spent c.args.self.now is fit s
     c.args.step.now.command c.requires.applied.1.application in
-    (c.in-Ok-true.ensures.parts c.in-Ok-true.field-0-test s after c.requires.applied.1.lost).setting ∙ ap (λ (x : CoreView). x.setting) is
+    (c.in-Ok.ensures.parts s after c.requires.applied.1.lost).setting ∙ ap (λ (x : CoreView). x.setting) is
 
-pub returns-in-Ok-true-clause-parts : goal.returns-in-Ok-true-clause-parts
-returns-in-Ok-true-clause-parts c = λ _ s applied.
+pub returns-in-Ok-clause-parts : goal.returns-in-Ok-clause-parts
+returns-in-Ok-clause-parts c = λ _ s applied.
     let is = c.self.view_is in
     let fit = c.self.invariant (ap (λ (x : CoreView). x.spent) is ∙ c.requires.unspent) in
     let after = parts_after_applied c.self.inside.thesaurus c.self.inside.spent c.args.self.now is fit s
     c.args.step.now.command applied.application in
-    (c.in-Ok-true.ensures.parts c.in-Ok-true.field-0-test s after applied.lost).state
+    (c.in-Ok.ensures.parts s after applied.lost).state
 
-pub returns-in-Ok-true-clause-view : goal.returns-in-Ok-true-clause-view
-returns-in-Ok-true-clause-view c = λ _ s t step holds.
+pub returns-in-Ok-clause-view : goal.returns-in-Ok-clause-view
+returns-in-Ok-clause-view c = λ _ s t step holds.
     let is = c.self.view_is in
     let fit = c.self.invariant (ap (λ (x : CoreView). x.spent) is ∙ c.requires.unspent) in
     let command = c.args.step.now.command in
@@ -57,5 +57,5 @@ returns-in-Ok-true-clause-view c = λ _ s t step holds.
     (λ i. (step.after i, sym is i)) holds.posting_counts in
     view_before c.self.inside.thesaurus c.self.inside.spent c.args.self.now is fit s command c.take_back.new.self
     (parts_view c.take_back.new.self false) t refl after
-    (c.in-Ok-true.ensures.parts c.in-Ok-true.field-0-test s after step.lost)
-    (c.in-Ok-true.ensures.counts c.in-Ok-true.field-0-test s after accepts step.lost_postings counts)
+    (c.in-Ok.ensures.parts s after step.lost)
+    (c.in-Ok.ensures.counts s after accepts step.lost_postings counts)

@@ -4,7 +4,7 @@ use Rattle.thes_base.specs.declared.request.Command.TheVariants as request
 use Rattle.thes_core.specs.Losses.{IsLostFromParts}
 use Rattle.thes_core.specs.UndoLogs.{ArePartsAfter, AreCountsTakenBack}
 use Rattle.thes_core.proofs.TakingBackLemmas.{collection_created, concept_created, scheme_created}
-use Rattle.thes_core.proofs.UndoLogLemmas.{taken_if_ok}
+use Rattle.thes_core.proofs.UndoLogLemmas.{follows_if_ok}
 use Rattle.thes_core.proofs.thesaurus.Thesaurus.take_back.Goals as goal
 
 pub take_back_named-requires : goal.take_back_named-requires
@@ -80,22 +80,22 @@ pub returns-in-Split-clause-counts : goal.returns-in-Split-clause-counts
 returns-in-Split-clause-counts c =
     let is = c.in-Split.is ∙ ap (λ (ps : List ℕ). request.Split c.in-Split.source c.in-Split.tag c.in-Split.text ps)
     (sym c.as_slice.ensures) in
-    taken_if_ok c.take_back_split.result _ _ (λ taken back yes s after.
+    follows_if_ok c.take_back_split.result _ _ (λ back s after.
     subst (λ (x : Command). AreCountsTakenBack x s c.args.lost.now c.args.self.now c.take_back_split.new.self) (sym is)
     (back s c.args.lost.now (subst (λ (x : Command). ArePartsAfter x s c.args.self.now) is after)))
     c.take_back_split.ensures.counts
 
 pub returns-in-Scheme-clause-parts : goal.returns-in-Scheme-clause-parts
-returns-in-Scheme-clause-parts c = λ taken s after lost. c.take_back_named.ensures.parts s
+returns-in-Scheme-clause-parts c = λ s after lost. c.take_back_named.ensures.parts s
     (scheme_created c.args.self.now c.in-Scheme.tag c.in-Scheme.text s
     (subst (λ (x : Command). ArePartsAfter x s c.args.self.now) c.in-Scheme.is after))
 
 pub returns-in-Concept-clause-parts : goal.returns-in-Concept-clause-parts
-returns-in-Concept-clause-parts c = λ taken s after lost. c.take_back_named-in-Concept.ensures.parts s
+returns-in-Concept-clause-parts c = λ s after lost. c.take_back_named-in-Concept.ensures.parts s
     (concept_created c.args.self.now c.in-Concept.tag c.in-Concept.text s c.in-Concept.field-0
     (subst (λ (x : Command). ArePartsAfter x s c.args.self.now) c.in-Concept.is after))
 
 pub returns-in-Collection-clause-parts : goal.returns-in-Collection-clause-parts
-returns-in-Collection-clause-parts c = λ taken s after lost. c.take_back_named-in-Collection.ensures.parts s
+returns-in-Collection-clause-parts c = λ s after lost. c.take_back_named-in-Collection.ensures.parts s
     (collection_created c.args.self.now c.in-Collection.tag c.in-Collection.text s c.in-Collection.field-0
     (subst (λ (x : Command). ArePartsAfter x s c.args.self.now) c.in-Collection.is after))

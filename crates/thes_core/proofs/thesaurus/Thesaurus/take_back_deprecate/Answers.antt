@@ -25,7 +25,7 @@ add_all-requires c =
     (links_may_return c.args.self.now c.args.concept c.requires.0 c.requires.1 c.in-Links.links.items had)
 
 pub returns-clause-parts : goal.returns-clause-parts
-returns-clause-parts c = λ taken s after lost.
+returns-clause-parts c = λ s after lost.
     let t = c.args.self.now in
     let had = subst (λ (x : Lost). IsLostFromParts (request.Deprecate c.args.concept) s x) c.in-Links.is lost in
     parts_before_deprecation t c.args.concept s after c.in-Links.links.items had c.take_back_death.new.self

@@ -53,7 +53,7 @@ take_back_moves-requires c = record {
 }
 
 pub returns-clause-parts : goal.returns-clause-parts
-returns-clause-parts c = λ taken s is lost_is.
+returns-clause-parts c = λ s is lost_is.
     let t = c.args.self.now in
     let source = c.args.source in
     let target = c.args.target in
@@ -77,7 +77,7 @@ returns-clause-parts c = λ taken s is lost_is.
     dropped) detached
 
 pub returns-clause-counts : goal.returns-clause-counts
-returns-clause-counts c = λ taken s is accepts lost counts.
+returns-clause-counts c = λ s is accepts lost counts.
     let t = c.args.self.now in
     let source = c.args.source in
     let target = c.args.target in

@@ -11,7 +11,7 @@ returns-clause-counts c = λ key rec histories counts.
     let place = c.forwarding-way.ensures.place in
     let steps = c.forwarding-way.ensures.steps in
     let has = post_counted histories key rec c.args.concept way t.book counts in
-    let one = c.take_back_post.ensures
+    let one = c.take_back_post.ensures.counted
     (subst (λ (p : ℕ × ℕ). HasPostToTakeBack p.0 p.1 t.book) (λ i. (sym place i, sym steps i)) has) in
     sums_before_post histories key rec c.args.concept way t.book c.take_back_post.new.self counts
     (subst (λ (p : ℕ × ℕ). CountsAfterPost p.0 p.1 c.take_back_post.new.self t.book) (λ i. (place i, steps i)) one)

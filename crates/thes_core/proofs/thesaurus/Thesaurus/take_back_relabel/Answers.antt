@@ -35,7 +35,7 @@ relabel-requires-clause-allowed c =
     (ap (λ (x : Thesaurus). x.vocab) c.in_ok-drop_kept.ensures)
 
 pub returns-clause-parts : goal.returns-clause-parts
-returns-clause-parts c = λ taken s text after lost.
+returns-clause-parts c = λ s text after lost.
     parts_before_relabel c.args.self.now c.args.owner c.args.tag.now text c.in-Preferred.old c.args.keep s after
     (subst (λ (x : Lost). IsLostFromParts (request.Relabel c.args.owner c.args.tag.now text c.args.keep) s x)
     c.in-Preferred.is lost) c.drop_kept.new.self.vocab (ap (λ (x : Thesaurus). x.vocab) c.in_ok-drop_kept.ensures)
