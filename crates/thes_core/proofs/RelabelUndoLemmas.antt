@@ -22,7 +22,7 @@ use Rattle.thes_vocab.specs.Vocabulary.{Vocabulary, IsLiveOwner, with_labels}
 use Rattle.thes_vocab.proofs.SetUndoLemmas.{insert_then_remove, remove_then_insert}
 use Rattle.thes_core.specs.CoreView.{without_postings}
 use Rattle.thes_core.specs.Losses.{labels_without_kept}
-use Rattle.thes_core.specs.Requests.{PartsOfState}
+use Rattle.thes_core.specs.Requests.{MayChange, PartsOfState}
 use Rattle.thes_core.specs.UndoLogs.{ArePartsAfter}
 use Rattle.thes_core.specs.declared.thesaurus.Thesaurus.{Thesaurus}
 use Rattle.thes_core.proofs.ApplyLemmas.{parts_become_state}
@@ -33,6 +33,15 @@ relabelled : (labels : Labels) (owner : ℕ) (tag text old : List ℕ) (keep : B
     → labels_after_relabel owner tag text keep labels ≡ replace_preferred owner tag text keep old labels
 relabelled labels owner tag text old keep is =
     ap (λ (o : Option (List ℕ)). elim o [ None ↦ labels | Some x ↦ replace_preferred owner tag text keep x labels ]) is
+
+-- A Relabel that may be applied replaces a preferred label.
+pub preferred_known : (t : Thesaurus) (owner : ℕ) (tag text : List ℕ) (keep : Bool)
+    → MayChange t (request.Relabel owner tag text keep) → preferred_label_in t.vocab.labels owner tag ≡ None → ⊥
+preferred_known t owner tag text keep (kept, may) none =
+    let had = (passed_unless (passed_unless (passed_unless (passed_unless may.row).1).1).1).0 in
+    let found = preferred_of_label t.vocab.labels owner tag had.0 had.1 in
+    let bad = sym none ∙ found.1 in
+    cc
 
 -- Assumes that a preferred label was replaced.
 module _ (t : Thesaurus) (owner : ℕ) (tag text old : List ℕ) (keep : Bool) (s : State)
