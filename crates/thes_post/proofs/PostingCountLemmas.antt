@@ -332,63 +332,42 @@ module _ (passes : History → Bool) (source target : ℕ) (apart : source ≢ t
     pub fewer_than : count_by passes hs ≤ assigned_count source hs
     fewer_than = let f = fewer in omega (arith, f)
 
+    alike_moved : (count : ℕ) → count ≡ count_by passes hs → (old new : PostingCounts)
+        → CountsAfterMoves source target count old new → ChangeAlike hs after_moves old new
+    alike_moved count is old new some = record {
+      standing = λ c. elim (cases_eq c source) [
+        | inl here ↦
+            let m = some.at_source in
+            let f = fewer in
+            subst (λ d. count_of new d + assigned_count d hs ≡ count_of old d + assigned_count d after_moves)
+            (sym here) (omega (arith, m, f, is))
+        | inr no_source ↦ elim (cases_eq c target) [
+          | inl there ↦
+              let m = some.at_target in
+              let f = more_there in
+              subst (λ d. count_of new d + assigned_count d hs ≡ count_of old d + assigned_count d after_moves)
+              (sym there) (omega (arith, m, f, is))
+          | inr no_target ↦
+              let m = some.others c no_source no_target in
+              let f = others c no_source no_target in
+              omega (arith, m, f)
+        ]
+      ];
+      accepted = (let a = some.accepted in let l = length_moved passes target number hs in omega (arith, a, l));
+      withdrawn = (let a = some.withdrawn in let w = same_withdrawn in omega (arith, a, w));
+      moves = (let a = some.moves in let m = count_moved passes target number hs in omega (arith, a, m, is));
+    }
+
     -- The counts after the moves are those of the histories.
     pub sums_moved : (count : ℕ) → count ≡ count_by passes hs → (old new : PostingCounts) → ArePostingCounts hs old
         → CountsAfterMoves source target count old new → ArePostingCounts after_moves new
-    sums_moved count is old new are some = record {
-      standing = λ c. elim (cases_eq c source) [
-        | inl here ↦
-            let a = ap (count_of new) here in
-            let s = are.standing source in
-            let m = some.at_source in
-            let f = fewer in
-            let t = ap (λ d. assigned_count d after_moves) here in
-            omega (arith, a, s, m, f, t, is)
-        | inr no_source ↦ elim (cases_eq c target) [
-          | inl there ↦
-              let a = ap (count_of new) there in
-              let s = are.standing target in
-              let m = some.at_target in
-              let f = more_there in
-              let t = ap (λ d. assigned_count d after_moves) there in
-              omega (arith, a, s, m, f, t, is)
-          | inr no_target ↦ some.others c no_source no_target ∙ are.standing c ∙ sym (others c no_source no_target)
-        ]
-      ];
-      accepted = some.accepted ∙ are.accepted ∙ sym (length_moved passes target number hs);
-      withdrawn = some.withdrawn ∙ are.withdrawn ∙ sym same_withdrawn;
-      moves = (let a = some.moves in let b = are.moves in let m = count_moved passes target number hs in
-          omega (arith, a, b, m, is));
-    }
+    sums_moved count is old new are some = counts_alike hs after_moves old new (alike_moved count is old new some) are
 
     -- The counts before the moves, which are taken back, are those of the histories before them.
     pub sums_before_moves : (count : ℕ) → count ≡ count_by passes hs → (old new : PostingCounts)
         → ArePostingCounts after_moves old → CountsAfterMoves source target count new old → ArePostingCounts hs new
-    sums_before_moves count is old new are some = record {
-      standing = λ c. elim (cases_eq c source) [
-        | inl here ↦
-            let a = ap (count_of new) here in
-            let s = are.standing source in
-            let m = some.at_source in
-            let f = fewer in
-            let t = ap (λ d. assigned_count d hs) here in
-            omega (arith, a, s, m, f, t, is)
-        | inr no_source ↦ elim (cases_eq c target) [
-          | inl there ↦
-              let a = ap (count_of new) there in
-              let s = are.standing target in
-              let m = some.at_target in
-              let f = more_there in
-              let t = ap (λ d. assigned_count d hs) there in
-              omega (arith, a, s, m, f, t, is)
-          | inr no_target ↦ sym (some.others c no_source no_target) ∙ are.standing c ∙ others c no_source no_target
-        ]
-      ];
-      accepted = sym some.accepted ∙ are.accepted ∙ length_moved passes target number hs;
-      withdrawn = sym some.withdrawn ∙ are.withdrawn ∙ same_withdrawn;
-      moves = (let a = some.moves in let b = are.moves in let m = count_moved passes target number hs in
-          omega (arith, a, b, m, is));
-    }
+    sums_before_moves count is old new are some =
+        counts_alike after_moves hs old new (taken_back hs after_moves new old (alike_moved count is new old some)) are
 
     -- The counts of the moves can be taken back.
     pub moves_counted : (count : ℕ) → count ≡ count_by passes hs → (old : PostingCounts)

@@ -74,6 +74,12 @@ pub record CountsAfterWithdrawal (concept : Number) (old new : PostingCounts) : 
   pub withdrawn : new.withdrawn ≡ old.withdrawn + 1
   pub moves : new.moves ≡ old.moves
 
+-- `moved` of the entry at an index are moved to another one, if there is room for them.
+pub record ShiftsCounts (from to moved : ℕ) (old new : List ℕ) : Type 0 where
+  pub at_source : slice_index old from ≡ slice_index new from + moved
+  pub at_target : slice_index old to + moved < 2 ^ 32 → slice_index new to ≡ slice_index old to + moved
+  pub others : (n : ℕ) → n ≢ from → n ≢ to → slice_index new n ≡ slice_index old n
+
 -- The counts after `moved` postings move from the source to the target, by one move each.
 pub record CountsAfterMoves (source target : Number) (moved : ℕ) (old new : PostingCounts) : Type 0 where
   pub at_source : count_of old source ≡ count_of new source + moved

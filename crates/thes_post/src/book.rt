@@ -1,7 +1,7 @@
 //! The counts of postings, kept in memory; the postings themselves are in the storage.
-ghost use Rattle.std.specs.Prelude.{◌≡◌, ◌≢◌, ◌<◌, ◌+◌, ◌-◌, ◌^◌, ℕ, [], length, slice_index, IfOk, OnOk, OnErr};
+ghost use Rattle.std.specs.Prelude.{◌≡◌, ◌≢◌, ◌<◌, ◌≤◌, ◌+◌, ◌-◌, ◌^◌, ℕ, [], length, slice_index, IfOk, OnOk, OnErr};
 ghost use Rattle.thes_post.specs.PostingCounts.{count_of, HasRoomForPost, HasPostingToWithdraw, HasRoomForMoves, CountsAfterPost, CountsAfterWithdrawal, CountsAfterMoves};
-ghost use Rattle.thes_post.specs.PostingCounts.{HasMovesToTakeBack, HasPostToTakeBack, HasWithdrawalToTakeBack};
+ghost use Rattle.thes_post.specs.PostingCounts.{HasMovesToTakeBack, HasPostToTakeBack, HasWithdrawalToTakeBack, ShiftsCounts};
 
 use std::alloc::{AllocError, Global};
 use std::marker::Model;
@@ -52,6 +52,20 @@ fn grow_counts(counts: &mut Vec<u32>, place: usize) -> Result<(), AllocError>
     if counts.len() <= place {
         counts.resize(place + 1, 0)?;
     }
+    Ok(())
+}
+
+// Moves `count` of the entry at the index `from` to the one at `to`, which saturates at 2³² - 1;
+// after an error the counts are as before.
+fn shift_counts(counts: &mut Vec<u32>, from: usize, to: usize, count: u32) -> Result<(), AllocError>
+    requires has { (0 < count) × (count ≤ slice_index counts.old.items from) }
+    requires ends { (from ≢ to) × (to < 2 ^ 32) }
+    ensures ok { OnOk result (ShiftsCounts from to count counts.old.items counts.new.items) }
+    ensures err { OnErr result (counts.new.items ≡ counts.old.items) }
+{
+    grow_counts(counts, to)?;
+    counts[from] -= count;
+    counts[to] = counts[to].saturating_add(count);
     Ok(())
 }
 
@@ -159,20 +173,17 @@ impl Book {
             → CountsAfterMoves source target count self.old self.new) }
         ensures err { OnErr result (self.new ≡ self.old) }
     {
-        let standing = count_at(self.counts.as_slice(), source.get() as usize);
-        if count == 0 || standing < count {
+        let (from, to) = (source.get() as usize, target.get() as usize);
+        if count == 0 || count_at(self.counts.as_slice(), from) < count {
             return Ok(());
         }
-        let place = target.get() as usize;
-        grow_counts(&mut self.counts, place)?;
-        self.counts[source.get() as usize] = standing - count;
-        self.counts[place] = self.counts[place].saturating_add(count);
+        shift_counts(&mut self.counts, from, to, count)?;
         self.moves = self.moves.saturating_add(count);
         Ok(())
     }
 
-    /// Takes back the count of `count` postings of the source that moved to the target, with one move
-    /// each; changes nothing if there are fewer.
+    /// Takes back the count of `count` postings of the source that moved to the target, with one
+    /// move each; changes nothing if there are fewer.
     pub fn take_back_moves(
         &mut self,
         source: ResNo,
@@ -185,14 +196,11 @@ impl Book {
         ensures fewer { count_of self.old target < count → self.new ≡ self.old }
         ensures err { OnErr result (self.new ≡ self.old) }
     {
-        let there = count_at(self.counts.as_slice(), target.get() as usize);
-        if count == 0 || there < count || self.moves < count {
+        let (from, to) = (target.get() as usize, source.get() as usize);
+        if count == 0 || count_at(self.counts.as_slice(), from) < count || self.moves < count {
             return Ok(());
         }
-        let place = source.get() as usize;
-        grow_counts(&mut self.counts, place)?;
-        self.counts[target.get() as usize] = there - count;
-        self.counts[place] = self.counts[place].saturating_add(count);
+        shift_counts(&mut self.counts, from, to, count)?;
         self.moves -= count;
         Ok(())
     }
