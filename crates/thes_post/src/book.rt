@@ -171,6 +171,7 @@ impl Book {
         requires apart { source ≢ target }
         ensures ok { OnOk result (HasRoomForMoves source target count self.old
             → CountsAfterMoves source target count self.old self.new) }
+        ensures fewer { count_of self.old source < count → self.new ≡ self.old }
         ensures err { OnErr result (self.new ≡ self.old) }
     {
         let (from, to) = (source.get() as usize, target.get() as usize);
