@@ -12,7 +12,7 @@ ghost use Rattle.thes_core.specs.UndoLogs.{IsUndoStep, StepsLead};
 use crate::facts::Facts;
 use crate::losses::Lost;
 use crate::machine::Core;
-use std::alloc::{AllocError, Global};
+use std::alloc::Global;
 use std::marker::Model;
 use thes_base::fault::Fault;
 use thes_base::request::Command;
@@ -92,12 +92,13 @@ impl Core {
         let lost = self.lost_by_request(&command, facts)?;
         self.apply(&command, facts)?;
         match log.steps.push(UndoStep { command, lost }) {
-            Ok(()) => Ok(()),
-            Err(AllocError) => {
+            Ok(()) => {}
+            Err(_) => {
                 self.spent = true;
-                Err(Fault::OutOfMemory)
+                return Err(Fault::OutOfMemory);
             }
         }
+        Ok(())
     }
 
     // Takes back the request that was applied last. If memory runs out, the core is unusable.

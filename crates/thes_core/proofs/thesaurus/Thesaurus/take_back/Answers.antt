@@ -85,6 +85,13 @@ returns-in-Split-clause-counts c =
     (back s c.args.lost.now (subst (λ (x : Command). ArePartsAfter x s c.args.self.now) is after)))
     c.take_back_split.ensures.counts
 
+pub returns-in-Merge-clause-counts : goal.returns-in-Merge-clause-counts
+returns-in-Merge-clause-counts c =
+    follows_if_ok c.take_back_merge.result _ _ (λ back s after.
+    subst (λ (x : Command). AreCountsTakenBack x s c.args.lost.now c.args.self.now c.take_back_merge.new.self)
+    (sym c.in-Merge.is) (back s (subst (λ (x : Command). ArePartsAfter x s c.args.self.now) c.in-Merge.is after)))
+    c.take_back_merge.ensures.counts
+
 pub returns-in-Scheme-clause-parts : goal.returns-in-Scheme-clause-parts
 returns-in-Scheme-clause-parts c = λ s after lost. c.take_back_named.ensures.parts s
     (scheme_created c.args.self.now c.in-Scheme.tag c.in-Scheme.text s
