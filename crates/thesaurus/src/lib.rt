@@ -58,15 +58,16 @@
 //!   `Book::take_back_moves`, `Book::take_back_withdrawal`, `CellBytes::new`, `CellText::new`,
 //!   `Command::try_clone`, `Core::broader_of`, `Core::collections_of`, `Core::labels_of_kind`,
 //!   `Core::mappings`, `Core::narrower_of`, `Core::related_of`, `Core::replacements`, `Core::term`,
-//!   `Core::typed_of`, `Delta::push`, `Graph::add`, `Graph::broader_of`, `Graph::check_whole`,
-//!   `Graph::collections_of`, `Graph::contract`, `Graph::mappings`, `Graph::mark_outside`,
-//!   `Graph::merge_additions`, `Graph::narrower_of`, `Graph::related_of`, `Graph::typed_of`,
-//!   `History::try_clone`, `Iri::try_clone`, `Key::try_clone`, `Label::try_clone`,
-//!   `LabelValue::try_clone`, `NewResource::try_clone`, `Note::try_clone`, `PostingRow::try_clone`,
-//!   `RecordName::try_clone`, `Routes::new`, `Sequence::push`, `Sequence::try_clone`,
-//!   `Tag::try_clone`, `Text::try_clone`, `Vocab::add_label`, `Vocab::add_resource`,
-//!   `Vocab::missing_labels`, `Vocab::relabel`, `Vocab::replacements`, `Vocab::take_labels`,
-//!   `check_at`, `concept_view`, `judge_add`, `judge_contract`, `sort_key`
+//!   `Core::typed_of`, `Delta::push`, `Graph::add`, `Graph::add_all`, `Graph::broader_of`,
+//!   `Graph::check_whole`, `Graph::collections_of`, `Graph::contract`, `Graph::mappings`,
+//!   `Graph::mark_outside`, `Graph::merge_additions`, `Graph::narrower_of`, `Graph::related_of`,
+//!   `Graph::typed_of`, `History::try_clone`, `Iri::try_clone`, `Key::try_clone`,
+//!   `Label::try_clone`, `LabelValue::try_clone`, `NewResource::try_clone`, `Note::try_clone`,
+//!   `PostingRow::try_clone`, `RecordName::try_clone`, `Routes::new`, `Sequence::push`,
+//!   `Sequence::try_clone`, `Tag::try_clone`, `Text::try_clone`, `Vocab::add_label`,
+//!   `Vocab::add_resource`, `Vocab::missing_labels`, `Vocab::relabel`, `Vocab::replacements`,
+//!   `Vocab::take_back_death`, `Vocab::take_labels`, `check_at`, `concept_view`, `judge_add`,
+//!   `judge_contract`, `sort_key`
 //! - `ReadStop`: a text lacks its form, or a line is no request, or memory ran out. `Base::read`,
 //!   `Iri::read`, `Key::read`, `Note::read`, `RecordName::read`, `Tag::read`, `Text::read`,
 //!   `read_request`
@@ -75,12 +76,12 @@
 //!   `ResNo::read`
 //! - `Fault`: memory ran out (`OutOfMemory`), the storage failed (`Store`), or its rows have
 //!   another version or aren't those of a state. Nothing is committed; of an `Office::run` the
-//!   commands that were answered stay performed. A `Core::apply` or `Core::step` may leave the
-//!   core spent. `Core::apply`, `Core::apply_logged`, `Core::decide`, `Core::step`,
-//!   `Keeper::commit`, `Keeper::find`, `Keeper::load`, `Keeper::posting`, `Keeper::row`,
-//!   `Keeper::standing`, `Keeper::standing_numbers`, `Loader::finish`, `Office::perform`,
-//!   `Office::posting`, `Office::postings`, `Office::ready`, `Office::run`, `Office::run_plan`,
-//!   `Office::totals`, `PostingSink::posting`, `RequestHandler::perform`,
+//!   commands that were answered stay performed. A `Core::apply`, `Core::apply_logged` or
+//!   `Core::step` may leave the core spent. `Core::apply`, `Core::apply_logged`, `Core::decide`,
+//!   `Core::step`, `Keeper::commit`, `Keeper::find`, `Keeper::load`, `Keeper::posting`,
+//!   `Keeper::row`, `Keeper::standing`, `Keeper::standing_numbers`, `Loader::finish`,
+//!   `Office::perform`, `Office::posting`, `Office::postings`, `Office::ready`, `Office::run`,
+//!   `Office::run_plan`, `Office::totals`, `PostingSink::posting`, `RequestHandler::perform`,
 //!   `RequestHandler::perform_plan`, `RequestHandler::show`, `RowSink::report_unqueried`,
 //!   `RowSink::row`, `SqlKeeper::commit_changes`, `SqlKeeper::migrate`, `from_rows`
 //! - A fault with what was passed in: `Office::start` returns the storage, `SqlKeeper::create` the
