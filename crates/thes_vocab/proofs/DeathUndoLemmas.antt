@@ -130,41 +130,41 @@ module _ (n : ℕ) (replaced : Option ℕ) (before after : Vocabulary) (was : Is
           (keeps : KeepsNames old new)
           (put : (l : LabelData) → has_own own l ≡ true → HasLabelEntry new (concept_scheme now) l n)
           (roomy : HaveSameValues listed room) (inserts : ConceptListsAfterInsert room full (concept_scheme now) n)
-          where
-        was_kept : IsConsistentVocabulary before.base with_dead before.iris before.labels old listed
-        was_kept = subst (λ (v : Vocabulary). IsConsistentVocabulary v.base v.resources v.iris v.labels old listed)
-            seen_dead kept
+        where
+          was_kept : IsConsistentVocabulary before.base with_dead before.iris before.labels old listed
+          was_kept = subst (λ (v : Vocabulary). IsConsistentVocabulary v.base v.resources v.iris v.labels old listed)
+              seen_dead kept
 
-        owns_before : AreLabelsOf before.labels n own
-        owns_before = subst (λ (v : Vocabulary). AreLabelsOf v.labels n own) seen_dead owns
+          owns_before : AreLabelsOf before.labels n own
+          owns_before = subst (λ (v : Vocabulary). AreLabelsOf v.labels n own) seen_dead owns
 
-        scheme_now : concept_scheme now ≡ concept.scheme
-        scheme_now = ap concept_scheme now_is ∙ scheme_is
+          scheme_now : concept_scheme now ≡ concept.scheme
+          scheme_now = ap concept_scheme now_is ∙ scheme_is
 
-        holders_found : AreHoldersIndexed before.resources before.labels new
-        holders_found s m t x h = elim (concept_after before.resources n replaced concept at_number listed listed s m h.0) [
-          | inl stays ↦ keeps s m t x (was_kept.found s m t x (stays, h.1))
-          | inr here ↦ subst (λ k. HasNameEntry new s t x k) (sym here.1)
-              (put (own_label Pref t x) (has_name here.1 h.1) refl s (scheme_now ∙ here.0))
-        ]
-          where
-            has_name : m ≡ n → HasLabel before.labels m Pref t x → has_own own (own_label Pref t x) ≡ true
-            has_name same held = owns_before.each (own_label Pref t x)
-                ∙ subst (λ k. HasLabel before.labels k Pref t x) same held
+          holders_found : AreHoldersIndexed before.resources before.labels new
+          holders_found s m t x h = elim (concept_after before.resources n replaced concept at_number listed listed s m h.0) [
+            | inl stays ↦ keeps s m t x (was_kept.found s m t x (stays, h.1))
+            | inr here ↦ subst (λ k. HasNameEntry new s t x k) (sym here.1)
+                (put (own_label Pref t x) (has_name here.1 h.1) refl s (scheme_now ∙ here.0))
+          ]
+            where
+              has_name : m ≡ n → HasLabel before.labels m Pref t x → has_own own (own_label Pref t x) ≡ true
+              has_name same held = owns_before.each (own_label Pref t x)
+                  ∙ subst (λ k. HasLabel before.labels k Pref t x) same held
 
-        concepts_listed : AreListings nat_cmp (IsConceptOf before.resources) full
-        concepts_listed = listed_alive before.resources n replaced concept at_number room full was.live concept.scheme
-            refl (subst (λ o. ConceptListsAfterInsert room full o n) scheme_now inserts)
-            (listings_same nat_cmp (IsConceptOf with_dead) (IsConceptOf with_dead) listed room roomy (λ s m c. c)
-            (λ s m c. c) was_kept.listed)
+          concepts_listed : AreListings nat_cmp (IsConceptOf before.resources) full
+          concepts_listed = listed_alive before.resources n replaced concept at_number room full was.live concept.scheme
+              refl (subst (λ o. ConceptListsAfterInsert room full o n) scheme_now inserts)
+              (listings_same nat_cmp (IsConceptOf with_dead) (IsConceptOf with_dead) listed room roomy (λ s m c. c)
+              (λ s m c. c) was_kept.listed)
 
-        pub kept_before_death : IsConsistentVocabulary base (set_entry_at rs n now) iris labels new full
-        kept_before_death =
-            let again : IsConsistentVocabulary before.base before.resources before.iris before.labels new full = record {
-              legal = was.legal;
-              named = was.named;
-              found = holders_found;
-              listed = concepts_listed;
-            } in
-            subst (λ (v : Vocabulary). IsConsistentVocabulary v.base v.resources v.iris v.labels new full)
-            (sym vocabulary_before_death) again
+          pub kept_before_death : IsConsistentVocabulary base (set_entry_at rs n now) iris labels new full
+          kept_before_death =
+              let again : IsConsistentVocabulary before.base before.resources before.iris before.labels new full = record {
+                legal = was.legal;
+                named = was.named;
+                found = holders_found;
+                listed = concepts_listed;
+              } in
+              subst (λ (v : Vocabulary). IsConsistentVocabulary v.base v.resources v.iris v.labels new full)
+              (sym vocabulary_before_death) again

@@ -50,7 +50,7 @@ pub returns-then-has-2-clause-outcome : goal.returns-then-has-2-clause-outcome
 returns-then-has-2-clause-outcome g c = record {
   verdict =
       HasCycle-met (Holds (g.L.Links.net c.args.links.now).links) c.args.search.now.nodes c.args.done.now
-          c.args.search.now.stack.items
+      c.args.search.now.stack.items
       c.args.last c.requires c.in-Some.high
       (last_above c.args.last.above.items c.in-Some.high (c.in-Some.ensures ∙ rw c.deref.ensures.value
       at c.last.ensures.value))
