@@ -102,4 +102,5 @@ module _ (before : List Resource) (marks : FinSet nat_cmp)
 
       back : IsOutside before n → set.contains (set.remove marks (length before + 1)) n ≡ true
       back out = removed_kept nat_cmp_total exact_unsigned marks (length before + 1) n (outside_apart n out)
-          (knows n ∙ outside_test (before ++ outside_resource ∷ []) n (passes_push before outside_resource is_out n out))
+          (knows n ∙ outside_test (before ++ outside_resource ∷ []) n
+          (passes_push before outside_resource is_out n out))

@@ -33,7 +33,7 @@ use Rattle.thes_tables.specs.declared.rows.PostingRow.{PostingRow}
 use Rattle.thes_core.specs.Facts.{AreFacts}
 use Rattle.thes_core.specs.Losses.{IsLostFromParts, IsLostFromPostings}
 use Rattle.thes_core.specs.NamedPostings.{first_named_posting}
-use Rattle.thes_core.specs.PartsView.{parts_state, parts_view, setting_of, AreLegal}
+use Rattle.thes_core.specs.PartsView.{parts_view, setting_of, AreLegal}
 use Rattle.thes_core.specs.Requests.{PartsOfState}
 use Rattle.thes_core.specs.UndoLogs.{ArePartsAfter, ArePartsTakenBack, AreCountsTakenBack, IsAcceptedOnParts, IsLogOf}
 use Rattle.thes_core.specs.UndoLogs.{IsUndoStep}
@@ -78,7 +78,8 @@ module _ (k : CoreView) (steps rest : List UndoStep) (step : UndoStep) (is : ste
 
   -- Once it is taken back, the rest of the log is one of the core.
   pub log_of_rest : (now : CoreView) → now.setting ≡ k.setting
-      → ((s : State) → LeadsWithoutPostings k.setting s step (with_histories [] k) → with_histories [] now ≡ without_postings s)
+      → ((s : State) → LeadsWithoutPostings k.setting s step (with_histories [] k)
+      → with_histories [] now ≡ without_postings s)
       → IsLogOf rest now
   log_of_rest now set parts =
       let mid = last_of_log.0 in
@@ -203,7 +204,8 @@ module _ (command shown : Command) (is : command ≡ shown) (s : State) (old new
   pub lost_of_command : (lost : Lost) → IsLostFromParts command s lost → IsLostFromParts shown s lost
   lost_of_command lost = subst (λ (x : Command). IsLostFromParts x s lost) is
 
-  pub counts_of_command : (lost : Lost) → AreCountsTakenBack shown s lost old new → AreCountsTakenBack command s lost old new
+  pub counts_of_command : (lost : Lost) → AreCountsTakenBack shown s lost old new
+      → AreCountsTakenBack command s lost old new
   counts_of_command lost = subst (λ (x : Command). AreCountsTakenBack x s lost old new) (sym is)
 
 -- The counts before a new posting.
@@ -327,7 +329,11 @@ lost_from_view k s command lost holds is = subst (λ (x : State). IsLostFromPart
         → IsLostFromParts c (with_histories s.histories k) l
     bare (request.Relabel owner tag text keep) (Preferred old) x = x
     bare (request.Deprecate concept) (Links row) x = x
-    bare (request.Merge source target) (Merge loss) x = record { links = x.links; additions = x.additions; copies = x.copies }
+    bare (request.Merge source target) (Merge loss) x = record {
+      links = x.links;
+      additions = x.additions;
+      copies = x.copies;
+    }
     bare _ _ x = x
 
 -- A request that is applied and appended to a log keeps it a log of the core.

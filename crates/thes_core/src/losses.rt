@@ -32,8 +32,8 @@ pub struct MergeLoss {
     pub moves: u32,
 }
 
-/// What an accepted request takes from the state, or adds to it, without naming it, as far as taking
-/// the request back needs it.
+/// What an accepted request takes from the state, or adds to it, without naming it, as far as
+/// taking the request back needs it.
 #[derive(Debug, Drop)]
 pub enum Lost {
     /// Nothing, since the request names all that it changes.

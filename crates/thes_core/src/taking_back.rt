@@ -147,7 +147,8 @@ impl Thesaurus {
     // Takes back the removal of a link.
     fn take_back_unlink(&mut self, kind: LinkKind, a: ResNo, b: ResNo) -> Result<(), AllocError>
         requires { (s : State) × ArePartsAfter (request.Unlink kind a b) s self.old }
-        ensures parts { OnOk result ((s : State) → ArePartsAfter (request.Unlink kind a b) s self.old
+        ensures parts { OnOk result ((s : State)
+            → ArePartsAfter (request.Unlink kind a b) s self.old
             → PartsOfState self.old (without_postings s) self.new) }
         ensures book { OnOk result (self.new.book ≡ self.old.book) }
     {
@@ -209,7 +210,7 @@ impl Thesaurus {
         self.book.take_back_post(way.place, way.steps);
     }
 
-    // Takes back the count of a withdrawal, if the concept to which the posting was assigned is known.
+    // Takes back the count of a withdrawal, if the place of the posting is known.
     fn take_back_withdrawal(&mut self, lost: &Lost) -> Result<(), AllocError>
         ensures same { OnOk result (self.new ≡ record self.old { book = self.new.book }) }
         ensures counts { OnOk result ((posting : ℕ) (s : State)

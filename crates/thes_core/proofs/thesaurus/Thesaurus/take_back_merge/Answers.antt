@@ -1,4 +1,4 @@
-use Rattle.std.proofs.Common.{◌≡◌, ◌∙◌, List, ap, subst, sym}
+use Rattle.std.proofs.Common.{◌∙◌, List, ap, subst, sym}
 use Rattle.std.specs.Prelude.{Some}
 use Rattle.std.specs.FinSet as set
 use Rattle.thes_base.specs.declared.data.Link.{Link}
