@@ -10,7 +10,7 @@ use Rattle.thes_base.specs.State.{State}
 use Rattle.thes_display.specs.Alphabetical.{IsHeadedBy, heading_cmp}
 use Rattle.thes_display.specs.HierarchyParts.{rank_at}
 use Rattle.thes_display.specs.Order.{Term, term_cmp}
-use Rattle.thes_display.specs.declared.entry.Heading.{Heading}
+use Rattle.thes_display.specs.declared.heading.Heading.{Heading}
 use Rattle.thes_display.specs.declared.heading_index.HeadingIndex.{HeadingIndex}
 
 -- The heading at this place is the concept's own.

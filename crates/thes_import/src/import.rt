@@ -96,7 +96,7 @@ fn import_bytes<W: Write, K: Keeper>(
         return Err(ImportStop::at_start(PipeFault::Fault(Fault::OutOfMemory)));
     };
     write_report(writer, budget, &mut report)?;
-    while reader.unread > 0 {
+    while reader.has_more {
         let done = import_block(alloc, office, &mut reader, &mut report);
         // Before the next block, so that a killed import has reported all but one (DECISIONS.md,
         // Posting files); and before the fault of the office, whose report may be cut short (The

@@ -1,6 +1,7 @@
-use Rattle.std.proofs.Common.{◌∙◌, ◌++◌, ◌∷◌, [], sym, ap, subst, Bool, append_assoc}
+use Rattle.std.proofs.Common.{◌∙◌, ◌++◌, ◌∷◌, [], sym, ap, subst, Bool, append_assoc, codes, refl}
 use Rattle.thes_core.specs.CoreView.{with_histories}
-use Rattle.thes_display.specs.Alphabetical.{AreLinesOf, AreTexts, IsEntryOf, symbols}
+use Rattle.thes_core.specs.Terms.{term_text}
+use Rattle.thes_display.specs.Alphabetical.{AreLinesOf, AreTexts, IsEntryOf, entry_line, symbols}
 use Rattle.thes_display.proofs.entry.write_entry.Goals as goal
 
 -- The text appended for a concept is its entry.
