@@ -9,6 +9,7 @@ ghost use Rattle.thes_display.specs.Alphabetical.{AreTexts, IsAlphabetical, IsEn
 ghost use Rattle.thes_display.specs.EntryTerms.{AreLinkedUnder, AreSides, IsForLabels, symbol_on};
 ghost use Rattle.thes_display.specs.EntrySource.{AreSourceLines, IsEntrySource};
 ghost use Rattle.thes_display.specs.HeadingIndex.{term_at};
+ghost use Rattle.thes_display.specs.LabelTexts.{label_lines, term_lines};
 
 use crate::entry_terms::{Side, Sides, labels_in, linked_concepts, sides_of, sorted_labels, sorted_terms_of};
 use crate::heading::{Heading, headings_of};
@@ -45,8 +46,7 @@ struct EntrySource<'a> {
 
 // Appends the lines of one symbol for these terms.
 fn write_terms(text: &mut Vec<u8>, terms: &[Term], symbol: Symbol) -> Result<(), AllocError>
-    ensures { let line = λ t. entry_line (symbol_text symbol) t.text in
-        OnOk result (text.new.items ≡ text.old.items ++ flat_map line terms.now) }
+    ensures { OnOk result (text.new.items ≡ text.old.items ++ term_lines symbol terms.now) }
 {
     for term in terms {
         push_entry_line(text, symbol.text().as_bytes(), term.text())?;
@@ -56,8 +56,7 @@ fn write_terms(text: &mut Vec<u8>, terms: &[Term], symbol: Symbol) -> Result<(),
 
 // Appends the lines of one symbol for these labels.
 fn write_texts(text: &mut Vec<u8>, labels: &[&Label], symbol: Symbol) -> Result<(), AllocError>
-    ensures { let line = λ l. entry_line (symbol_text symbol) l.now.text in
-        OnOk result (text.new.items ≡ text.old.items ++ flat_map line labels.now) }
+    ensures { OnOk result (text.new.items ≡ text.old.items ++ label_lines symbol labels.now) }
 {
     for label in labels {
         push_entry_line(text, symbol.text().as_bytes(), label.text().as_bytes())?;
