@@ -52,9 +52,9 @@ unfolding IsStrictlySortedBy
 rises_mapped f cmp order [] less s = tt
 rises_mapped f cmp order (x ∷ xs) less s = (
   all_of _ (map f xs) (λ z a.
-  let y = among_map f z xs a in
-  subst (λ w. order (f x) w ≡ Less) (sym y.2)
-  (less x y.0 (inl refl) (inr y.1) (each_of _ xs y.0 s.0 y.1))),
+      let y = among_map f z xs a in
+      subst (λ w. order (f x) w ≡ Less) (sym y.2)
+      (less x y.0 (inl refl) (inr y.1) (each_of _ xs y.0 s.0 y.1))),
   rises_mapped f cmp order xs (λ y z a b. less y z (inr a) (inr b)) s.1,
 )
 

@@ -11,7 +11,9 @@ ghost use Rattle.thes_display.specs.EntrySource.{AreSourceLines, IsEntrySource};
 ghost use Rattle.thes_display.specs.HeadingIndex.{term_at};
 ghost use Rattle.thes_display.specs.LabelTexts.{label_lines, term_lines};
 
-use crate::entry_terms::{Side, Sides, labels_in, linked_concepts, sides_of, sorted_labels, sorted_terms_of};
+use crate::entry_terms::{
+    Side, Sides, labels_in, linked_concepts, sides_of, sorted_labels, sorted_terms_of,
+};
 use crate::heading::{Heading, headings_of};
 use crate::heading_index::{HeadingIndex, index_of, sorted_places};
 use crate::ranks::rank_of;
@@ -127,12 +129,7 @@ fn write_concepts(
 {
     let index = source.index;
     match sorted_places(source.alloc, index.places.as_slice(), concepts)? {
-        Some(places) => write_places(
-            text,
-            index.headings.as_slice(),
-            places.as_slice(),
-            symbol,
-        ),
+        Some(places) => write_places(text, index.headings.as_slice(), places.as_slice(), symbol),
         None => {
             let terms = sorted_terms_of(source.alloc, source.core, concepts, source.tag)?;
             write_terms(text, terms.as_slice(), symbol)
