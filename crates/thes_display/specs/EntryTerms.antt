@@ -51,9 +51,9 @@ HasNoTypedLink links n = (t : TypedKind × ℕ) → IsTypedLink links n t → �
 -- link has a type only if none has.
 pub record AreSides (links : Links) (sides : Sides) : Type 0 where
   pub each_side : (side : Side) → IsListing nat_cmp (IsOnSide links side sides.concept) (concepts_on sides side)
-  pub related : IsListing nat_cmp
+  pub each_associate : IsListing nat_cmp
       (λ m. HasLink links kinds.Related sides.concept m ⊎ HasLink links kinds.Related m sides.concept)
-      sides.related.items
+      sides.associates.items
   pub no_typed_link : sides.is_typed ≡ false → HasNoTypedLink links sides.concept
 
 -- The symbol is for linked concepts, and the list has those of concept `n`.

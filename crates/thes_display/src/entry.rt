@@ -181,7 +181,7 @@ fn write_symbol(
         Symbol::UsedFor => write_labels(source, text, n, LabelKind::Alt, symbol),
         Symbol::Broader(hierarchy) => write_side(source, text, sides, Side::Broader, hierarchy),
         Symbol::Narrower(hierarchy) => write_side(source, text, sides, Side::Narrower, hierarchy),
-        Symbol::Related => write_concepts(source, text, sides.related.as_slice(), symbol),
+        Symbol::Related => write_concepts(source, text, sides.associates.as_slice(), symbol),
     }
 }
 

@@ -135,7 +135,7 @@ pub struct Sides {
     pub concept: ResNo,
     pub broader: Vec<ResNo>,
     pub narrower: Vec<ResNo>,
-    pub related: Vec<ResNo>,
+    pub associates: Vec<ResNo>,
     pub is_typed: bool,
 }
 
@@ -158,7 +158,7 @@ pub fn sides_of(alloc: Global, core: &Core, n: ResNo) -> Result<Sides, AllocErro
         concept: n,
         broader: core.broader_of(alloc, n)?,
         narrower: core.narrower_of(alloc, n)?,
-        related: core.related_of(alloc, n)?,
+        associates: core.related_of(alloc, n)?,
         is_typed: has_typed_link(alloc, core, n)?,
     })
 }

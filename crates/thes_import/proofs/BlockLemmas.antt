@@ -40,7 +40,7 @@ block_fits reader reader' counts rows c reads =
     let all = ap (λ (l : List CsvRow). length l) o.all in
     let both = length-append (c.first ++ rows) o.others in
     let parts = length-append c.first rows in
-    omega (arith, all, both, parts, c.counted, h.fits)
+    omega (arith, all, both, parts, c.count_is, h.fits)
 
 performs_none : (limits : Limits) (raw : Raw) (base : List ℕ) (s : State) → TablesOfState raw base s
     → IsConsistentState base s → PerformsRows limits raw [] [] raw

@@ -160,7 +160,7 @@ module _ {K : Type 0} (view : K → StorageView) where
         rows = so_far.rows;
         first = so_far.first;
         reads = so_far.reads;
-        counted = omega (arith, a, b, c);
+        count_is = omega (arith, a, b, c);
       }
 
   -- One more block leaves fewer rows that can be counted.
@@ -176,7 +176,7 @@ module _ {K : Type 0} (view : K → StorageView) where
       let parts = length-append so_far.outcomes block.outcomes in
       let as_many = AllZip-long IsOutcome block.rows block.outcomes block.performs.each in
       let first = AllZip-long IsOutcome so_far.first so_far.outcomes so_far.performs.each in
-      omega (arith, small, now, all, parts, as_many, first, before.counted, block.some)
+      omega (arith, small, now, all, parts, as_many, first, before.count_is, block.some)
 
   -- After one more block, the report has the text of all outcomes so far.
   pub text_after : (old mid : OfficeView K) (file : List ℕ) (reader : RowReader) (report report' : Report)

@@ -30,7 +30,7 @@ pub record CountsRowsRead (reader : RowReader) (counts : Counts) : Type 0 where
   pub rows : List CsvRow
   pub first : List CsvRow
   pub reads : HasReadRows file rows first reader
-  pub counted : row_count counts ≡ length first
+  pub count_is : row_count counts ≡ length first
 
 module _ {K : Type 0} (view : K → StorageView) where
   -- These rows were performed, with these outcomes.
