@@ -4,6 +4,7 @@ from __future__ import annotations
 
 import re
 import subprocess
+from itertools import pairwise
 
 import pytest
 from program import ROOT
@@ -43,16 +44,43 @@ def test_repeated_clauses_come_by_their_number(rows: dict[str, list[int]]) -> No
     assert all(re.match(r" *\d+ (requires|ensures)\*? \{.*\}$", it) for it in clauses)
 
 
+def ways(lines: list[str]) -> list[list[str]]:
+    """The functions of each way that the tool prints, as crate::file::name or crate::file::Type::name."""
+    found: list[list[str]] = []
+    for line in lines:
+        if " calls from " in line:
+            found.append([])
+        elif match := re.fullmatch(r" +\d+ +\d+  (\w\S*)", line):
+            found[-1].append(match[1])
+    return found
+
+
 def test_each_function_of_a_way_calls_the_next_one() -> None:
-    sources = {
-        (it.relative_to(ROOT).parts[1], it.stem): it.read_text(encoding="utf-8")
-        for it in ROOT.glob("crates/thes_*/src/**/*.rt")
-    }
+    sources: dict[tuple[str, str], str] = {}
+    for path in ROOT.glob("crates/thes_*/src/**/*.rt"):
+        place = path.relative_to(ROOT).parts[1], path.stem
+        sources[place] = sources.get(place, "") + path.read_text(encoding="utf-8")
     status, lines = counts("--way")
-    assert not status and len([it for it in lines if " calls from " in it]) == 2 and lines[-1].endswith("Core::decide")
-    names = [it.split()[-1].split("::") for it in lines if re.match(r" +\d+ +\d+  \w", it)]
-    for one, other in zip(names, names[1:]):
-        assert one[-1] == other[-1] or re.search(rf"\b{other[-1]}(::<[^()]*>)?\(", sources[one[0], one[1]]), one
+    found = [[it.split("::") for it in way] for way in ways(lines)]
+    ends = [way[-1][-1] for way in found]
+    assert not status and ends == ["script", "decide", "judge_contract", "commit_changes", "hierarchical_text"]
+    for one, other in (it for way in found for it in pairwise(way)):
+        assert re.search(rf"\b{other[-1]}(::<[^()]*>)?\(", sources[one[0], one[1]]), one
+
+
+def test_the_number_of_calls_is_that_of_a_way() -> None:
+    lines = counts("--way")[1]
+    numbers = [int(it.split()[0]) for it in lines if " calls from " in it]
+    assert numbers == [len(it) - 1 for it in ways(lines)]
+
+
+def test_documented_ways_are_as_long() -> None:
+    """The line of DECISIONS.md on a merge, an import's row and a display."""
+    text = (ROOT / "docs" / "DECISIONS.md").read_text(encoding="utf-8")
+    (said,) = re.findall(
+        r"A merge over a file is (\d+) calls deep, an import's row (\d+), a display by HTTP (\d+)", text
+    )
+    assert [int(it) for it in said] == [len(it) - 1 for it in ways(counts("--way")[1])[2:]]
 
 
 def test_a_way_leads_through_what_is_named() -> None:
