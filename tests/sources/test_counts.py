@@ -44,6 +44,13 @@ def test_repeated_clauses_come_by_their_number(rows: dict[str, list[int]]) -> No
     assert all(re.match(r" *\d+ (requires|ensures)\*? \{.*\}$", it) for it in clauses)
 
 
+def test_functions_with_many_parameters_come_by_their_number() -> None:
+    _, functions = counts("--parameters")
+    found = [int(it.split()[0]) for it in functions]
+    assert found == sorted(found, reverse=True) and min(found) > 5
+    assert {it.split()[1].split("::")[0] for it in functions} <= {it.name for it in (ROOT / "crates").iterdir()}
+
+
 def ways(lines: list[str]) -> list[list[str]]:
     """The functions of each way that the tool prints, as crate::file::name or crate::file::Type::name."""
     found: list[list[str]] = []
