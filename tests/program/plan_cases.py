@@ -352,6 +352,11 @@ WITHIN: list[tuple[str, list[Request], Answer]] = [
     ),
     ("a posting withdrawn before the split", [withdraw(1), split(2, "L", [1])], {"at": 2, "no": "Withdrawn"}),
     ("a posting at what has ended", [deprecate(7), post("k9", 7)], {"at": 2, "no": "NotLive"}),
+    (
+        "a key at a reference and at another number",
+        [concept("C"), concept("D"), post("k9", "$1"), post("k9", 15)],
+        {"at": 4, "no": "KeyReused"},
+    ),
     ("a key with the later concept", [post("k9", 9), post("k9", 2)], {"at": 2, "no": "KeyReused"}),
     ("a posting that isn't made yet", [withdraw(3), post("k9", 2)], {"at": 1, "no": "UnknownPosting"}),
     ("a resource that isn't made yet", [label(14, "L"), concept("C")], {"at": 1, "no": "UnknownResource"}),
@@ -423,6 +428,16 @@ ACCEPTED: list[tuple[str, list[Request], list[Answer]]] = [
     ("a posting at a new concept", [concept("C"), post("k9", "$1"), merge("$1", 3)], [ok(14), ok(3), {"moved": 1}]),
     ("a posting that is known", [post("k1", 2, "r1"), withdraw("$1")], [{"again": 1}, DONE]),
     ("a posting twice", [post("k9", 2), post("k9", 2), withdraw("$2")], [ok(3), {"again": 3}, DONE]),
+    (
+        "a key at a reference and at its number",
+        [concept("C"), post("k9", "$1"), post("k9", 14)],
+        [ok(14), ok(3), {"again": 3}],
+    ),
+    (
+        "a key at a number and at a reference to it",
+        [concept("C"), post("k9", 14), post("k9", "$1"), withdraw("$3")],
+        [ok(14), ok(3), {"again": 3}, DONE],
+    ),
     ("a posting at a merged concept", [post("k9", 9), split(2, "L", ["$1"])], [ok(3), {"moved": 1, "ok": 14}]),
     (
         "a posting at what is merged now",
@@ -483,7 +498,8 @@ def accepted() -> Iterator[Case]:
 # --- Limits ---
 
 # A limit, a plan that exceeds it only for a while or at its end, and the answer.
-LIMITS: list[tuple[str, int, list[Request], Answer]] = [
+LIMITS: list[tuple[str, int, list[Any], Answer]] = [
+    *(("links", 3, plan, {"at": at, "no": "TooMany"}) for at, _, plan in placed(link("broader", 3, 4))),
     ("resources", 14, [concept("C"), concept("D")], {"at": 2, "no": "TooMany"}),
     ("labels", 15, [label(2, "L"), label(3, "M")], {"at": 2, "no": "TooMany"}),
     (
