@@ -47,7 +47,7 @@ class Form:
 class PageReader(HTMLParser):
     """Reads the forms, the links and the text of a page."""
 
-    def __init__(self, text: str) -> None:
+    def __init__(self) -> None:
         super().__init__()
         self.forms: list[Form] = []
         self.form: Form | None = None
@@ -56,7 +56,6 @@ class PageReader(HTMLParser):
         self.options: list[tuple[str, bool]] = []
         self.words: list[str] = []
         self.area_text = ""
-        self.feed(text)
 
     def handle_starttag(self, tag: str, attrs: list[tuple[str, str | None]]) -> None:
         given = {name: value or "" for name, value in attrs}
@@ -149,9 +148,16 @@ class Page:
         return {it for it in self.links() if it[:1] == "#" and f'id="{it[1:]}"' not in self.html}
 
 
+def read_page(html: str) -> PageReader:
+    """Reads a page."""
+    reader = PageReader()
+    reader.feed(html)
+    return reader
+
+
 def strip(html: str) -> str:
     """Returns the text of markup."""
-    return " ".join("".join(PageReader(html).words).split())
+    return " ".join("".join(read_page(html).words).split())
 
 
 class Reader:
@@ -165,7 +171,7 @@ class Reader:
         while answer.status_code in (302, 303):
             answer = self.client.get(answer.headers["Location"].partition("#")[0])
         html = answer.get_data(as_text=True)
-        reader = PageReader(html)
+        reader = read_page(html)
         text = " ".join("".join(reader.words).split())
         page = Page(answer.request.path, answer.status_code, html, reader.forms, text)
         assert not page.dead_links(), f"{page.path}: {page.dead_links()}"

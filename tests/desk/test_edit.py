@@ -4,7 +4,7 @@ from __future__ import annotations
 import pytest
 from asking import view
 from clients import Site
-from reader import Page, PageReader, Reader
+from reader import Page, Reader, read_page
 from thesaurus_desk.performing import Desk
 
 # Concepts of the sample.
@@ -216,7 +216,7 @@ def test_the_next_page_says_what_was_done(reader: Reader, desk: Desk) -> None:
 def test_a_page_has_the_forms_of_the_readers_role(site: Site, name: str, forms: set[str]) -> None:
     post = {"do": "post", "key": "k", "record": "Violin 1668", "concept": VIOLINS}
     assert site.desk.perform("anna", "post", [post]).is_done
-    page = PageReader(site.client(name).get(f"/c/{VIOLINS}").get_data(as_text=True))
+    page = read_page(site.client(name).get(f"/c/{VIOLINS}").get_data(as_text=True))
     found = {it.name.removesuffix(f"Generic-{BOWED}-broaderGeneric") for it in page.forms if it.name}
     assert forms <= found and (found <= forms if name in ("rita", "ina") else True)
     assert ("deprecate" in found) == (name == "anna")

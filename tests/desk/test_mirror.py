@@ -16,7 +16,7 @@ from thesaurus_desk.mirror import Link, Mirror, read_mirror
 from thesaurus_desk.mirror.foresee import Broken, foresee_merge, rule_broken_by_link, rule_broken_by_merge
 from thesaurus_desk.mirror.rules import CHECKS, refusal_of
 from thesaurus_desk.performing import Desk
-from thesaurus_tools.export_store import ExportStore
+from thesaurus_tools.export_store import store_of_export
 from thesaurus_tools.kinds import BROADER
 from thesaurus_tools.ntriples import parse_ntriples
 
@@ -66,7 +66,7 @@ def assert_as_views(desk: Desk) -> None:
 
 def assert_as_export(desk: Desk) -> None:
     """The mirror has the labels and links of a fresh export, which has no types of links."""
-    export = ExportStore("export", parse_ntriples(desk.program.export(), "export"), BASE)
+    export = store_of_export("export", parse_ntriples(desk.program.export(), "export"), BASE)
     mirror = desk.mirror
     labels = {(it.number, *label) for it in mirror.resources.values() for label in it.labels}
     assert labels == {tuple(it) for it in export.labels}

@@ -9,7 +9,7 @@ from typing import Any
 
 import pytest
 from clients import Client, Site, hold_up_once, text_of
-from reader import PageReader
+from reader import read_page
 from test_changes import number, perform
 from thesaurus_desk.performing import Outcome
 
@@ -237,7 +237,7 @@ def test_a_proposal_that_would_be_refused(
     about = {"concept": str(number(site, concept)), "other": ""} if concept else {}
     sent = {"form": "propose", "reason": "Visitors say so.", "tag": "en", "text": "", **about, **values}
     answer = rita.post("/propose", sent)
-    page = PageReader(answer.text)
+    page = read_page(answer.text)
     (form,) = [it for it in page.forms if it.name == "propose"]
     assert answer.status_code == 409 and form.invalid == {field}
     assert part in form.text and " ".join("".join(page.words).split()).count(part) == 1
@@ -256,7 +256,7 @@ def test_a_new_concept_that_is_alike(site: Site, rita: Client) -> None:
         "reason": "They say so.",
     }
     answer = rita.post("/propose", sent)
-    page = PageReader(answer.text)
+    page = read_page(answer.text)
     (form,) = [it for it in page.forms if it.name == "propose"]
     assert answer.status_code == 409 and form.invalid == {"text"} and form.value("text") == "VIOLÍNS"
     assert f'href="/c/{number(site, "Violins")}"' in answer.text
@@ -271,7 +271,7 @@ def test_a_proposal_about_a_concept_that_has_ended(site: Site, rita: Client) -> 
     asked = {"form": "propose", "reason": "They say so.", "concept": str(fiddles), "kind": "alt", "tag": "en"}
     for concept, part in ((str(fiddles), "Fiddles was merged into Violins"), ("999", "No concept has the number 999")):
         answer = rita.post("/propose", {**asked, "concept": concept, "text": "Folk fiddles"})
-        (form,) = [it for it in PageReader(answer.text).forms if it.name == "propose"]
+        (form,) = [it for it in read_page(answer.text).forms if it.name == "propose"]
         assert answer.status_code == 409 and part in form.text
         assert (form.value("text"), form.value("reason")) == ("Folk fiddles", "They say so.")
     assert rita.post("/propose", {**asked, "concept": "", "text": "x"}).status_code == 400

@@ -57,7 +57,7 @@ TYPES: dict[str, str] = {"Generic": "G", "Partitive": "P", "Instantial": "I"}
 class Document(HTMLParser):
     """A page: its faults, its links, the names of its places, and its rows, the heading with the lines."""
 
-    def __init__(self, text: str) -> None:
+    def __init__(self) -> None:
         super().__init__()
         self.faults: list[str] = []
         self.links: list[tuple[str, str]] = []
@@ -65,10 +65,6 @@ class Document(HTMLParser):
         self.rows: list[list[str]] = []
         self.open: list[str] = []
         self.title = ""
-        self.feed(text)
-        self.close()
-        if self.open:
-            self.faults.append(f"{self.open} isn't closed")
 
     def handle_starttag(self, tag: str, attrs: list[tuple[str, str | None]]) -> None:
         given = {name: value or "" for name, value in attrs}
@@ -107,12 +103,22 @@ class Document(HTMLParser):
         return found
 
 
+def read_document(path: Path) -> Document:
+    """Reads a page."""
+    document = Document()
+    document.feed(path.read_text(encoding="utf-8"))
+    document.close()
+    if document.open:
+        document.faults.append(f"{document.open} isn't closed")
+    return document
+
+
 class Site:
     """The pages of a site, as documents by their paths."""
 
     def __init__(self, root: Path) -> None:
         self.root = root.resolve()
-        self.documents = {it: Document(it.read_text(encoding="utf-8")) for it in sorted(self.root.rglob("*.html"))}
+        self.documents = {it: read_document(it) for it in sorted(self.root.rglob("*.html"))}
 
     def page(self, name: str) -> Document:
         return self.documents[self.root / f"{name}.html"]
@@ -545,5 +551,5 @@ def test_large_site_takes_little_time(room: Path) -> None:
     after = resource.getrusage(resource.RUSAGE_CHILDREN)
     assert not ran.returncode, ran.stderr
     assert after.ru_utime + after.ru_stime - before.ru_utime - before.ru_stime <= MOST_SECONDS
-    last = Document((room / "large" / "fr" / f"{CONCEPTS}.html").read_text(encoding="utf-8"))
+    last = read_document(room / "large" / "fr" / f"{CONCEPTS}.html")
     assert last.lines_of("Termes génériques")

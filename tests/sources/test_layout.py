@@ -111,3 +111,19 @@ def python_files() -> list[Path]:
 def test_few_blocks_are_written_twice(paths: Callable[[], list[Path]], least: int, most: int) -> None:
     found = list(blocks(paths(), least))
     assert len(found) <= most, "\n".join(found)
+
+
+@pytest.mark.parametrize(
+    "package",
+    [
+        "tools/thesaurus_tools",
+        "tools/wrong_bodies",
+        *(f"desk/thesaurus_desk{it}" for it in ("", "/entry", "/journal", "/mirror")),
+    ],
+)
+def test_a_package_lists_its_modules(package: str) -> None:
+    """By their names, in the text of its `__init__.py`."""
+    folder = ROOT / package
+    about = (folder / "__init__.py").read_text(encoding="utf-8").split('"""')[1]
+    modules = {it.stem for it in folder.glob("*.py")} - {"__init__"}
+    assert not modules - {*re.findall(r"\w+", about)}

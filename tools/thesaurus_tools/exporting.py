@@ -7,7 +7,7 @@ from collections.abc import Iterable
 from pathlib import Path
 
 from thesaurus_tools.command_line import REFUSED, ToolError
-from thesaurus_tools.export_store import ExportStore, Properties
+from thesaurus_tools.export_store import Properties, find_base
 from thesaurus_tools.kinds import BROADER
 from thesaurus_tools.ntriples import SKOS, Iri, Triple, parse_ntriples, read_document
 from thesaurus_tools.opening import open_file, open_served
@@ -50,7 +50,7 @@ def base_of(triples: Iterable[Triple]) -> str:
     properties: Properties = defaultdict(list)
     for subject, predicate, target in triples:
         properties[predicate].append((subject, target))
-    return ExportStore.find_base(properties)
+    return find_base(properties)
 
 
 def type_triples(place: Path | str) -> list[Triple]:

@@ -118,12 +118,9 @@ class Block:
     __slots__ = ("number", "text", "count", "names", "uses")
     entry = None
 
-    def __init__(self, number: int, text: str):
+    def __init__(self, number: int, text: str, names: list[str], uses: frozenset[str]):
         self.number, self.text, self.count = number, text, text.count("\n")
-        self.names: list[str] = NAME_MADE.findall(text) if text.startswith('{"as"') else []
-        self.uses: frozenset[str] = (
-            frozenset([name for _, name in NAME_USED.findall(text)]) if '"$' in text else NO_NAMES
-        )
+        self.names, self.uses = names, uses
 
     def claim_names(self, kinds: dict[str, str]) -> bool:
         """Notes in `kinds` what has names, unless a name is given twice, or one is used that no line before the block
@@ -184,6 +181,12 @@ def is_utf8(text: str) -> bool:
     return True
 
 
+def parse_block(number: int, text: str) -> Block:
+    """Returns a block, with the names that its lines give and use."""
+    names = NAME_MADE.findall(text) if text.startswith('{"as"') else []
+    return Block(number, text, names, frozenset(it for _, it in NAME_USED.findall(text)) if '"$' in text else NO_NAMES)
+
+
 def parse_script(data: bytes, file: str, has_blocks: bool = False) -> list[Line | Block]:
     """Returns the requests of a script, in blocks where that may be. Raises ToolError that lists each line that is
     wrong."""
@@ -195,7 +198,7 @@ def parse_script(data: bytes, file: str, has_blocks: bool = False) -> list[Line 
     at, number = 0, 1
     while at < len(text):
         found = BLOCK.match(text, at) if has_blocks else None
-        block = Block(number, found[0]) if found and len(found[0].encode()) <= LONGEST else None
+        block = parse_block(number, found[0]) if found and len(found[0].encode()) <= LONGEST else None
         if block and block.claim_names(kinds):
             parts.append(block)
             at, number = at + len(block.text), number + block.count

@@ -1,13 +1,13 @@
 """A thesaurus read from a program that serves it, elsewhere or where this user doesn't see its files."""
 from __future__ import annotations
 
-from collections.abc import Collection, Iterable, Iterator, Mapping
+from collections.abc import Collection, Iterator, Mapping
 from functools import cached_property
 
 from thesaurus_tools.command_line import REFUSED, ToolError
-from thesaurus_tools.export_store import ExportStore
+from thesaurus_tools.export_store import Contents, ExportStore, read_contents
 from thesaurus_tools.kinds import BROADER
-from thesaurus_tools.ntriples import Triple, parse_ntriples
+from thesaurus_tools.ntriples import parse_ntriples
 from thesaurus_tools.server import Server
 from thesaurus_tools.store import End, Link, Move, Posting, by_ends
 
@@ -17,8 +17,8 @@ class ServedStore(ExportStore):
 
     has_types = True
 
-    def __init__(self, server: Server, triples: Iterable[Triple]):
-        super().__init__(server.name, triples)
+    def __init__(self, server: Server, contents: Contents):
+        super().__init__(server.name, contents)
         self.server = server
         # Links have their types once `links` is asked for.
         self.untyped = self.__dict__.pop("links")
@@ -83,9 +83,10 @@ class ServedStore(ExportStore):
 def read_served(server: Server) -> ServedStore:
     """Reads the export of a server. Raises ToolError if its numbers aren't those of the program."""
     try:
-        store = ServedStore(server, parse_ntriples(server.export(), f"{server.name}/export"))
+        contents = read_contents(server.name, parse_ntriples(server.export(), f"{server.name}/export"))
     except ToolError as error:
         raise ToolError(str(error)) from None  # (what a server exports is no input that can be corrected)
+    store = ServedStore(server, contents)
     number = next((it for it, found in store.resources.items() if found.kind == "concept"), None)
     if number and "number" not in store.look("concept", number):
         raise ToolError(

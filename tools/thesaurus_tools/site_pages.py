@@ -5,6 +5,8 @@ import json
 import re
 from collections import defaultdict
 from collections.abc import Iterable, Iterator
+from dataclasses import dataclass
+from functools import cached_property
 from html import escape
 from pathlib import Path
 
@@ -26,30 +28,87 @@ SCRIPT = '<script src="../site.js" defer></script>\n'
 FEW_TERMS, MOST_DEEP = 500, 100
 
 
+@dataclass(eq=False)
 class Edition:
-    """The pages of one language."""
+    """The pages of one language of a thesaurus that is shown in several, in a folder of their own. Without a title the
+    site has the names of its schemes."""
 
-    def __init__(self, thesaurus: Thesaurus, langs: list[str], title: str, out: Path, lang: str):
-        self.thesaurus, self.lang, self.langs, self.out = thesaurus, lang, langs, out / lang
-        self.words = words_of(lang)
-        self.languages = {it: words_of(it)["language"] for it in langs}
-        self.template = (FILES / "page.html").read_text(encoding="utf-8")
-        self.order = [lang, *(it for it in langs if it != lang)]
-        self.names = {iri: it.name(self.order) for iri, it in thesaurus.resources.items()}
-        self.keys = {iri: sort_key(name) for iri, (name, _) in self.names.items()}
-        self.anchors = {iri: f'<a href="{it.page}.html">{self.name(it)}</a>' for iri, it in thesaurus.resources.items()}
-        self.concepts, self.schemes, self.collections = (
-            self.sorted(thesaurus.of_kind(it)) for it in ("Concept", "ConceptScheme", "Collection")
-        )
-        self.title = title or " · ".join(self.names[it.iri][0] for it in self.schemes) or self.words["scheme"]
-        self.footer = f"{escape(self.title)} · {sum(it.is_live for it in self.concepts)} {self.words['concepts']}"
-        self.member_of: dict[str, list[Resource]] = defaultdict(list)
+    thesaurus: Thesaurus
+    lang: str
+    langs: list[str]
+    given_title: str
+    out: Path
+
+    @cached_property
+    def words(self) -> dict[str, str]:
+        return words_of(self.lang)
+
+    @cached_property
+    def languages(self) -> dict[str, str]:
+        return {it: words_of(it)["language"] for it in self.langs}
+
+    @cached_property
+    def template(self) -> str:
+        return (FILES / "page.html").read_text(encoding="utf-8")
+
+    @cached_property
+    def order(self) -> list[str]:
+        """The languages, this one first."""
+        return [self.lang, *(it for it in self.langs if it != self.lang)]
+
+    @cached_property
+    def names(self) -> dict[str, tuple[str, str]]:
+        """The name of each resource, with its language."""
+        return {iri: it.name(self.order) for iri, it in self.thesaurus.resources.items()}
+
+    @cached_property
+    def keys(self) -> dict[str, tuple]:
+        """By what each resource is sorted."""
+        return {iri: sort_key(name) for iri, (name, _) in self.names.items()}
+
+    @cached_property
+    def anchors(self) -> dict[str, str]:
+        """A link to the page of each resource."""
+        resources = self.thesaurus.resources.items()
+        return {iri: f'<a href="{it.page}.html">{self.name(it)}</a>' for iri, it in resources}
+
+    @cached_property
+    def concepts(self) -> list[Resource]:
+        return self.sorted(self.thesaurus.of_kind("Concept"))
+
+    @cached_property
+    def schemes(self) -> list[Resource]:
+        return self.sorted(self.thesaurus.of_kind("ConceptScheme"))
+
+    @cached_property
+    def collections(self) -> list[Resource]:
+        return self.sorted(self.thesaurus.of_kind("Collection"))
+
+    @cached_property
+    def title(self) -> str:
+        names = " · ".join(self.names[it.iri][0] for it in self.schemes)
+        return self.given_title or names or self.words["scheme"]
+
+    @cached_property
+    def footer(self) -> str:
+        return f"{escape(self.title)} · {sum(it.is_live for it in self.concepts)} {self.words['concepts']}"
+
+    @cached_property
+    def member_of(self) -> dict[str, list[Resource]]:
+        """The collections of each member."""
+        found: dict[str, list[Resource]] = defaultdict(list)
         for it in self.collections:
-            for member in thesaurus.linked(it, "member"):
-                self.member_of[member.iri].append(it)
-        self.letters: dict[str, list[Entry]] = defaultdict(list)
+            for member in self.thesaurus.linked(it, "member"):
+                found[member.iri].append(it)
+        return found
+
+    @cached_property
+    def letters(self) -> dict[str, list[Entry]]:
+        """The lines of A to Z by their letters."""
+        found: dict[str, list[Entry]] = defaultdict(list)
         for entry in sorted(self.find_entries(), key=lambda it: it[:3]):
-            self.letters[letter_of(entry)].append(entry)
+            found[letter_of(entry)].append(entry)
+        return found
 
     def sorted(self, found: Iterable[Resource]) -> list[Resource]:
         return sorted(found, key=lambda it: self.keys[it.iri])

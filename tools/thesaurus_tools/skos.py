@@ -28,6 +28,8 @@ LINKS = {
 }
 OPPOSITE = {"broad": "narrow", "narrow": "broad"}
 KINDS = {**{SKOS + name: kind for name, kind in CLASSES.items()}, SKOS + "OrderedCollection": "collection"}
+# The objects of triples, by their subjects and predicates.
+Values = dict[str, dict[str, list]]
 TRANSITIVE = {SKOS + "broaderTransitive": False, SKOS + "narrowerTransitive": True}
 
 
@@ -36,22 +38,27 @@ def short(iri: str) -> str:
     return mads_name(iri) or re.split(r"[#/:]", iri.rstrip("#/"))[-1]
 
 
-class SkosReader:
-    """Makes a vocabulary of triples, and notes what is lost."""
+def values_of(triples: set[Triple]) -> Values:
+    """The objects of triples by their subjects and predicates, in an order that doesn't depend on that of the set."""
+    found: Values = defaultdict(lambda: defaultdict(list))
+    for subject, predicate, node in plain_labels(triples):
+        found[subject][predicate].append(node)
+    for name, properties in found.items():
+        found[name] = defaultdict(list, sorted(properties.items()))
+        for nodes in properties.values():
+            nodes.sort(
+                key=lambda it: (isinstance(it, Literal), by_numbers(it[0] if isinstance(it, Literal) else it), it)
+            )
+    return found
 
-    def __init__(self, triples: set[Triple], given: argparse.Namespace):
-        self.given = given
+
+class SkosReader:
+    """Makes a vocabulary of the values of triples, and notes what is lost."""
+
+    def __init__(self, values: Values, given: argparse.Namespace):
+        self.given, self.values = given, values
         self.vocabulary = Vocabulary(given.texts, adopts=given.adopt)
-        self.values: dict[str, dict[str, list]] = defaultdict(lambda: defaultdict(list))
-        for subject, predicate, node in plain_labels(triples):
-            self.values[subject][predicate].append(node)
-        for name, properties in self.values.items():
-            self.values[name] = defaultdict(list, sorted(properties.items()))
-            for nodes in properties.values():
-                nodes.sort(
-                    key=lambda it: (isinstance(it, Literal), by_numbers(it[0] if isinstance(it, Literal) else it), it)
-                )
-        self.subjects = sorted(self.values, key=by_numbers)
+        self.subjects = sorted(values, key=by_numbers)
         self.is_title_label: set[str] = set()
         self.has_resources = False
 

@@ -6,7 +6,11 @@
   postings     postings by number, key, record and concept
   look_ups     the mirror with the look-ups that pages need
   reading      a mirror read from the tables of a store
+  exported     a mirror made of an export, for what only reads
+  as_store     the mirror as the tools see a store
   changes      what a request that was performed changes
+  prospect     what a plan will make and destroy, before it is sent
+  sealing      digests of resources, which show what other programs changed
   foresee      what a merge, a split or a link would do, to explain it
   rules        which rule refuses a new concept, a term, a note or a link
 """

@@ -5,7 +5,7 @@ from pathlib import Path
 
 from thesaurus_desk.mirror.look_ups import Mirror
 from thesaurus_desk.mirror.resources import Link, Resource
-from thesaurus_tools.export_store import ExportStore
+from thesaurus_tools.export_store import store_of_export
 from thesaurus_tools.ntriples import read_ntriples
 
 
@@ -13,7 +13,7 @@ def read_export(path: Path) -> Mirror:
     """Reads an export of the program. Raises ToolError for another file.
 
     Outside concepts have no numbers there, so they get such as no resource has."""
-    store = ExportStore(str(path), read_ntriples(path))
+    store = store_of_export(str(path), read_ntriples(path))
     mirror = Mirror(store.base)
     for number, it in sorted(store.resources.items()):
         mirror.add_resource(Resource(number, it.kind, it.scheme, it.is_live, it.replaced))
