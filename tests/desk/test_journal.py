@@ -281,7 +281,7 @@ def test_store_in_use(store: Path, program: str, open_desk: Callable[[Path], Des
 
 
 def test_store_that_is_none(tmp_path: Path, open_desk: Callable[[Path], Desk]) -> None:
-    (tmp_path / "text.db").write_text("This is no store.\n" * 100)
+    (tmp_path / "text.db").write_text("This is no store.\n" * 100, encoding="utf-8")
     with pytest.raises(ToolError, match="text.db: not the store of a thesaurus"):
         open_desk(tmp_path / "text.db")
     desk = open_desk(tmp_path / "new.db")
@@ -291,7 +291,7 @@ def test_store_that_is_none(tmp_path: Path, open_desk: Callable[[Path], Desk]) -
 @pytest.mark.parametrize(
     "spoil,error",
     [
-        (lambda path: path.write_text("no journal" * 100), "no journal of a desk"),
+        (lambda path: path.write_text("no journal" * 100, encoding="utf-8"), "no journal of a desk"),
         (lambda path: sqlite3.connect(path).executescript("CREATE TABLE x (y)"), "no journal of a desk"),
         (lambda path: sqlite3.connect(path).executescript("PRAGMA user_version = 99"), "a newer desk wrote"),
         (lambda path: (path.rename(path.with_name("x")), path.symlink_to("x")), "it is a symbolic link"),
@@ -368,7 +368,7 @@ def test_full_disk_at_the_start(store: Path, open_desk: Callable[[Path], Desk]) 
 def test_full_disk_of_the_program(store: Path, program: str, open_desk: Callable[[Path], Desk], tmp_path: Path) -> None:
     """A program whose disk is full answers with a fault: nothing is performed, and the desk knows it."""
     small = tmp_path / "small"
-    small.write_text(f'#!/bin/sh\nulimit -f 512\nexec "{program}" "$@"\n')
+    small.write_text(f'#!/bin/sh\nulimit -f 512\nexec "{program}" "$@"\n', encoding="utf-8")
     small.chmod(0o755)
     desk = Desk(store, str(small))
     desk.start()

@@ -70,7 +70,7 @@ def mirror() -> Mirror:
 
 def documented_names() -> set[str]:
     """Returns the names of refusals, malformed input and faults in REQUESTS.md."""
-    text = (ROOT / "docs/REQUESTS.md").read_text()
+    text = (ROOT / "docs" / "REQUESTS.md").read_text(encoding="utf-8")
     table = text.split("## What the names mean")[1].split("## Limits")[0]
     named = set(re.findall(r"^\| ([A-Z]\w+) \|", table, re.M)) - {"Name"}
     forms = set(re.findall(r"\| (Bad\w+) \|$", text, re.M))
@@ -86,7 +86,7 @@ def test_each_documented_name_is_explained() -> None:
 
 
 def test_each_name_of_http_is_explained() -> None:
-    text = (ROOT / "docs/HTTP.md").read_text()
+    text = (ROOT / "docs" / "HTTP.md").read_text(encoding="utf-8")
     assert set(re.findall(r'"bad":"(\w+)"', text)) - {"NAME"} <= set(EXPLAIN) | set(HTTP_NAMES)
 
 

@@ -310,13 +310,27 @@ def trusted() -> Iterator[str]:
     yield from same("ported crates", sorted(set(re.findall(r"`(\w+)`", section))), sorted(ports))
 
 
+def modules_by_hand() -> set[str]:
+    """The modules whose tests are all run by hand, and those of the same folder that such tests call."""
+    found = set()
+    for path in ROOT.glob("tests/*/test_*.py"):
+        functions = [it for it in ast.parse(read(path)).body if isinstance(it, ast.FunctionDef)]
+        tests = [it for it in functions if it.name.startswith("test_")]
+        marked = [it for it in tests if "pytest.mark.by_hand" in map(ast.unparse, it.decorator_list)]
+        named = {f"{it.id}.py" for test in marked for it in ast.walk(test) if isinstance(it, ast.Name)}
+        found.update(it for it in named if path.with_name(it).is_file())
+        found.update([path.name] if marked and len(marked) == len(tests) else [])
+    return found
+
+
 def by_hand() -> Iterator[str]:
-    """PROOFS.md says of each test that is run by hand that it is, so that nobody takes it for a part of the gate."""
-    tests = [it for it in ROOT.glob("tests/*/*") if it.is_file() and not it.suffix and "\n# by hand" in read(it)]
-    for name in (f"tests/{it.parent.name}/{it.name}" for it in tests):
-        for found in re.findall(rf"`{name}`(, by hand)?", read(ROOT / "docs" / "PROOFS.md")):
-            if not found:
-                yield f"{name} without `, by hand`"
+    """PROOFS.md and FAILURES.md say of each test that is run by hand that it is, and of no other, so that nobody takes
+    it for a part of the gate."""
+    modules = modules_by_hand()
+    for document in ("PROOFS.md", "FAILURES.md"):
+        for name, said in re.findall(r"`(?:[\w/]+/)?(\w+\.py)`(, by hand)?", read(ROOT / "docs" / document)):
+            if bool(said) != (name in modules):
+                yield f"{document}: {name} {'with' if said else 'without'} `, by hand`"
 
 
 def is_explained(option: ast.Call) -> bool:
