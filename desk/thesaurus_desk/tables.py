@@ -8,7 +8,7 @@ from pathlib import Path
 
 from thesaurus_desk.entry.roles import OF_HEADS
 from thesaurus_desk.mirror import Mirror
-from thesaurus_desk.mirror.as_store import MirrorStore
+from thesaurus_desk.mirror.as_store import store_of_mirror
 from thesaurus_desk.named import LONGEST_PLAN, NamedRun
 from thesaurus_desk.performing import Desk, Outcome
 from thesaurus_desk.row_checks import RowChecks
@@ -72,7 +72,7 @@ def table_error_in_words(error: TableError, name: str, words: Words) -> str:
 
 def plan_rows(run: TableRun, mirror: Mirror, bringer: Bringer) -> None:
     """Notes what the rows ask for, by the store as it is now, and why some can't be done. Raises NewConceptsError."""
-    _, plans = plan_table(MirrorStore(mirror), run.columns, run.rows, run.options)
+    _, plans = plan_table(store_of_mirror(mirror), run.columns, run.rows, run.options)
     checks = RowChecks(mirror)
     run.plans = with_reasons(plans, lambda it: reason_of(it, bringer, checks))
 

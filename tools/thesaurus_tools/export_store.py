@@ -4,12 +4,11 @@ from __future__ import annotations
 import re
 from collections import defaultdict
 from collections.abc import Iterable, Iterator
-from typing import NamedTuple
 
 from thesaurus_tools.command_line import REFUSED, USAGE, ToolError
 from thesaurus_tools.kinds import CLASSES, LABEL_PROPERTIES, LINK_PROPERTIES
 from thesaurus_tools.ntriples import DCTERMS, OWL, RDF, SKOS, Blank, Iri, Literal, Node, Triple
-from thesaurus_tools.store import Label, Link, Move, Posting, Resource, Store, normal_link
+from thesaurus_tools.store import Contents, Label, Link, Move, Posting, Resource, Store, normal_link
 
 # The subjects and objects of triples by their predicates.
 Properties = dict[str, list[tuple[Iri | Blank, Node]]]
@@ -19,15 +18,6 @@ def number_of(iri: str, base: str) -> int | None:
     """Returns the number that follows the base in an IRI, or None."""
     digits = iri[len(base) :] if iri.startswith(base) else ""
     return int(digits) if re.fullmatch(r"[1-9][0-9]*", digits) else None
-
-
-class Contents(NamedTuple):
-    """What an export has of a thesaurus: its base, its resources by their numbers, its labels and its links."""
-
-    base: str
-    resources: dict[int, Resource]
-    labels: list[Label]
-    links: set[Link]
 
 
 class ExportStore(Store):

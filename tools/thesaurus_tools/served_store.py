@@ -5,11 +5,11 @@ from collections.abc import Collection, Iterator, Mapping
 from functools import cached_property
 
 from thesaurus_tools.command_line import REFUSED, ToolError
-from thesaurus_tools.export_store import Contents, ExportStore, read_contents
+from thesaurus_tools.export_store import ExportStore, read_contents
 from thesaurus_tools.kinds import BROADER
 from thesaurus_tools.ntriples import parse_ntriples
 from thesaurus_tools.server import Server
-from thesaurus_tools.store import End, Link, Move, Posting, by_ends
+from thesaurus_tools.store import Contents, End, Link, Move, Posting, by_ends
 
 
 class ServedStore(ExportStore):

@@ -85,6 +85,15 @@ def by_ends(links: Iterable[Link]) -> dict[End, list[Link]]:
     return found
 
 
+class Contents(NamedTuple):
+    """What a thesaurus has but postings: its base, its resources by their numbers, its labels and its links."""
+
+    base: str
+    resources: dict[int, Resource]
+    labels: list[Label]
+    links: set[Link]
+
+
 class Store:
     """A thesaurus. A subclass says where its resources, labels, links and postings come from."""
 
