@@ -312,7 +312,7 @@ def trusted() -> Iterator[str]:
 
 def modules_by_hand() -> set[str]:
     """The modules whose tests are all run by hand, and those of the same folder that such tests call."""
-    found = set()
+    found = set[str]()
     for path in ROOT.glob("tests/*/test_*.py"):
         functions = [it for it in ast.parse(read(path)).body if isinstance(it, ast.FunctionDef)]
         tests = [it for it in functions if it.name.startswith("test_")]
