@@ -49,12 +49,11 @@ def is_answer(request: object, answer: object) -> bool:
     refusal = next((answer[it] for it in ("no", "bad", "fault") if it in answer), None)
     if refusal is not None:
         return isinstance(refusal, str) and (refusal != "OutsideKnown" or type(answer.get("number")) is int)
-    asked = request.get("get") if isinstance(request, dict) else None
-    if asked in VIEWS:
-        members = VIEWS[str(asked)]
-        return all(it in answer and isinstance(answer[it], members[it]) for it in members) and (
-            answer.get("number") in (None, request.get("number"))  # type: ignore[attr-defined]
-        )
+    query = request if isinstance(request, dict) else {}
+    if (asked := query.get("get")) in VIEWS:
+        members = VIEWS[asked]
+        has_members = all(it in answer and isinstance(answer[it], members[it]) for it in members)
+        return has_members and answer.get("number") in (None, query.get("number"))
     return any(type(answer.get(it)) is kind for it, kind in CHANGES.items())
 
 
