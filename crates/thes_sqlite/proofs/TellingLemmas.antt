@@ -1,4 +1,4 @@
--- Proves that one change tells whether all were made.
+-- Proves that one change shows whether all were made.
 use Rattle.std.proofs.lemmas.Grind.{common_steps}
 use Rattle.std.proofs.Common.{arith, ◌≡◌, ◌↔◌, inl, inr, ◌∙◌, ℕ, zero, suc, ◌==◌, ◌&&◌, ◌||◌, ◌+◌, Bool, true, false, not, cond}
 use Rattle.std.proofs.Common.{List, [], ◌∷◌, ◌++◌, length, map, filter, Option, None, Some, IsTrue}
@@ -406,7 +406,7 @@ good_insert c h = grind (arith, common_steps)
 good_mark : (c : Change) → marks_for_good c ≡ true → is_for_good c ≡ true
 good_mark c h = grind (arith, common_steps)
 
--- The change that tells is shown by the tables with all changes, and not by those without.
+-- The chosen change is shown by the tables with all changes, and not by those without.
 told_apart : (changes : List Change) (t : Tables) (c : Change) → HaveEffect changes t → telling changes ≡ Some c
     → ShowsApart c changes t
 told_apart changes t c does h = go (find inserts_for_good changes) refl (find marks_for_good changes) refl
@@ -425,7 +425,7 @@ told_apart changes t c does h = go (find inserts_for_good changes) refl (find ma
         let last : last_turning changes changes ≡ Some c = grind (arith, common_steps) in
         last_apart changes t c does last
 
--- Changes of which none tells.
+-- Changes of which none shows whether all were made.
 
 not_found : (p : Change → Bool) (d : Change) (changes : List Change) → find p (d ∷ changes) ≡ None
     → (p d ≡ false) × (find p changes ≡ None)
@@ -465,7 +465,7 @@ others_kept (d ∷ changes) t a b c =
       same_move = rest.same_move ∙ one.same_move;
     }
 
--- If no change tells, the rows are the same before and after.
+-- If no change shows it, the rows are the same before and after.
 same_without_telling : (changes : List Change) (t : Tables) → HaveEffect changes t → telling changes ≡ None
     → list_any sets_places changes ≡ false → HaveSameRows t (tables_after_delta changes t)
 same_without_telling changes t does h places = go (find inserts_for_good changes) refl (find marks_for_good changes) refl

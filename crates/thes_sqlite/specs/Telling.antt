@@ -1,4 +1,4 @@
--- Which change of a list tells whether all were made, as all were made or none was.
+-- Which change of a list shows whether all were made, as all were made or none was.
 use mathlib.Core.Logic.{inl, inr}
 use Rattle.std.specs.Prelude.{◌≡◌, Bool, true, false, not, cond, List, [], ◌∷◌, Option, None, Some}
 use Rattle.std.specs.List.{find}
@@ -58,8 +58,8 @@ last_turning changes [] = None
 last_turning changes (c ∷ rest) =
     option_or (last_turning changes rest) (cond (turns changes (row_of c)) (Some c) None)
 
--- The change that tells whether all were made: the first insertion for good, else the first mark, else the last change
--- of a row that is there afterwards and wasn't before, or the reverse. None if no change tells.
+-- The change that shows whether all were made: the first insertion for good, else the first mark, else the last change
+-- of a row that is there afterwards and wasn't before, or the reverse. None if no change shows it.
 abbrev pub telling : List Change → Option Change
 telling changes =
     option_or (find inserts_for_good changes) (option_or (find marks_for_good changes) (last_turning changes changes))
