@@ -41,9 +41,9 @@ struct PathSearch {
     stack: Vec<PathNode>,
 }
 
-// Advances the search by one broader node of `last`, the node popped from the stack. If that node
-// is done, removes it from the list of `last`; if it is new, pushes it above `last`; otherwise it
-// closes a cycle. If the list is empty, `last` is done. Returns whether a cycle was found.
+// Advances the search by one broader node of `last`, the node popped from the stack. If the broader
+// node is done, removes it from the list of `last`; if it is new, pushes it above `last`; otherwise
+// it closes a cycle. If the list is empty, `last` is done. Returns whether a cycle was found.
 fn advance_path<L: Links>(
     alloc: Global,
     links: &mut L,
@@ -77,9 +77,9 @@ fn advance_path<L: Links>(
     Ok(false)
 }
 
-/// Searches for a cycle through the node or above it, unless the node is done, and returns whether
-/// there is one. If there is none, the node is appended to those that are done, after all nodes
-/// broader than it.
+/// Searches for a cycle of broader links through the node or above it, unless the node is done, and
+/// returns whether there is one. If there is none, appends the node to those that are done, after
+/// all nodes broader than it.
 pub fn find_cycle<L: Links>(
     alloc: Global,
     links: &mut L,

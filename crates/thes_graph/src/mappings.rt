@@ -72,7 +72,8 @@ pub fn typed_link_from(link: &Link, n: ResNo) -> Option<(TypedKind, ResNo)>
     }
 }
 
-/// Inserts the mapping at its place in a list sorted by name and number, unless it is there.
+/// Inserts the mapping at its place in a list sorted by names of kinds and then by number, unless
+/// it is there.
 pub fn list_mapping(
     list: &mut Vec<(LinkKind, ResNo)>,
     mapping: (LinkKind, ResNo),

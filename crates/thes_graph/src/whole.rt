@@ -58,7 +58,7 @@ fn add_done(done: &mut Nodes, nodes: &[ResNo]) -> Result<(), AllocError>
 }
 
 // Checks whether two members of the node's class of exact matches are also broader or related
-// matches. If not, appends all members of the class to `done`.
+// matches (SKOS S46). If not, appends all members of the class to `done`.
 fn breaks_s46_at<L: Links>(
     alloc: Global,
     links: &mut L,
