@@ -19,7 +19,7 @@ pub fn number_of(text: &str) -> Option<Number>
     }
 }
 
-// Returns whether the numeral begins with a minus sign.
+// Returns whether the JSON numeral begins with a minus sign.
 fn has_minus(bytes: &[u8]) -> bool
     ensures value { result ≡ (slice_index bytes.now 0 == 45) }
     ensures len { IsTrue result → 0 < length bytes.now }
@@ -27,7 +27,7 @@ fn has_minus(bytes: &[u8]) -> bool
     !bytes.is_empty() && bytes[0] == b'-'
 }
 
-// Returns the value of a numeral without a sign: an unsigned 64-bit integer, or else a float.
+// Returns the value of a JSON numeral without a sign: an unsigned 64-bit integer, or else a float.
 fn unsigned(numeral: &Numeral<'_>) -> Option<Number>
     ensures { option_map number_view result ≡ number_from false numeral.now }
 {
@@ -37,8 +37,8 @@ fn unsigned(numeral: &Numeral<'_>) -> Option<Number>
     }
 }
 
-// Returns the value of a numeral after its minus sign: a negative 64-bit integer, or else a float,
-// as for -0.
+// Returns the value of a JSON numeral, given after its minus sign: a negative 64-bit integer, or
+// else a float, as for -0.
 fn negative(numeral: &Numeral<'_>) -> Option<Number>
     ensures { option_map number_view result ≡ number_from true numeral.now }
 {
@@ -50,8 +50,8 @@ fn negative(numeral: &Numeral<'_>) -> Option<Number>
     nearest(true, numeral)
 }
 
-// Returns the float nearest to the numeral, with a minus sign if `negative`; `None` if the numeral
-// is too large for a float.
+// Returns the float nearest to the JSON numeral, with a minus sign if `negative`; `None` if the
+// numeral is too large for a float.
 fn nearest(negative: bool, numeral: &Numeral<'_>) -> Option<Number>
     ensures { option_map number_view result ≡ float_of negative numeral.now }
 {
