@@ -45,7 +45,8 @@ impl MoveLoad {
             && is_concept(resources, step.target)
     }
 
-    /// Applies a move; changes nothing and returns false if it can't be the next one.
+    /// Applies a move to the place of its posting; changes nothing and returns false if the move
+    /// can't be the next one.
     #[tactic(auto, using(thes_base::proofs::NumberedLemmas::numbered_bound))]
     pub fn take(&mut self, resources: &[Resource], step: &MoveRow) -> bool
         requires { HasMoveForm step.now }
@@ -63,8 +64,8 @@ impl MoveLoad {
         }
     }
 
-    /// Parses the next row and applies its move; returns false if the row can't follow the rows
-    /// read so far in a table that meets its rule.
+    /// Parses the next row of table move and applies its move; returns false if the row can't
+    /// follow the rows read so far in a table that meets its rule.
     pub fn read(&mut self, resources: &[Resource], cells: &[Cell]) -> bool
         requires { length resources.now < 2 ^ 32 }
         ensures { (postings : List PostingRow) (rows : List MoveRow)

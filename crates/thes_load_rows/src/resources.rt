@@ -63,7 +63,7 @@ impl ResourceLoad {
         }
     }
 
-    /// Checks whether the resources meet the rule of the table.
+    /// Checks whether the resources meet the rule of table resource.
     pub fn close(&self, alloc: Global) -> Result<bool, AllocError>
         ensures { IfOk result (λ good. IsTrue good ↔ ResourceRule self.now.resources.items) }
     {
@@ -159,7 +159,8 @@ fn replacement_fits(resources: &[Resource], n: ResNo, r: &Resource) -> bool
     }
 }
 
-// Checks whether replacements form a cycle: checks a graph in which each of them is a broader link.
+// Checks whether replacements form a cycle, by the check of a graph in which each of them is a
+// broader link.
 fn has_replacement_cycle(alloc: Global, resources: &[Resource]) -> Result<bool, AllocError>
     requires few { length resources.now < 2 ^ 32 }
     requires apart { NoneReplacesItself resources.now }
@@ -180,7 +181,7 @@ fn has_replacement_cycle(alloc: Global, resources: &[Resource]) -> Result<bool, 
     if is_cycle(first) { Ok(true) } else { Ok(false) }
 }
 
-// Checks whether the first broken rule is Cycle.
+// Checks whether the first rule that a graph of links breaks is Cycle.
 fn is_cycle(first: Option<Refusal>) -> bool
     ensures { result ≡ is_cycle first }
 {
