@@ -49,7 +49,7 @@ limits_in options = record {
   moves = number_of_option (codes "max-moves") 1000000 options;
 }
 
--- Whether the flag is given: `clap` sets it to `true`, and any other to `false`.
+-- Whether the flag is given: `clap` sets it to `true`, and one that isn't given to `false`.
 abbrev pub is_set : Text → List Row → Bool
 is_set name options = option_map_or (λ text. bytes_eq text (codes "true")) (first_of name options) false
 
