@@ -10,7 +10,7 @@ use std::alloc::AllocError;
 use thes_base::data::{Link, LinkKind, TypedKind};
 use thes_base::number::ResNo;
 
-// Returns the rank of the kind's name among the names of all kinds, sorted by their bytes.
+// Returns the rank of a link kind's name among the names of all kinds, sorted by their bytes.
 fn place_of(kind: LinkKind) -> u8
     ensures { result ≡ kind_name_rank kind }
 {
