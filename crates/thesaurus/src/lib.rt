@@ -39,9 +39,9 @@
 //! that it isn't.
 //!
 //! **Facts.** A core has only counts of postings. What its decision on a command depends on is
-//! passed to the core as `Facts`: for a Post the posting with its key, for a Withdraw or a
-//! Split the postings that it lists, for a Merge the numbers of those at its source, and for any
-//! other command none. An office asks its storage for them. An answer is right if the facts are.
+//! passed to the core as `Facts`: for a Post the posting with its key, for a Withdraw or a Split
+//! the postings that it lists, for a Merge the numbers of those at its source, and for any other
+//! command none. An office asks its storage for them. An answer is right if the facts are.
 //!
 //! **Checks.** A check changes nothing, and returns the first refusal. A change of a part requires
 //! what its check found, as `Vocab::add_label` after `Vocab::check_label`, and `Core::apply` after
