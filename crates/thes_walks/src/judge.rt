@@ -68,8 +68,8 @@ fn first_broken_at<L: Links>(
 /// Returns the first rule that the links held break, if those without an end at the pivot break
 /// none.
 ///
-/// Makes at most six visits for each link near the pivot: one with an end at the pivot, or at a
-/// node above it, below it or in its class of exact matches.
+/// Makes at most six visits for each link with an end at the pivot, or at a node above it, below it
+/// or in its class of exact matches.
 pub fn check_at<L: Links>(
     alloc: Global,
     links: &mut L,
@@ -89,7 +89,7 @@ pub fn check_at<L: Links>(
 /// Checks a new link: returns LinkThere if it is held, or else the first rule that the links with
 /// it would break.
 ///
-/// Makes at most six visits for each link near the new one's first end, that one among them.
+/// Makes at most six visits for each link near the first end of the new one, which is among them.
 pub fn judge_add<L: Links>(
     alloc: Global,
     links: &mut L,

@@ -39,7 +39,7 @@ struct PairedSearch {
 }
 
 // Advances the first search to this limit on its nodes and its next node's links. Returns whether
-// it met the second, and the number of links that it read now.
+// it met the second, and the number of links that it read in this turn.
 fn advance_first<L: Links>(
     links: &mut L,
     relation: Relation,

@@ -106,8 +106,8 @@ fn step_at_place<L: Links>(
     far_node(edit, &link, at, x)
 }
 
-// Appends the node to which a link leads, if it leads to one, to the nodes met, unless the node is
-// there or is a goal of the search. Returns whether the node is a goal.
+// Adds to the nodes met the node to which a link leads, if there is one, unless that node is a goal
+// of the search. Returns whether it is a goal.
 #[inline(always)]
 fn take(nodes: &mut Nodes, next: Option<ResNo>, goals: &Nodes) -> Result<bool, AllocError>
     ensures { IfOk result
@@ -123,8 +123,8 @@ fn take(nodes: &mut Nodes, next: Option<ResNo>, goals: &Nodes) -> Result<bool, A
     Ok(false)
 }
 
-// Appends the nodes to which this range of links leads after the edit to the nodes met. Stops
-// before the first one that is a goal, and returns whether there is one.
+// Adds to the nodes met those to which this range of links leads after the edit. Stops before the
+// first one that is a goal of the search, and returns whether there is one.
 #[inline(always)]
 fn follow_part<L: Links>(
     links: &mut L,
@@ -159,9 +159,10 @@ pub fn part_along<L: Links>(links: &L, relation: Relation, n: ResNo) -> Part
     links.part(n, side_for(relation))
 }
 
-// Appends the nodes to which this range of links leads after the edit to the nodes met. Stops
-// before the first one that is a goal, and returns whether there is one. If the range has the links
-// on the side of a relation, they lead to the nodes to which `range.x` leads in that relation.
+// Adds to the nodes met those to which this range of links leads after the edit. Stops before the
+// first one that is a goal of the search, and returns whether there is one. If the range has the
+// links on the side of a relation, they lead to the nodes to which `range.x` leads in that
+// relation.
 fn follow<L: Links>(
     links: &mut L,
     nodes: &mut Nodes,
@@ -186,10 +187,10 @@ fn follow<L: Links>(
     Ok(found)
 }
 
-// Appends the nodes to which the target of a merge leads in the relation after the merge to the
-// nodes met. Stops before the first one that is a goal, and returns whether there is one. Reads the
-// links held at the target in the range `merge.part`, and then those held at the source on the side
-// of the relation.
+// Adds to the nodes met those to which the target of a merge leads in the relation after the merge.
+// Stops before the first one that is a goal of the search, and returns whether there is one. Reads
+// the links held at the target in the range `merge.part`, and then those held at the source on the
+// side of the relation.
 fn follow_merged<L: Links>(
     links: &mut L,
     nodes: &mut Nodes,
@@ -227,8 +228,8 @@ fn follow_merged<L: Links>(
     Ok(found)
 }
 
-/// Appends the nodes to which `from` leads in the relation after the edit to the nodes met. Stops
-/// before the first one that is a goal, and returns whether there is one. The range of `from` has
+/// Adds to the nodes met those to which `from.node` leads in the relation after the edit. Stops
+/// before the first one that is a goal, and returns whether there is one. The range `from.part` has
 /// the node's held links on the side of the relation.
 pub fn follow_after_edit<L: Links>(
     links: &mut L,
@@ -304,8 +305,8 @@ impl SideSearch {
     }
 
     /// Reads the links that lead from the next node in the relation after the edit; `part` is the
-    /// range of those held at the node. Appends the nodes to which they lead, stops before the
-    /// first one that is a goal, and returns whether there is one.
+    /// range of those held at the node. Adds the nodes to which they lead to those met, stops
+    /// before the first one that is a goal, and returns whether there is one.
     #[inline(always)]
     pub fn advance<L: Links>(
         &mut self,
@@ -341,8 +342,9 @@ impl SideSearch {
         }
     }
 
-    /// Reads this range of the next node's held links, without an edit. Appends the nodes to which
-    /// they lead, stops before the first one that is a goal, and returns whether there is one.
+    /// Reads this range of the next node's held links, without an edit. Adds the nodes to which
+    /// they lead to those met, stops before the first one that is a goal, and returns whether there
+    /// is one.
     #[inline(always)]
     pub fn advance_at<L: Links>(
         &mut self,
