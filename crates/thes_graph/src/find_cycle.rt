@@ -11,15 +11,15 @@ use thes_links::nodes::Nodes;
 use thes_links::relation::Relation;
 use thes_links::walk::next_nodes;
 
-/// A node on the stack of the search, with those of its broader nodes that are still to be searched
-/// from.
+/// A node on the stack of the search for a cycle, with those of its broader nodes that are still to
+/// be searched from.
 #[derive(Drop)]
 pub struct PathNode {
     pub node: ResNo,
     pub above: Vec<ResNo>,
 }
 
-/// Returns the node with all its broader nodes, as the search pushes it.
+/// Returns the node with all its broader nodes, as the search for a cycle pushes it.
 pub fn path_node_at<L: Links>(
     alloc: Global,
     links: &mut L,
@@ -34,7 +34,7 @@ pub fn path_node_at<L: Links>(
     Ok(PathNode { node: n, above })
 }
 
-// A search: the nodes met, and the stack of those on the path to the last one.
+// A search for a cycle: the nodes met, and the stack of those on the path to the last one.
 #[derive(Drop)]
 struct PathSearch {
     nodes: Nodes,
