@@ -25,7 +25,7 @@ pub struct MoveLoad {
     ghost few: { taken < 2 ^ 32 },
 }
 
-// Returns the place of a posting after the moves so far; None if no posting has the number.
+// Returns the place of a posting after the moves read so far; None if no posting has the number.
 fn place_at(places: &[ResNo], number: PostNo) -> Option<ResNo>
     ensures { result ≡ entry_at places.now number }
 {
@@ -33,8 +33,8 @@ fn place_at(places: &[ResNo], number: PostNo) -> Option<ResNo>
 }
 
 impl MoveLoad {
-    // Checks whether a move may be the next one: it has the next number, starts at its posting's
-    // place, and ends at another concept.
+    // Checks whether a row of table move may be the next one: it has the next number, starts at its
+    // posting's place after the moves so far, and ends at another concept.
     fn is_next(&self, resources: &[Resource], step: &MoveRow) -> bool
         ensures { IsTrue result
             ↔ IsNextMove resources.now self.now.places.items self.now.taken step.now }

@@ -47,8 +47,8 @@ impl ResourceLoad {
         }
     }
 
-    /// Parses the next row and appends its resource; returns false if the row has another form or a
-    /// number that isn't the next one.
+    /// Parses the next row of table resource and appends its resource; returns false if the row has
+    /// another form or a number that isn't the next one.
     pub fn read(&mut self, cells: &[Cell]) -> Result<bool, AllocError>
         ensures { IfOk result
             (ReadResult (resource_rows 1) (λ rows. rows ≡ self.new.resources.items) ResourceRule
@@ -112,7 +112,7 @@ fn fits(resources: &[Resource], n: ResNo, r: &Resource) -> bool
         && replacement_fits(resources, n, r)
 }
 
-// Checks whether the number is that of a scheme.
+// Checks whether the row of resource `n` is there and states that it is a scheme.
 fn is_scheme(resources: &[Resource], n: ResNo) -> bool
     ensures { IsTrue result ↔ IsScheme resources.now n }
 {
@@ -122,7 +122,8 @@ fn is_scheme(resources: &[Resource], n: ResNo) -> bool
     }
 }
 
-// Returns the scheme of the resource; None if it has none, or no resource has the number.
+// Returns the scheme that the row of resource `n` states; None if it states none, or there is no
+// such row.
 fn scheme_of(resources: &[Resource], n: ResNo) -> Option<ResNo>
     ensures { result ≡ scheme_of resources.now n }
 {
@@ -191,7 +192,8 @@ fn is_cycle(first: Option<Refusal>) -> bool
     }
 }
 
-// Returns the replacement of the resource; None if it has none, or no resource has the number.
+// Returns the replacement that the row of resource `n` states; None if it states none, or there is
+// no such row.
 fn replacement_of(resources: &[Resource], n: ResNo) -> Option<ResNo>
     ensures { result ≡ replacement_of resources.now n }
 {
