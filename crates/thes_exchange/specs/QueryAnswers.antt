@@ -27,7 +27,7 @@ IsQueryAnswer s query (Ok (viewed.Page text)) =
 IsQueryAnswer s query (Ok (viewed.No r)) = IsView s query (views.No r)
 IsQueryAnswer s query (Err fault) = fault ≡ OutOfMemory
 
--- Only a prefix of the view's line was written, or nothing if memory ran out.
+-- Only a prefix of the line of a view, `text`, was written, or nothing if memory ran out.
 abbrev pub IsViewStopped : {W : Type 0} → (W → Option (List ℕ)) → List ℕ → Pipe W → Pipe W → PipeFault → Type 0
 IsViewStopped contents text old new (pipe.Fault OutOfMemory) = new ≡ old
 IsViewStopped contents text old new (pipe.Fault _) = ⊥

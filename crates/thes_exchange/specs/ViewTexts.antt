@@ -41,7 +41,7 @@ keyword_data word n = array (item (string word) (item (number_data n) no_items))
 abbrev pub mapping_data : LinkKind × ℕ → Data
 mapping_data m = keyword_data (link_kind_name m.0) m.1
 
--- A typed link as an array of the keyword of its kind and its other end.
+-- A typed link as an array of the keyword of its type and its other end.
 abbrev pub typed_data : TypedKind × ℕ → Data
 typed_data m = keyword_data (typed_kind_name m.0) m.1
 

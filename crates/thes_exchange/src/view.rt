@@ -103,7 +103,7 @@ fn totals_value(alloc: Global, totals: &Totals) -> Result<Value, AllocError>
     })
 }
 
-// Returns a number as JSON, or null if there is none.
+// Returns the number of a resource as JSON, or null if there is none.
 fn number_or_null(number: Option<ResNo>) -> Value
     ensures { view result ≡ number_or_null number }
 {
@@ -113,7 +113,7 @@ fn number_or_null(number: Option<ResNo>) -> Value
     }
 }
 
-// An element of a list that a view shows.
+// An element of a JSON array that a view shows.
 trait Element {
     // The element as JSON.
     ghost data: { Self → Data };
@@ -123,7 +123,7 @@ trait Element {
         ensures { IfOk result (λ v. view v ≡ Self.data self.now) };
 }
 
-// A number.
+// The number of a resource, as a JSON number.
 impl Element for ResNo {
     ghost use Rattle.thes_exchange.specs.ViewTexts.{number_data};
 
@@ -153,7 +153,7 @@ fn keyword_value(alloc: Global, name: &str, number: ResNo) -> Result<Value, Allo
     json!(in alloc; [name, number.get()])
 }
 
-// A mapping as a pair of the keyword of its kind and its other end.
+// A mapping as a JSON array of the keyword of its kind and its other end.
 impl Element for (LinkKind, ResNo) {
     ghost use Rattle.thes_exchange.specs.ViewTexts.{mapping_data};
 
@@ -165,7 +165,7 @@ impl Element for (LinkKind, ResNo) {
     }
 }
 
-// A typed link as a pair of the keyword of its kind and its other end.
+// A typed link as a JSON array of the keyword of its type and its other end.
 impl Element for (TypedKind, ResNo) {
     ghost use Rattle.thes_exchange.specs.ViewTexts.{typed_data};
 
@@ -200,7 +200,7 @@ pub(crate) fn entry_value(
     json!(in alloc; [number.get(), key.as_str(), rec.as_str()])
 }
 
-// A posting as an entry of a list.
+// A posting as an entry of a list: a JSON array of its number, key and record name.
 impl Element for &History {
     ghost use Rattle.thes_exchange.specs.ViewTexts.{row_data};
 
@@ -211,7 +211,7 @@ impl Element for &History {
     }
 }
 
-// Appends a value to an array; fails if memory runs out, or if it had run out for the value.
+// Appends a value to a JSON array; fails if memory runs out, or if it ran out for the value.
 fn push_value(list: &mut Vec<Value>, value: Result<Value, AllocError>) -> Result<(), AllocError>
     ensures { (d : Data) → IfOk value (λ v. view v ≡ d) → OnOk result
         (map view list.new.items ≡ map view list.old.items ++ d ∷ []) }
@@ -246,7 +246,7 @@ fn rows_value(alloc: Global, rows: &[&History]) -> Result<Value, AllocError>
     array_value(alloc, rows)
 }
 
-// Puts a member into an object; fails if memory runs out, or if it had run out for the value.
+// Puts a member into a JSON object; fails if memory runs out, or if it ran out for the value.
 fn put_value(
     members: &mut Map<String, Value>,
     alloc: Global,
@@ -281,7 +281,8 @@ fn put_labels(
     put_value(members, alloc, "scope", labels_value(alloc, &concept.scope))
 }
 
-// Puts the links of a concept into the members of its view, grouped by kind.
+// Puts the links of a concept into the members of its view, as `broader`, `collections`,
+// `mappings`, `narrower`, `related` and `typed`.
 fn put_links(
     members: &mut Map<String, Value>,
     alloc: Global,
@@ -361,8 +362,8 @@ fn postings_value(alloc: Global, postings: &PostingRows) -> Result<Value, AllocE
     json!(in alloc; {"postings": rows})
 }
 
-// Returns the concept to which a posting is assigned: the target of its last move, or else its
-// first concept.
+// Returns the place of a posting, withdrawn or not: the target of its last move, or else its first
+// concept.
 fn place_of(history: &History) -> ResNo
     ensures { result ≡ place history.now }
 {
@@ -379,7 +380,8 @@ fn text_value(alloc: Global, text: &str) -> Result<Value, AllocError>
     json!(in alloc; text)
 }
 
-// Puts the facts about a posting, with its key and its moves, into the members of its view.
+// Puts the facts about a posting into the members of its view: `first`, `key`, `moves`, `number`,
+// `place`, `record` and `withdrawn`.
 #[tactic(auto, unfolding(crate::specs::PostingMembers::members_with_posting))]
 fn put_posting(
     members: &mut Map<String, Value>,
@@ -427,7 +429,7 @@ fn posting_value(alloc: Global, history: &History) -> Result<Value, AllocError>
     Ok(Value::Object(members))
 }
 
-// Returns a JSON value as one compact line, with a line feed.
+// Returns a JSON value, which has no floating-point number, as one compact line with a line feed.
 #[tactic(auto, unfolding(crate::specs::ViewTexts::line_text))]
 pub(crate) fn value_line(alloc: Global, value: &Value) -> Result<Vec<u8>, AllocError>
     ensures { IfOk result (λ text. has_float (view value.now) ≡ false →

@@ -43,7 +43,7 @@ fn push_at(
     Ok(())
 }
 
-// Sorts parts by their bytes, and removes duplicates.
+// Sorts parts of an export by their bytes, and removes duplicates.
 fn sort_parts(parts: &mut Vec<ExportPart>) -> Result<(), AllocError>
     ensures { OnOk result
         (IsListing (slice_cmp nat_cmp) (Contains parts.old.items) parts.new.items) }
@@ -53,7 +53,7 @@ fn sort_parts(parts: &mut Vec<ExportPart>) -> Result<(), AllocError>
     Ok(())
 }
 
-// Appends a part to a text.
+// Appends a part to the text of an export.
 fn push_text(text: &mut Vec<u8>, part: &ExportPart) -> Result<(), AllocError>
     ensures { OnOk result (text.new.items ≡ text.old.items ++ part.now) }
 {
@@ -61,7 +61,7 @@ fn push_text(text: &mut Vec<u8>, part: &ExportPart) -> Result<(), AllocError>
     Ok(())
 }
 
-// Returns the concatenation of the parts, in order.
+// Returns the text of these parts of an export, one after another.
 fn join_parts(alloc: Global, parts: &[ExportPart]) -> Result<Vec<u8>, AllocError>
     ensures { IfOk result (λ text. text.items ≡ concat parts.now) }
 {
@@ -106,8 +106,8 @@ fn all_parts(alloc: Global, core: &Core) -> Result<Vec<ExportPart>, AllocError>
 }
 
 /// Returns the export of the state that the core holds: the lines of its triples, sorted by their
-/// bytes, each once. Lines about one resource begin alike, so its lines are sorted by themselves,
-/// and then the parts.
+/// bytes, each once. Lines about one resource begin alike, so they are sorted by themselves, and
+/// then the parts of all resources.
 pub fn export_text(alloc: Global, core: &Core) -> Result<Vec<u8>, AllocError>
     requires { core.now.spent ≡ false }
     ensures { (s : State) → IsViewOf core.now s →

@@ -18,7 +18,8 @@ pub struct Holdings {
     members: Lists<ResNo>,
 }
 
-// Inserts a resource in the list of the one that holds it.
+// Inserts a concept into the list of its holder: a scheme's list of top concepts, or a collection's
+// list of members.
 fn insert(lists: &mut Lists<ResNo>, holder: ResNo, n: ResNo) -> Result<(), AllocError>
     requires { AreAllRising nat_cmp lists.old }
     ensures { let list = insert_key nat_cmp (listed_at lists.old holder) n in
@@ -29,7 +30,7 @@ fn insert(lists: &mut Lists<ResNo>, holder: ResNo, n: ResNo) -> Result<(), Alloc
     Ok(())
 }
 
-/// Returns the number of resources of all kinds.
+/// Returns the number of the core's resources, of all kinds.
 pub(crate) fn resource_count(core: &Core) -> usize
     requires { core.now.spent ≡ false }
     ensures { result ≡ length core.now.resources }
@@ -68,6 +69,7 @@ fn add_member(
     requires listed { AreMembersUpTo core.now i members.old }
     ensures { OnOk result (AreMembersUpTo core.now (i + 1) members.new) }
 {
+    // No effect; states for the proof that there are fewer than 2³² resources.
     let _resources = core.resources();
     let n = ResNo::new(i as u32 + 1);
     let collections = core.collections_of(alloc, n)?;

@@ -1,4 +1,4 @@
-//! Lines of N-Triples, each of one triple.
+//! Lines of N-Triples, each of one triple, and the parts of an export that they make up.
 ghost use Rattle.std.specs.Prelude.{◌≡◌, ◌++◌, [], ◌∷◌, List, ℕ, Some, false, IfOk, OnOk, flat_map, nat_eq, codes, refl};
 ghost use Rattle.std.specs.Cmp;
 ghost use Rattle.std.specs.Cmp.Lexicographic.{pointwise, slice_cmp, nat_list_eq_equiv, nat_list_cmp_total, texts_ties, texts_po};
@@ -30,6 +30,7 @@ impl Model for ExportPart {
     ghost view = { λ line. line.text.items };
 }
 
+/// Compares the bytes of two parts.
 impl PartialEq for ExportPart {
     ghost eq = { pointwise nat_eq };
 
@@ -44,6 +45,7 @@ impl Eq for ExportPart {
     ghost laws = { nat_list_eq_equiv };
 }
 
+/// Orders any two parts, by their bytes.
 impl PartialOrd for ExportPart {
     ghost partial_cmp = { λ x y. Some (slice_cmp nat_cmp x y) };
 
@@ -54,6 +56,7 @@ impl PartialOrd for ExportPart {
     }
 }
 
+/// Orders parts by their bytes, and so the lines of an export.
 impl Ord for ExportPart {
     ghost cmp = { slice_cmp nat_cmp };
 
@@ -87,7 +90,7 @@ fn push_resource(text: &mut Vec<u8>, core: &Core, n: ResNo) -> Result<(), AllocE
     Ok(())
 }
 
-// Appends an IRI in angle brackets.
+// Appends the IRI of a property or a class in angle brackets.
 fn push_iri(text: &mut Vec<u8>, iri: &str) -> Result<(), AllocError>
     ensures { OnOk result (text.new.items ≡ text.old.items ++ iri_spelling iri.now) }
 {
@@ -185,7 +188,7 @@ fn begin_label_line(
     Ok(text)
 }
 
-// Completes a line with a space, a full stop and a line feed.
+// Completes the line of a triple with a space, a full stop and a line feed.
 fn end_line(mut text: Vec<u8>) -> Result<ExportPart, AllocError>
     ensures { IfOk result (λ line. line ≡ text.items ++ codes " .\n") }
 {
@@ -208,7 +211,7 @@ impl ExportPart {
         self.text.as_slice()
     }
 
-    /// Returns the line of a triple whose object is a resource.
+    /// Returns the line of the triple with this property from resource `n` to resource `object`.
     pub fn of_node(
         alloc: Global,
         core: &Core,

@@ -75,7 +75,7 @@ fn push_match(
     Ok(())
 }
 
-// Appends the line of one mapping, if the concept is its subject.
+// Appends the line of one mapping, such as `skos:exactMatch`, if the concept is its subject.
 fn push_mapping(
     about: &LineSource,
     lines: &mut Vec<ExportPart>,

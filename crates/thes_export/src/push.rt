@@ -8,7 +8,7 @@ use std::alloc::AllocError;
 use thes_base::number::ResNo;
 use thes_base::triple::Property;
 
-/// Appends a line, unless memory runs out.
+/// Appends a line to those of an export.
 pub(crate) fn push_line(lines: &mut Vec<ExportPart>, line: ExportPart) -> Result<(), AllocError>
     ensures { OnOk result (Adds (λ (l : List ℕ). l ≡ line) lines.old.items lines.new.items) }
 {
@@ -16,7 +16,7 @@ pub(crate) fn push_line(lines: &mut Vec<ExportPart>, line: ExportPart) -> Result
     Ok(())
 }
 
-/// Appends the line of the triple from the resource to an object.
+/// Appends the line of the triple with this property from the resource to an object.
 pub(crate) fn push_node(
     about: &LineSource,
     lines: &mut Vec<ExportPart>,
@@ -31,7 +31,7 @@ pub(crate) fn push_node(
     Ok(())
 }
 
-/// Appends the line of the triple from the resource to each object, in the order of the objects.
+/// Appends the line of the triple with this property from the resource to each object, in order.
 pub(crate) fn push_nodes(
     about: &LineSource,
     lines: &mut Vec<ExportPart>,

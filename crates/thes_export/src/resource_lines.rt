@@ -65,7 +65,7 @@ fn is_dead_concept(resource: &Resource) -> bool
     is_concept(resource) && !resource.live
 }
 
-// Appends the line of the SKOS class; an outside concept has none.
+// Appends the line of the resource's SKOS class (`rdf:type`); an outside concept has none.
 pub(crate) fn push_kind(about: &LineSource, lines: &mut Vec<ExportPart>) -> Result<(), AllocError>
     ensures { OnOk result (AddsTopic about.now Topic.Kind lines.old.items lines.new.items) }
 {
@@ -146,7 +146,8 @@ pub(crate) fn push_top_concepts(
     Ok(())
 }
 
-// Appends the line that states that a concept is deprecated, if the resource is such a concept.
+// Appends the line that states that the resource is deprecated (`owl:deprecated`), if it is a dead
+// concept.
 pub(crate) fn push_death(about: &LineSource, lines: &mut Vec<ExportPart>) -> Result<(), AllocError>
     ensures { OnOk result (AddsTopic about.now Topic.Death lines.old.items lines.new.items) }
 {
@@ -174,7 +175,7 @@ pub(crate) fn push_replacement(
     }
 }
 
-// Appends the lines of all labels and scope notes.
+// Appends the lines of the resource's labels and scope notes, such as `skos:prefLabel`.
 #[tactic(auto, using(crate::proofs::TopicLemmas::label_lines))]
 pub(crate) fn push_labels(about: &LineSource, lines: &mut Vec<ExportPart>) -> Result<(), AllocError>
     ensures { OnOk result (AddsTopic about.now Topic.Labels lines.old.items lines.new.items) }

@@ -63,7 +63,7 @@ impl Topic {
     }
 }
 
-// Appends the lines of one topic.
+// Appends the lines about a resource that belong to one topic.
 fn push_topic(
     about: &LineSource,
     lines: &mut Vec<ExportPart>,

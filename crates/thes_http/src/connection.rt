@@ -26,9 +26,9 @@ pub enum ConnectionEnd {
     Answered(Status),
     /// The input ended inside the request, and nothing was performed or written.
     Cut,
-    /// The reader failed, or was denied a read, and nothing was performed or written.
+    /// The reader failed, or no read was left in the budget; nothing was performed or written.
     ReadFault,
-    /// The writer failed, or was denied a write, within the response.
+    /// The writer failed, or no write was left in the budget, within the response.
     WriteFault,
 }
 
@@ -80,10 +80,10 @@ fn answer<R: Read, S: Service>(
 }
 
 /// Reads one request, performs it, and writes the response. The routes are made once, for all
-/// connections; `None` in their place means that memory for them ran out, which is the response.
+/// connections; `None` in their place means that memory for them ran out, and the response is
+/// `OutOfMemory`.
 ///
-/// `ReadFault` and `WriteFault` are returned only if the device failed, or was denied a read or a
-/// write.
+/// The budget of both pipes together is 100,000,000 reads and writes.
 pub fn serve_one<R: Read, W: Write, S: Service>(
     alloc: Global,
     routes: Option<&Routes>,

@@ -1,4 +1,4 @@
-//! Streams that fail once their client has taken too long.
+//! Streams of connections that fail once their client has taken too long.
 ghost use Rattle.std.specs.Prelude.{◌≡◌, ◌↔◌, ◌<◌, ◌+◌, ◌*◌, ◌/◌, min, None, Some, IsSome, IfSome};
 ghost use Rattle.std.specs.Duration.{as_nanos};
 ghost use Rattle.std.specs.IoError.{error_kind};
@@ -35,8 +35,8 @@ fn time_left(allowed: Duration, passed: Duration) -> Option<Duration>
     }
 }
 
-// Returns the time for one wait. It is at most a second, since the system may end a wait late, by
-// an eighth of its length.
+// Returns the time to wait for one read or write: all that is left, but at most a second, since the
+// system may end a wait late, by an eighth of its length.
 fn wait_within(left: Duration) -> Duration
     ensures { as_nanos result ≡ min (as_nanos left) 1_000_000_000 }
 {
@@ -88,7 +88,7 @@ impl<'a, C: Clock, T> TimedStream<'a, C, T> {
         stream
     }
 
-    // Counts bytes that were read or written.
+    // Adds to the number of bytes that were read or written.
     fn note_bytes(&mut self, count: usize)
         ensures count { self.new.bytes ≡ min (self.old.bytes + count) 18_446_744_073_709_551_615 }
         ensures frame { (self.new.stream ≡ self.old.stream) × (self.new.start ≡ self.old.start) }
@@ -113,6 +113,7 @@ impl<'a, C: Clock, T> TimedStream<'a, C, T> {
     }
 }
 
+/// Reads within the client's time: `TimedOut` once that is over, `Interrupted` if one wait ended.
 impl<C: Clock, T: Read + OpenStream> Read for TimedStream<'_, C, T> {
     ghost remaining = { λ s. T.remaining s.stream };
 
@@ -129,6 +130,7 @@ impl<C: Clock, T: Read + OpenStream> Read for TimedStream<'_, C, T> {
     }
 }
 
+/// Writes within the client's time: `TimedOut` once that is over, `Interrupted` if one wait ended.
 impl<C: Clock, T: Write + OpenStream> Write for TimedStream<'_, C, T> {
     ghost contents = { λ s. T.contents s.stream };
 

@@ -31,5 +31,6 @@ pub trait Service: RequestHandler {
         ensures { let asked = wanted.now in
             behaviour.displays self.old asked.kind asked.scheme asked.tag.now result self.new };
 
+    // The service does for requests what its request handler does for them.
     ghost does_requests: { DoesRequests Self.requests behaviour };
 }

@@ -18,7 +18,7 @@ use thes_http_request::endpoint::Routes;
 // The greatest number of reads, of 16 KiB each, that discard input after the response.
 const READS: u32 = 32_768;
 
-// The greatest number of these reads that may time out, after 4 ms each.
+// The greatest number of these reads that may time out, after 4 ms each, or be interrupted.
 const WAITS: u32 = 256;
 
 // The greatest time for all of these reads, in seconds.
@@ -73,7 +73,7 @@ fn is_over<C: Clock>(clock: &C, start: Instant) -> bool {
     }
 }
 
-// Returns whether input was discarded for two seconds.
+// Returns whether input was discarded for two seconds or longer.
 fn is_long(passed: Duration) -> bool
     ensures { IsTrue result ↔ 2_000_000_000 ≤ as_nanos passed }
 {

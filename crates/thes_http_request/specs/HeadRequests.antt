@@ -32,8 +32,8 @@ request_at_endpoint p (Some found) =
     then request_with_body found (query_of p.target) (body_length (body_limit found.endpoint) p.fields)
     else Err (BadMethod found.endpoint)
 
--- The request in a head, or the first problem: a transfer coding, the path, the method, or the
--- length of the body. It depends on whether plans are taken.
+-- The request in a head, or the first problem: a transfer coding, the path, the method, or the length of the body. The
+-- outcome depends on whether plans are taken.
 unfoldable pub head_request_of : Bool → Parts → Result HeadRequest Problem
 head_request_of takes_plans p =
     if has_field (codes "transfer-encoding") p.fields then Err TransferCoding

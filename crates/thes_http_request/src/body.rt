@@ -40,8 +40,8 @@ impl From<InputFault> for BodyStop {
 }
 
 // Reserves capacity if none is left: for as many more bytes as the body has, plus 4,096, but at
-// most for `count` bytes in all. Not for all at once, as a client may announce what it never sends
-// (DECISIONS.md, Memory).
+// most for the `count` bytes announced. Not for all at once, as a client may announce what it never
+// sends (DECISIONS.md, Memory).
 fn reserve_body(body: &mut Vec<u8>, count: usize) -> Result<(), AllocError>
     requires short { vec_len body.old < count }
     requires room { HasBoundedCapacity count (vec_len body.old) (vec_capacity body.old) }
@@ -54,7 +54,7 @@ fn reserve_body(body: &mut Vec<u8>, count: usize) -> Result<(), AllocError>
     body.reserve_exact(len.saturating_add(4096).min(count - len))
 }
 
-// Appends bytes, for which the capacity suffices.
+// Appends bytes to the body of an HTTP request, whose capacity suffices for them.
 fn add(body: &mut Vec<u8>, bytes: &[u8])
     requires { vec_len body.old + length bytes.now ≤ vec_capacity body.old }
     ensures items { body.new.items ≡ body.old.items ++ bytes.now }
@@ -66,7 +66,8 @@ fn add(body: &mut Vec<u8>, bytes: &[u8])
     }
 }
 
-// Reads into the chunk, appends the bytes read to the body, and returns whether there were any.
+// Reads into the chunk, appends the bytes read to the body, and returns whether there were any;
+// false at the end of the input.
 fn read_more<R: Read>(
     reader: &mut Pipe<R>,
     budget: &mut Budget,

@@ -48,8 +48,8 @@ impl Endpoint {
         }
     }
 
-    /// Returns whether this is the name of the endpoint's method; allocates nothing, since names
-    /// above the limit aren't parsed.
+    /// Returns whether this is the name of the endpoint's method; allocates nothing, since names of
+    /// more than 15 bytes aren't parsed.
     pub fn has_method(self, alloc: Global, name: &[u8]) -> bool
         ensures { result ≡ bytes_eq name.now (method_of self) }
     {
@@ -101,7 +101,8 @@ impl Model for Routes {
     ghost invariant = { λ routes. routes.router ≡ route_rows };
 }
 
-// Adds a route to an endpoint.
+// Adds a route to an endpoint. Each error counts as running out of memory: the routes are well
+// formed and don't conflict.
 #[tactic(auto, using(crate::proofs::RouteLemmas::rows_with_new_route))]
 fn add_route(
     router: &mut Router<Endpoint>,

@@ -1,4 +1,5 @@
-//! Look-ups of header fields, and the length of the body (RFC 9110, sections 5 and 8.6).
+//! Look-ups of the header fields of an HTTP request, and the length of its body (RFC 9110, sections
+//! 5 and 8.6).
 ghost use Rattle.std.specs.Prelude.{◌≡◌, ◌<◌, ℕ, List, length, map, All, MatchOption};
 ghost use Rattle.std.specs.Char.{to_ascii_lowercase, is_ascii_digit};
 ghost use Rattle.std.specs.List.{list_all};
@@ -9,7 +10,7 @@ ghost use Rattle.thes_http_request.specs.Inbox.{spans_named, first_named};
 use crate::problem::Problem;
 use httparse::spans::HeaderSpan;
 
-/// Returns whether some field has this name, in any case.
+/// Returns whether some header field has this name, in any case.
 pub fn has_field(bytes: &[u8], headers: &[HeaderSpan], name: &[u8]) -> bool
     requires { All (IsHeaderWithin (length bytes.now)) headers.now }
     ensures { result ≡ has_field (map to_ascii_lowercase name.now)
@@ -30,8 +31,8 @@ pub fn body_length(bytes: &[u8], headers: &[HeaderSpan], limit: Option<u32>) -> 
     }
 }
 
-// Returns the length in the only field with this name; `NoLength` if there is none, and `BadHead`
-// if there are several.
+// Returns the length in the only header field with this name; `NoLength` if there is none, and
+// `BadHead` if there are several.
 fn length_named(
     bytes: &[u8],
     headers: &[HeaderSpan],
@@ -51,7 +52,7 @@ fn length_named(
     length_of(headers[at].value.of(bytes), limit)
 }
 
-// Returns the index of the first field with this name, in any case.
+// Returns the index of the first header field with this name, in any case.
 fn find_field(bytes: &[u8], headers: &[HeaderSpan], name: &[u8]) -> Option<usize>
     requires { All (IsHeaderWithin (length bytes.now)) headers.now }
     ensures { MatchOption result (first_named name.now bytes.now headers.now ≡ length headers.now)
@@ -65,7 +66,7 @@ fn find_field(bytes: &[u8], headers: &[HeaderSpan], name: &[u8]) -> Option<usize
     None
 }
 
-// Returns whether the field has this name, in any case.
+// Returns whether the header field has this name, in any case.
 fn is_named(bytes: &[u8], header: HeaderSpan, name: &[u8]) -> bool
     requires { IsHeaderWithin (length bytes.now) header }
     ensures { result ≡ spans_named name.now bytes.now header }
@@ -73,7 +74,8 @@ fn is_named(bytes: &[u8], header: HeaderSpan, name: &[u8]) -> bool
     header.name.of(bytes).eq_ignore_ascii_case(name)
 }
 
-// Parses a length in decimal; `BadHead` if it isn't one, and `TooLong` if it exceeds the limit.
+// Parses the length of a body in decimal; `BadHead` if the text isn't one, and `TooLong` if the
+// length exceeds the limit.
 fn length_of(text: &[u8], limit: u32) -> Result<u32, Problem>
     ensures { result ≡ length_of limit text.now }
 {
@@ -89,14 +91,14 @@ fn length_of(text: &[u8], limit: u32) -> Result<u32, Problem>
     }
 }
 
-// Returns whether a value consists of one or more decimal digits.
+// Returns whether the value of a header field consists of one or more decimal digits.
 fn is_length(text: &[u8]) -> bool
     ensures { result ≡ is_length text.now }
 {
     !text.is_empty() && all_digits(text)
 }
 
-// Returns whether each byte is an ASCII digit.
+// Returns whether each byte of a header field's value is an ASCII digit.
 fn all_digits(text: &[u8]) -> bool
     ensures { result ≡ list_all is_ascii_digit text.now }
 {

@@ -60,7 +60,8 @@ fn without_blank_lines(bytes: &[u8]) -> &[u8]
     }
 }
 
-// Returns the number of complete lines after the leading empty ones, the request line included.
+// Returns the number of complete lines of a head after the leading empty ones, the request line
+// included.
 fn whole_lines(bytes: &[u8]) -> usize
     ensures { result ≡ whole_lines bytes.now }
 {
@@ -85,7 +86,7 @@ fn ends_in_target(bytes: &[u8]) -> bool
     }
 }
 
-// Splits a line at its first space, if it has one.
+// Splits a request line at its first space, if it has one.
 fn split_at_space(line: &[u8]) -> Option<(&[u8], &[u8])>
     ensures { MatchOption result (list_any is_space line.now ≡ false)
         (λ parts. (list_any is_space line.now ≡ true)
@@ -96,7 +97,7 @@ fn split_at_space(line: &[u8]) -> Option<(&[u8], &[u8])>
     Some((&line[..at], &line[at + 1..]))
 }
 
-// Returns whether each byte is allowed in a target.
+// Returns whether each byte is allowed in the target of a request line.
 fn is_target(bytes: &[u8]) -> bool
     ensures { result ≡ list_all is_uri_byte bytes.now }
 {

@@ -111,7 +111,8 @@ fn request_of_parts<'a>(
     }
 }
 
-// Splits a target at its first question mark into its path and its query string.
+// Splits the target of an HTTP request at its first question mark into its path and its query
+// string, which is empty without one.
 fn split_target(target: &str) -> (&str, &str)
     ensures path { result.0.now ≡ path_of target.now }
     ensures query { result.1.now ≡ query_of target.now }

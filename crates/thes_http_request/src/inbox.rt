@@ -33,7 +33,7 @@ impl Model for Inbox {
 pub enum InputFault {
     /// The input ended inside the request.
     Cut,
-    /// The reader failed, or was denied a read.
+    /// The reader failed, or no read is left in the budget.
     ReadFault,
 }
 
@@ -46,6 +46,7 @@ pub enum HeadStop {
     InputFault(InputFault),
 }
 
+// The greatest length of a head in bytes.
 const HEAD_LIMIT: usize = 8192;
 
 impl Inbox {
@@ -93,7 +94,8 @@ impl Inbox {
         self.filled > HEAD_LIMIT
     }
 
-    // Reads once, appends the bytes read, and returns whether there were any.
+    // Reads once, appends the bytes read, and returns whether there were any; false at the end of
+    // the input.
     fn fill<R: Read>(
         &mut self,
         reader: &mut Pipe<R>,

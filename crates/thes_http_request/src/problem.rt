@@ -15,7 +15,7 @@ pub enum Problem {
     BadMethod(Endpoint),
     /// The length of the body is missing.
     NoLength,
-    /// The body is longer than the endpoint allows.
+    /// The head states a longer body than the endpoint allows.
     TooLong,
     /// The query string isn't exactly a scheme and a language.
     BadQuery,

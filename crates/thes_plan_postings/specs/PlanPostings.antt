@@ -17,12 +17,13 @@ use Rattle.thes_plan_postings.specs.declared.plan_postings.PlanPostings.{PlanPos
 abbrev pub placement_of : PlanPostings → Number → Option Placement
 placement_of postings n = get nat_cmp postings.placements n
 
--- The row with the placement in place of its own, if there is one.
+-- The row of a posting with this placement in place of its own; unchanged for None.
 abbrev pub row_placed : Option Placement → PostingRow → PostingRow
 row_placed None row = row
 row_placed (Some x) row = record row { place = x.place; withdrawn = x.withdrawn }
 
--- The posting has this placement: its row is that of the tables or the added one, with the placement.
+-- Among `rows`, the row of posting `n` is that among `bases`, the rows of the tables and the added ones, with the
+-- placement `x`.
 pub record HasPlacement (bases rows : List PostingRow) (n : Number) (x : Placement) : Type 0 where
   pub row : PostingRow
   pub base : entry_at bases n ≡ Some row
@@ -37,7 +38,7 @@ pub record ArePlanRows (olds rows : List PostingRow) (postings : PlanPostings) :
   pub placed : (n : Number) (x : Placement) → placement_of postings n ≡ Some x
       → HasPlacement (olds ++ postings.added.items) rows n x
 
--- Each row has the number of its place.
+-- Each row has the number of its position, counted from 1.
 abbrev pub AreNumbered : List PostingRow → Type 0
 AreNumbered rows = (n : Number) (row : PostingRow) → entry_at rows n ≡ Some row → row.number ≡ n
 
@@ -56,7 +57,8 @@ abbrev pub IsRowOfNumber : Number → List PostingRow → Option PostingRow → 
 IsRowOfNumber n rows (Some row) = IsIn row rows × (row.number ≡ n)
 IsRowOfNumber n rows None = (row : PostingRow) → IsIn row rows → row.number ≢ n
 
--- Whether a posting is assigned to the concept: by its placement, or, if it has none, as the tables have it.
+-- Whether a posting is assigned to the concept: by its placement, if the plan has changed it. For any other posting
+-- `by_tables` is the answer: whether the tables have it assigned to the concept.
 abbrev pub is_assigned_by : Number → Bool → Option Placement → Bool
 is_assigned_by concept by_tables None = by_tables
 is_assigned_by concept by_tables (Some x) = not x.withdrawn && x.place == concept
@@ -65,25 +67,27 @@ is_assigned_by concept by_tables (Some x) = not x.withdrawn && x.place == concep
 abbrev pub has_number : List ℕ → ℕ → Bool
 has_number numbers n = list_any (nat_eq n) numbers
 
--- The candidates have the number, and its posting is assigned to the concept.
+-- The candidates have the number, and its posting is assigned to the concept with the changes of the plan so far. For a
+-- posting that the plan hasn't changed, `by_tables` says whether the tables have it assigned to the concept.
 abbrev pub is_assigned_candidate : PlanPostings → List ℕ → Number → Bool → ℕ → Bool
 is_assigned_candidate postings candidates concept by_tables n =
     has_number candidates n && is_assigned_by concept by_tables (placement_of postings n)
 
--- The numbers are those of the postings assigned to the concept, in increasing order, if `standing` are those assigned
--- to it in the tables.
+-- The numbers are those of the postings that the plan has left assigned to the concept, in increasing order, if
+-- `standing` are the numbers of those that the tables have assigned to it.
 pub record AreAssigned (postings : PlanPostings) (concept : Number) (standing numbers : List ℕ) : Type 0 where
   pub rises : IsStrictlySortedBy nat_cmp numbers
   pub has : (n : ℕ) → Contains numbers n ↔ ((is_assigned_candidate postings standing concept true n
       || is_assigned_candidate postings (keys postings.placements) concept false n) ≡ true)
 
--- The listed postings get this placement, and others keep theirs.
+-- The plan gives the listed postings this placement; the placements of other postings, and the added rows, are
+-- unchanged.
 pub record PlacesAll (old new : PlanPostings) (numbers : List ℕ) (x : Placement) : Type 0 where
   pub placements : (n : Number) → placement_of new n
       ≡ cond (has_number numbers n) (Some x) (placement_of old n)
   pub added : new.added.items ≡ old.added.items
 
--- A posting is added, with its placement.
+-- The plan adds a posting, with the placement that its row has.
 pub record AddsPosting (old new : PlanPostings) (row : PostingRow) : Type 0 where
   pub placements : (n : Number) → placement_of new n
       ≡ cond (has_number (row.number ∷ []) n) (Some (record { place = row.place; withdrawn = row.withdrawn }))

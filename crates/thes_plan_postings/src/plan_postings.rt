@@ -1,5 +1,5 @@
-//! The postings that the requests of a plan have added, moved or withdrawn so far. The tables have
-//! them as they were before the plan.
+//! The postings that the requests of a plan have added, moved or withdrawn so far. The tables of
+//! the storage are still as they were before the plan.
 ghost use Rattle.std.specs.Prelude.{◌≡◌, ◌||◌, ◌++◌, ℕ, List, IfOk, OnOk, option_map};
 ghost use Rattle.std.specs.BTreeMap.{keys};
 ghost use Rattle.std.specs.BTreeSet.{contains};
@@ -28,11 +28,11 @@ pub struct Placement {
     pub(crate) withdrawn: bool,
 }
 
-/// What a plan has changed of the postings so far.
+/// The changes of postings that the requests of a plan have made so far.
 #[derive(Drop)]
 pub struct PlanPostings {
     pub(crate) alloc: Global,
-    // The rows of the postings that the plan has added, as they were added.
+    // The rows of the postings that the plan has added, in their order and as they were added.
     pub(crate) added: Vec<PostingRow>,
     // The placement of each posting that the plan has added, moved or withdrawn.
     pub(crate) placements: BTreeMap<PostNo, Placement>,
@@ -63,7 +63,8 @@ impl PlanPostings {
         }
     }
 
-    // Looks up the row of a posting, in the tables or among the added ones, without its placement.
+    // Looks up the row of a posting, in the tables or among those that the plan has added, without
+    // its placement in the plan.
     fn base_row<K: Keeper>(
         &self,
         keeper: &mut K,
@@ -96,8 +97,8 @@ impl PlanPostings {
         }
     }
 
-    // Looks up the row of the posting with the key, in the tables or among the added ones, without
-    // its placement.
+    // Looks up the row of the posting with the key, in the tables or among those that the plan has
+    // added, without its placement in the plan.
     fn base_row_of_key<K: Keeper>(
         &self,
         keeper: &mut K,
@@ -132,8 +133,9 @@ impl PlanPostings {
         }
     }
 
-    // Checks whether a posting is assigned to the concept, if `by_tables` says whether it is in the
-    // tables.
+    // Checks whether a posting is assigned to the concept with the changes of the plan so far: by
+    // its placement, if the plan has changed it. For any other posting `by_tables` is the answer:
+    // whether the tables have it assigned to the concept.
     fn is_assigned(&self, number: PostNo, concept: ResNo, by_tables: bool) -> bool
         ensures { result ≡ is_assigned_by concept by_tables (placement_of self.now number) }
     {
@@ -143,7 +145,9 @@ impl PlanPostings {
         }
     }
 
-    // Inserts the candidates that are assigned to the concept into the set.
+    // Inserts those of the candidates into the set that are assigned to the concept with the
+    // changes of the plan so far. For candidates that the plan hasn't changed, `by_tables` says
+    // whether the tables have them assigned to the concept.
     fn insert_assigned(
         &self,
         numbers: &mut BTreeSet<PostNo>,
@@ -163,7 +167,8 @@ impl PlanPostings {
         Ok(())
     }
 
-    // Returns the numbers of the postings that the plan has added, moved or withdrawn.
+    // Returns the numbers of the postings that the plan has added, moved or withdrawn, in
+    // increasing order.
     fn changed_numbers(&self) -> Result<Vec<PostNo>, AllocError>
         ensures { IfOk result (λ numbers. numbers.items ≡ keys self.now.placements) }
     {
@@ -172,8 +177,8 @@ impl PlanPostings {
         Ok(numbers)
     }
 
-    // Returns the numbers of the postings assigned to the concept, in increasing order, if
-    // `standing` are those assigned to it in the tables.
+    // Returns the numbers of the postings that the plan has left assigned to the concept, in
+    // increasing order, if `standing` are the numbers of those that the tables have assigned to it.
     fn assigned_from(&self, concept: ResNo, standing: &[PostNo]) -> Result<Vec<PostNo>, AllocError>
         ensures { IfOk result (λ numbers.
             AreAssigned self.now concept standing.now numbers.items) }
@@ -205,7 +210,8 @@ impl PlanPostings {
     }
 }
 
-// Returns a copy of the row with the number, if one of the rows has it.
+// Returns a copy of the row with the number, if one of the postings that a plan has added has that
+// number.
 fn row_of_number(
     alloc: Global,
     rows: &[PostingRow],
@@ -222,7 +228,8 @@ fn row_of_number(
     Ok(None)
 }
 
-// Returns a copy of the row with the key, if one of the rows has it.
+// Returns a copy of the row with the key, if one of the postings that a plan has added has that
+// key.
 fn row_of_key(
     alloc: Global,
     rows: &[PostingRow],
@@ -239,7 +246,8 @@ fn row_of_key(
     Ok(None)
 }
 
-// Returns the row with the placement in place of its own, if there is one.
+// Returns the row of a posting with the placement that a plan has given it in place of its own, or
+// unchanged if `placement` is None.
 fn place_row(row: Option<PostingRow>, placement: Option<Placement>) -> Option<PostingRow>
     ensures { result ≡ option_map (row_placed placement) row }
 {
@@ -257,7 +265,7 @@ fn place_row(row: Option<PostingRow>, placement: Option<Placement>) -> Option<Po
     })
 }
 
-// Returns the elements of a set in ascending order, as a list.
+// Returns the numbers of a plan's postings in a set as a list, in increasing order.
 fn collect_numbers(alloc: Global, set: &BTreeSet<PostNo>) -> Result<Vec<PostNo>, AllocError>
     ensures numbers { IfOk result (λ numbers. numbers.items ≡ set.now.keys) }
     ensures rises { IsStrictlySortedBy nat_cmp set.now.keys }

@@ -1,4 +1,4 @@
-//! Records the changes of rows that the requests of a plan make of postings.
+//! Records the changes that the requests of a plan make to the rows of postings.
 ghost use Rattle.std.specs.Prelude.{◌≡◌, OnOk};
 ghost use Rattle.thes_tables.specs.Cells.{cells_of_tables};
 ghost use Rattle.thes_tables.specs.Rows.{ChangeFits, DeltaFits, tables_after_change, tables_after_delta};
@@ -16,7 +16,7 @@ use thes_tables::change::Change;
 use thes_tables::rows::PostingRow;
 
 impl PlanPostings {
-    // Records the placement of each of the postings.
+    // Records this placement for each of the postings: its place, and whether it is withdrawn.
     #[tactic(auto, using(crate::proofs::PlanChangeLemmas::places_none, crate::proofs::PlanChangeLemmas::places_all))]
     fn place_all(
         &mut self,
@@ -34,7 +34,7 @@ impl PlanPostings {
         Ok(())
     }
 
-    // Records that a posting is added.
+    // Records that the plan adds a posting, with the placement that its row has.
     fn add(&mut self, row: &PostingRow) -> Result<(), AllocError>
         ensures { OnOk result (AddsPosting self.old self.new row.now) }
     {
@@ -47,7 +47,7 @@ impl PlanPostings {
         Ok(())
     }
 
-    // Records that a posting is withdrawn.
+    // Records that the plan withdraws a posting; does nothing if there is none with the number.
     fn withdraw<K: Keeper>(&mut self, keeper: &mut K, number: PostNo) -> Result<(), Fault>
         ensures in_plan { OnOk result ((K.view keeper.new).is_up → (t now : Tables)
             → (K.view keeper.old).rows ≡ cells_of_tables t
@@ -62,7 +62,8 @@ impl PlanPostings {
         }
     }
 
-    // Records that a posting is assigned to the concept.
+    // Records that the plan changes the place of a posting; does nothing if there is none with the
+    // number.
     fn set_place<K: Keeper>(
         &mut self,
         keeper: &mut K,
@@ -82,7 +83,7 @@ impl PlanPostings {
         }
     }
 
-    // Records that the postings assigned to the first concept are assigned to the second.
+    // Records that the plan moves the postings that are assigned to the source to the target.
     fn move_all<K: Keeper>(
         &mut self,
         keeper: &mut K,
@@ -101,7 +102,7 @@ impl PlanPostings {
         }
     }
 
-    // Records one change of rows.
+    // Records a change of table posting that the plan makes; ignores changes of other tables.
     fn record_change<K: Keeper>(&mut self, keeper: &mut K, change: &Change) -> Result<(), Fault>
         ensures in_plan { OnOk result ((K.view keeper.new).is_up → (t now : Tables)
             → (K.view keeper.old).rows ≡ cells_of_tables t → ChangeFits change.now now
@@ -118,7 +119,7 @@ impl PlanPostings {
         }
     }
 
-    /// Records the changes of rows of one more request.
+    /// Records the changes of rows that the plan's next request makes.
     pub fn record_changes<K: Keeper>(
         &mut self,
         keeper: &mut K,

@@ -49,16 +49,15 @@ pub record AreRefused (raw : Raw) (fault : Fault) : Type 0 where
   pub none : (base : List ℕ) (s : State) → AreRowsOfState base s raw → ⊥
   pub verdict : (other sorted : Raw) → AreArranged raw other → AreSorted other sorted → HasVerdict sorted (Err fault)
 
--- The core is built from these rows, and can be used: it holds the state that they encode, and was loaded from them
--- once numbered tables were sorted by number.
+-- The core is built from these rows with the given limits, and can be used: it holds the state that the rows encode,
+-- and was loaded from them once numbered tables were sorted by number.
 pub record IsCoreOfRows (raw : Raw) (given : Limits) (core : CoreView) : Type 0 where
   pub content : HoldsRows raw core
   pub origin : (sorted : Raw) × AreSorted raw sorted × IsLoaded sorted core
   pub limits : core.setting.limits ≡ given
   pub readiness : core.spent ≡ false
 
--- The fault of these rows: they encode no legal state, and it is the verdict on them once numbered tables are sorted by
--- number.
+-- The rows encode no legal state, and the fault is the verdict on them once numbered tables are sorted by number.
 pub record IsFaultOfRows (raw : Raw) (fault : Fault) : Type 0 where
   pub refusal : AreRefused raw fault
   pub verdict : (sorted : Raw) × AreSorted raw sorted × HasVerdict sorted (Err fault)

@@ -53,6 +53,7 @@ impl CellRow {
     }
 }
 
+/// Yields the cells as they are, without copying them.
 impl AsCells for CellRow {
     ghost cells_of = { λ row. row };
 
@@ -65,7 +66,7 @@ impl AsCells for CellRow {
 }
 
 /// The rows of the eight tables of a store, in any order within a table; None for a table that
-/// can't be queried.
+/// can't be queried. Table move is `steps`.
 #[derive(Debug, Drop)]
 pub struct CellRows {
     pub meta: Option<Vec<CellRow>>,
@@ -123,7 +124,7 @@ impl CellRows {
         sort_table(&mut self.steps)
     }
 
-    // Returns the rows of the table with this name.
+    // Returns the rows of the table with this name, or None if the table can't be queried.
     fn rows_of(&self, name: Table) -> &Option<Vec<CellRow>>
         ensures { table_of result.now ≡ raw_rows_of name (raw_of self.now) }
     {
@@ -169,8 +170,7 @@ fn read_rows(alloc: Global, rows: &CellRows, limits: Limits) -> Result<Loader, F
 }
 
 /// Builds a core from lists of rows; any fault but OutOfMemory is the verdict on them. Sorts
-/// numbered tables first, so the result doesn't depend on the order of rows within a list. Only
-/// tests call it.
+/// numbered tables first, so the result doesn't depend on the order of rows within a list.
 pub fn from_rows(alloc: Global, rows: CellRows, limits: Limits) -> Result<Core, Fault>
     ensures ok { IfOk result (IsCoreOfRows (raw_of rows) limits) }
     ensures err { IfErr result (λ fault. (fault ≡ faults.OutOfMemory)

@@ -20,15 +20,15 @@ abbrev pub is_always_open : {K : Type 0} → OfficeView K → Bool
 is_always_open office = true
 
 module _ {K : Type 0} (view : K → StorageView) where
-  -- A command is performed by a step of the machine, whose next state the tables encode; a fault
-  -- leaves them unchanged.
+  -- If the storage is up at the end, a command is performed by a step of the machine, whose next state the tables
+  -- encode, or a fault leaves the tables unchanged.
   pub record OfficePerforms (old : OfficeView K) (command : Command) (result : Result Answer Fault)
       (new : OfficeView K) : Type 0 where
     pub fault_behaviour : FaultBehaviour view old new result
     pub performed : PerformResult view old command result new
 
-  -- A query is answered with the line of its view, or with the refusal of its number, in the state
-  -- that the tables encode; the tables are unchanged.
+  -- If the storage is up at the end, a query is answered with the line of its view, or with the refusal of its number,
+  -- in the state that the tables encode, and the tables are unchanged.
   pub record OfficeShows (old : OfficeView K) (query : Query) (result : Result QueryAnswer Fault)
       (new : OfficeView K) : Type 0 where
     pub fault_behaviour : FaultBehaviour view old new result
@@ -36,8 +36,8 @@ module _ {K : Type 0} (view : K → StorageView) where
     pub viewed : IfOk result (λ v. (view new.keeper).is_up →
         InStateOfTables (view new.keeper).rows (λ s. IsQueryAnswer s query (Ok v)))
 
-  -- A plan leads to the state that its requests lead to, with its outcome: a refused one leaves the
-  -- tables unchanged, and so does a fault.
+  -- If the storage is up at the end, a plan leads to the state that its requests lead to, with its outcome: a refused
+  -- plan leaves the tables unchanged, and so does a fault.
   pub record OfficePerformsPlan (old : OfficeView K) (plan : List PlanRequest) (result : Result PlanOutcome Fault)
       (new : OfficeView K) : Type 0 where
     pub fault_behaviour : FaultBehaviour view old new result
@@ -57,9 +57,9 @@ module _ {K : Type 0} (view : K → StorageView) where
   abbrev pub OfficeServes : Bool → LineBehaviour (OfficeView K)
   OfficeServes takes = Serves (office_requests takes)
 
-  -- A run of the machine leads from the old tables to the new ones. The new tables encode a
-  -- consistent state: each posting that isn't withdrawn is assigned to exactly one live concept,
-  -- the counts add up, and the triples meet the conditions of SKOS.
+  -- If the storage is up at the end, a run of the machine leads from the old tables to the new ones, which encode a
+  -- consistent state: each posting that isn't withdrawn is assigned to exactly one live concept, the counts add up, and
+  -- the triples meet the conditions of SKOS.
   pub record IsReachedByRun (old new : OfficeView K) : Type 0 where
     pub limits : new.limits ≡ old.limits
     pub was : (view new.keeper).is_up → (view old.keeper).is_up

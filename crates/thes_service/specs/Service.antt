@@ -33,7 +33,8 @@ import_answer (Ok None) = Ok None
 import_answer (Err halted) = Err halted.0
 
 module _ {K : Type 0} (view : K → StorageView) where
-  -- The result has the property `IsSo` for the base and the state that the tables encode, and the tables are unchanged.
+  -- If the storage is up at the end, the result has the property `IsSo` for the base and the state that the tables
+  -- encode, and the tables are unchanged.
   pub record HoldsOfState {A : Type 0} (IsSo : List ℕ → State → A → Type 0) (old : OfficeView K)
       (result : Result A Fault) (new : OfficeView K) : Type 0 where
     pub fault_behaviour : FaultBehaviour view old new result
@@ -50,8 +51,8 @@ module _ {K : Type 0} (view : K → StorageView) where
   OfficeDisplays old display scheme tag result new =
       HoldsOfState (λ base. IsDisplayed display scheme tag) old result new
 
-  -- The postings of the file were performed in order, by a run of the machine, and the answer has
-  -- their outcomes. If a fault halted the run, the answer is that fault alone.
+  -- The rows of the file were performed in order, by a run of the machine if the storage is up at the end, and the
+  -- answer has their outcomes. If a fault halted the run, the answer is that fault alone.
   pub record OfficeImports (old : OfficeView K) (file : List ℕ) (result : Result (Option (List ℕ)) Fault)
       (new : OfficeView K) : Type 0 where
     pub fault_behaviour : FaultBehaviour view old new result

@@ -70,9 +70,9 @@ impl<K: Keeper, M: PlanMode + Copy> OfficeHandler<K, M> {
     }
 }
 
-/// Each command is performed by a step of the machine over the tables of the storage, each plan by
-/// a run of it or not at all, and each view is of the state that they encode. A stale copy is
-/// reloaded first; a fault leaves the tables unchanged.
+/// While the storage is up, each command is performed by a step of the machine over its tables,
+/// each plan by a run of the machine or not at all, each view is of the state that the tables
+/// encode, and a fault leaves the tables unchanged. A stale copy is reloaded first.
 impl<K: Keeper, M: PlanMode> RequestHandler for OfficeHandler<K, M> {
     ghost use Rattle.thes_service.specs.OfficeRequests.{office_requests, is_always_open};
 
@@ -106,7 +106,7 @@ impl<K: Keeper, M: PlanMode> RequestHandler for OfficeHandler<K, M> {
     }
 }
 
-// Returns the text of a report, without its counts.
+// Returns the text of an import's report as a page, without the counts.
 fn page_of(report: Report) -> Page
     ensures { result ≡ report.text.items }
 {
@@ -114,9 +114,9 @@ fn page_of(report: Report) -> Page
     Page::new(text)
 }
 
-/// An import is a run of the machine over the tables of the storage; a fault ends it, and the rows
-/// before it stay performed. Exports and displays are of the state that the tables encode, and
-/// leave the tables unchanged. A stale copy is reloaded first.
+/// While the storage is up, an import is a run of the machine over its tables; a fault ends the
+/// run, and the rows before stay performed. Exports and displays are of the state that the tables
+/// encode, and leave the tables unchanged. A stale copy is reloaded first.
 impl<K: Keeper, M: PlanMode> Service for OfficeHandler<K, M> {
     ghost use Rattle.std.specs.Prelude.{refl};
     ghost use Rattle.thes_service.specs.Service.{office_behaviour};
@@ -161,9 +161,9 @@ impl<K: Keeper, M: PlanMode> Service for OfficeHandler<K, M> {
 /// If the storage is up at the end of the call, a run of the machine leads from the state that the
 /// tables encoded to their new one, whatever the lines are. The new state is consistent: each
 /// posting that isn't withdrawn is assigned to exactly one live concept, the counts add up, and the
-/// triples meet the conditions of SKOS. If the storage fails or memory runs out, the line is
-/// answered with the fault, and the tables are unchanged. The limits on lines are those of
-/// `script`; `OutOfMemory` is returned only before the first line.
+/// triples meet the conditions of SKOS. A line for which the storage fails or memory runs out is
+/// answered with the fault, and changes no table if the storage stays up. The limits on lines are
+/// those of `script`; `OutOfMemory` is returned only before the first line.
 pub fn office_script<K: Keeper, M: PlanMode, R: Read, W: Write>(
     alloc: Global,
     reader: &mut Pipe<R>,

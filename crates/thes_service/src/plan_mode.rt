@@ -1,9 +1,10 @@
 //! Whether plans are among the requests of scripts and connections.
 ghost use Rattle.std.specs.Prelude.{◌≡◌, Bool, false, true};
 
-/// Whether an office takes plans from scripts and connections.
+/// The mode of an office's handler: whether plans are taken from scripts and connections.
 pub trait PlanMode {
-    // A type, not a field: in contracts a handler is its office (DECISIONS.md, The office).
+    // The mode is a type, not a field: in contracts a handler is its office (DECISIONS.md, The
+    // office).
     ghost takes: { Bool };
 
     /// Returns whether plans are taken.

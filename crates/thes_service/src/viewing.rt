@@ -19,7 +19,7 @@ use thes_requests::page::Page;
 use thes_requests::request::Query;
 use thes_store::keeper::Keeper;
 
-/// Answers the query for the totals.
+/// Answers the query for the totals by a line of JSON.
 pub(crate) fn view_totals<K: Keeper>(
     office: &mut Office<K>,
     alloc: Global,
@@ -42,7 +42,7 @@ fn view_core_concept(core: &Core, alloc: Global, number: ResNo) -> Result<QueryA
     query_answer(alloc, &view)
 }
 
-/// Answers the query for a concept.
+/// Answers the query for a concept by a line of JSON or the refusal of its number.
 pub(crate) fn view_concept<K: Keeper>(
     office: &mut Office<K>,
     alloc: Global,
@@ -55,7 +55,7 @@ pub(crate) fn view_concept<K: Keeper>(
     Ok(view_core_concept(core, alloc, number)?)
 }
 
-/// Answers the query for the postings of a concept.
+/// Answers the query for the postings of a concept by a line of JSON or the refusal of its number.
 pub(crate) fn view_postings<K: Keeper>(
     office: &mut Office<K>,
     alloc: Global,
@@ -72,7 +72,7 @@ pub(crate) fn view_postings<K: Keeper>(
     }
 }
 
-/// Answers the query for a posting.
+/// Answers the query for a posting by a line of JSON or the refusal of its number.
 pub(crate) fn view_posting<K: Keeper>(
     office: &mut Office<K>,
     alloc: Global,

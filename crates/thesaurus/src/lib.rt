@@ -26,7 +26,7 @@
 //! program, or uses the one that its value was made with. Memory may run out in each such call:
 //! that is an error like others. So texts, labels and commands are copied by `try_clone`.
 //!
-//! **Storage.** What has `K: Keeper` works over any storage of the eight tables: `MemKeeper` keeps
+//! **Storage.** A call with `K: Keeper` works over any storage of the eight tables: `MemKeeper` has
 //! them in memory, `SqlKeeper` in a database of the crate `sqlite`, and a program may have its own.
 //! A commit makes all changes or none; a load yields all rows, table after table; the other calls
 //! look postings up, which are in the storage alone. An office owns its storage until
@@ -38,9 +38,9 @@
 //! it. A core whose change ran out of memory is spent (`Core::is_spent`): calls of a core require
 //! that it isn't.
 //!
-//! **Facts.** A core has only counts of postings. What the decision on a command depends on is
-//! passed to it as `Facts`: for a Post the posting with its key, for a Withdraw or a Split the
-//! postings that it lists, for a Merge the numbers of those at its source, and for any other
+//! **Facts.** A core has only counts of postings. What its decision on a command depends on is
+//! passed to the core as `Facts`: for a Post the posting with its key, for a Withdraw or a Split
+//! the postings that it lists, for a Merge the numbers of those at its source, and for any other
 //! command none. An office asks its storage for them. An answer is right if the facts are.
 //!
 //! **Checks.** A check changes nothing, and returns the first refusal. A change of a part requires
