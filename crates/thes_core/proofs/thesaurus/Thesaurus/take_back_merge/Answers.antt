@@ -38,14 +38,15 @@ drop_labels-requires c =
     (before_merge_death t source target s is) in
     subst (λ (ls : List LabelData). AreLegalLabels v.resources (set.difference v.labels (labels_of_owner target ls)))
     (sym c.as_slice.ensures.value)
-    (copies_droppable t source target s is c.in-Merge.loss lost v alive)
+    (copies_droppable t source target s is c.in-Merge.loss.value lost v alive)
 
 pub add_all-requires : goal.add_all-requires
 add_all-requires c =
     let lost = subst (λ (x : Lost). IsLostFromParts (request.Merge c.args.source c.args.target) c.requires.0 x)
     c.in-Merge.is c.requires.2 in
     subst (AreNew c.args.self.now.graph) (sym c.as_slice-2.ensures.value)
-    (links_may_come_back c.args.self.now c.args.source c.args.target c.requires.0 c.requires.1 c.in-Merge.loss lost)
+    (links_may_come_back c.args.self.now c.args.source c.args.target c.requires.0 c.requires.1 c.in-Merge.loss.value
+    lost)
 
 pub take_back_moves-requires : goal.take_back_moves-requires
 take_back_moves-requires c = record {
@@ -57,7 +58,7 @@ returns-clause-parts c = λ s is lost_is.
     let t = c.args.self.now in
     let source = c.args.source in
     let target = c.args.target in
-    let loss = c.in-Merge.loss in
+    let loss = c.in-Merge.loss.value in
     let lost = subst (λ (x : Lost). IsLostFromParts (request.Merge source target) s x) c.in-Merge.is lost_is in
     let v = c.take_back_death.new.self in
     let alive = c.in_ok-take_back_death.ensures.ok (merged_vocabulary t source target s is) (Some target)
