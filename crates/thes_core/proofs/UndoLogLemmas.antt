@@ -4,7 +4,6 @@ use Rattle.std.proofs.Common.{◌∙◌, subst, rules, arith, get_or, length, ta
 use Rattle.std.proofs.lemmas.List.{take_more}
 use Rattle.std.proofs.lemmas.List.Sums.{count_by-le-length}
 use Rattle.std.specs.Prelude.{Result, Ok, Err, OnOk, None, Some, count_by}
-use Rattle.std.specs.Global.{Box}
 use Rattle.std.proofs.lemmas.Option.{same_Some}
 use Rattle.thes_base.specs.declared.data.History.{History}
 use Rattle.thes_base.specs.declared.request.Command.{Command}
@@ -225,21 +224,19 @@ counts_unsplit setting s source tag text postings n k old new legal accepts numb
     counted = subst (λ m. ArePostingCounts (histories_after_split postings m s.histories) old) (sym number) counts
 
 -- The counts before a merge.
-pub counts_unmerged : (setting : Setting) (s : State) (source target : ℕ) (loss : Box MergeLoss)
-    (old new : PostingCounts)
+pub counts_unmerged : (setting : Setting) (s : State) (source target moves : ℕ) (old new : PostingCounts)
     → IsLegalState setting.base s → source ≢ target
-    → IsLostFromPostings (request.Merge source target) s (Merge loss)
+    → (length s.histories < 2 ^ 32 → moves ≡ assigned_count source s.histories)
     → ArePostingCounts (histories_after_merge source target s.histories) old
-    → (HasMovesToTakeBack source target loss.value.moves old
-    → CountsAfterMoves source target loss.value.moves new old)
+    → (HasMovesToTakeBack source target moves old → CountsAfterMoves source target moves new old)
     → ArePostingCounts s.histories new
-counts_unmerged setting s source target loss old new legal apart lost counts back =
+counts_unmerged setting s source target moves old new legal apart moved counts back =
     let few = legal.postings.few in
     let all = all_assigned source target apart s.histories in
     sums_before_moves (is_assigned_to source) source target apart (move_count s.histories + 1) s.histories all
-    loss.value.moves (lost few) old new counts
+    moves (moved few) old new counts
     (back (moves_counted (is_assigned_to source) source target apart (move_count s.histories + 1) s.histories all
-    loss.value.moves (lost few) old counts few))
+    moves (moved few) old counts few))
 
 -- The number of postings that a merge moves is that of the postings in its facts.
 pub moves_lost : (source target : ℕ) (s : State) (facts : Facts) (standing : List ℕ) (moved : ℕ)

@@ -191,6 +191,7 @@ impl Thesaurus {
         let Lost::Merge(loss) = lost else {
             return Ok(());
         };
+        let loss = &**loss;
         self.vocab.take_back_death(source)?;
         self.vocab.drop_labels(target, loss.copies.as_slice());
         self.graph.add_all(loss.links.as_slice())?;
