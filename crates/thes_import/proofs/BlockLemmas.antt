@@ -147,7 +147,8 @@ module _ {K : Type 0} (view : K → StorageView) where
   -- If the rows of a block were read, performed and reported, so was the block.
   pub block_reported : (old new : OfficeView K) (reader reader' : RowReader) (report report' : Report)
       (rows : List CsvRow) → ((bytes : List ℕ) (all first : List CsvRow) → HasReadRows bytes all first reader
-      → HasReadRows bytes all (first ++ rows) reader') → 0 < length rows → length rows ≤ 1000 → ReportsRows old rows report (let x : Result (Unit {0}) Fault = Ok tt in x)
+      → HasReadRows bytes all (first ++ rows) reader') → 0 < length rows → length rows ≤ 1000
+      → ReportsRows old rows report (let x : Result (Unit {0}) Fault = Ok tt in x)
       report' new → ReportsBlock view old reader report report' reader' new
   block_reported old new reader reader' report report' rows reads some few reports = record {
     rows = rows;
@@ -190,8 +191,7 @@ module _ {K : Type 0} (view : K → StorageView) where
   -- If memory for a block runs out, the import ends before the first row of the block.
   pub block_unread : (office : OfficeView K) (reader reader' : RowReader) (report report' : Report)
       (result : Result (Unit {0}) Fault) (fault : Fault) → result ≡ Err fault → ShowsState office
-      → reader.has_more ≡ true
-      → report'.text.items ≡ report.text.items → report'.counts ≡ report.counts
+      → reader.has_more ≡ true → report'.text.items ≡ report.text.items → report'.counts ≡ report.counts
       → ImportsBlock view office reader report result report' reader' office
   block_unread office reader reader' report report' result fault is shows some text counts = subst
       (λ (r : Result (Unit {0}) Fault). ImportsBlock view office reader report r report' reader' office) (sym is)

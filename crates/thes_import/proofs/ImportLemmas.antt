@@ -1,5 +1,5 @@
 -- Proves the invariant of an import: the rows performed so far are a run of the machine, with the outcomes reported.
-use Rattle.std.proofs.Common.{◌≡◌, ◌∙◌, ◌+◌, ◌<◌, ◌≤◌, ◌^◌, ◌++◌, ◌∷◌, [], ℕ, List, refl, sym, ap, subst, length}
+use Rattle.std.proofs.Common.{◌≡◌, ◌∙◌, ◌+◌, ◌<◌, ◌^◌, ◌++◌, ◌∷◌, [], ℕ, List, refl, sym, ap, subst, length}
 use Rattle.std.proofs.Common.{◌-◌, append-nil, arith, false, length-append}
 use Rattle.std.specs.Prelude.{Result, Ok, Err}
 use Rattle.std.specs.List.{AllByRecursion, AllZip}
@@ -165,7 +165,8 @@ module _ {K : Type 0} (view : K → StorageView) where
 
   -- One more block leaves fewer rows that can be counted.
   pub fewer_left : (old mid new : OfficeView K) (file : List ℕ) (reader reader' : RowReader) (report report' : Report)
-      (so_far : ImportInvariant old mid file reader report.counts) → ReportsBlock view mid reader report report' reader' new
+      (so_far : ImportInvariant old mid file reader report.counts)
+      → ReportsBlock view mid reader report report' reader' new
       → 2 ^ 64 - row_count report'.counts < 2 ^ 64 - row_count report.counts
   fewer_left old mid new file reader reader' report report' so_far block =
       let before = counts_read old mid file reader report.counts so_far in
@@ -175,8 +176,9 @@ module _ {K : Type 0} (view : K → StorageView) where
       let all = row_count_all (so_far.outcomes ++ block.outcomes) in
       let parts = length-append so_far.outcomes block.outcomes in
       let as_many = AllZip-long IsOutcome block.rows block.outcomes block.performs.each in
-      let first = AllZip-long IsOutcome so_far.first so_far.outcomes so_far.performs.each in
-      omega (arith, small, now, all, parts, as_many, first, before.count_is, block.some)
+      let was = ap row_count so_far.counts in
+      let first = row_count_all so_far.outcomes in
+      omega (arith, small, now, all, parts, as_many, was, first, block.some)
 
   -- After one more block, the report has the text of all outcomes so far.
   pub text_after : (old mid : OfficeView K) (file : List ℕ) (reader : RowReader) (report report' : Report)

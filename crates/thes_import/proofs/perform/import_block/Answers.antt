@@ -1,4 +1,4 @@
-use Rattle.std.proofs.Common.{◌≡◌, List, [], map, refl, rules, subst, sym, ap, arith, length}
+use Rattle.std.proofs.Common.{◌≡◌, ◌∙◌, List, [], map, refl, rules, subst, sym, ap, arith, length}
 use Rattle.std.proofs.lemmas.List.{length-map}
 use Rattle.thes_base.specs.declared.fault.Fault.TheVariants.{OutOfMemory}
 use Rattle.thes_base.specs.declared.request.Answer.{Answer}
@@ -12,8 +12,8 @@ pub returns-clause-imports : goal.returns-clause-imports
 returns-clause-imports g c =
     let read = c.in_ok-block.ensures in
     let rows = read.rows in
-    let posts : c.as_slice.result.now ≡ posts_of rows = search rules in
-    let faults : c.as_slice-2.result.now ≡ map fault_of_row rows = search rules in
+    let posts : c.as_slice.result.now ≡ posts_of rows = c.as_slice.ensures.value ∙ read.posts in
+    let faults : c.as_slice-2.result.now ≡ map fault_of_row rows = c.as_slice-2.ensures.value ∙ read.faults in
     let answers : c.as_slice-3.result.now ≡ c.run-ran.new.answers.items = search rules in
     let before : c.new-answers.result.items ≡ [] = search rules in
     block_result g.K.Keeper.view c.args.office.now c.run-ran.new.self c.args.reader.now
@@ -47,7 +47,7 @@ pub push_outcomes-requires-clause-fits : goal.push_outcomes-requires-clause-fits
 push_outcomes-requires-clause-fits g c =
     let read = c.in_ok-block.ensures in
     let rows = read.rows in
-    let faults : c.as_slice-2.result.now ≡ map fault_of_row rows = search rules in
+    let faults : c.as_slice-2.result.now ≡ map fault_of_row rows = c.as_slice-2.ensures.value ∙ read.faults in
     let as_many = length-map rows fault_of_row in
     let size = ap (λ (l : List _). length l) faults in
     let fits = block_fits c.args.reader.now c.read_block.new.reader c.args.report.now.counts rows c.requires.counts
