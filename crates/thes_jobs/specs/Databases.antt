@@ -1,5 +1,5 @@
 -- The databases of stores from opening to closing, and what their files hold afterwards.
-use Rattle.std.specs.Prelude.{◌≡◌, ℕ, List, IfSome, Option, Some, None, false}
+use Rattle.std.specs.Prelude.{◌≡◌, ℕ, List, IfSome, IsSomeAnd, MatchOption, Option, Some, None, false}
 use Rattle.sqlite.specs.Files.{file_state, image_of}
 use Rattle.sqlite.specs.Held.{Held, state}
 use Rattle.sqlite.specs.Schema.{Schema}
@@ -34,6 +34,13 @@ pub record Settles (old new : State) : Type 0 where
 pub record ClosesStore (holds : Schema → Tables → Type 0) (s : State) : Type 0 where
   pub was_up : IsUp s
   pub leaves : s.now ≡ s.committed → (schema : Schema) (t : Tables) → KeepsIn schema s.now t → holds schema t
+
+-- The database of a connection was closed, if there is one, and its files are left. If they are clean, they hold its
+-- store.
+abbrev pub ClosesIfOpen : {S C : Type 0} → Ghosts S → (C → Type 0) → (C → Schema → Tables → Type 0) → Option (Held S)
+    → Option C → Type 0
+ClosesIfOpen g is_clean holds conn files = MatchOption conn (files ≡ None) (λ conn. IsSomeAnd files (λ files.
+    is_clean files → ClosesStore (holds files) (state g conn)))
 
 module _ {S : Type 0} (g : Ghosts S) (image : Image) where
   -- A connection was opened in files with these contents, which may be anything: it is in no transaction, and nothing

@@ -1,9 +1,8 @@
 //! How the databases of stores are opened and closed.
 ghost use Rattle.std.specs.Prelude.{IfOk};
-ghost use Rattle.sqlite.specs.Held.{state};
 ghost use Rattle.sqlite.specs.Schema.{Schema};
 ghost use Rattle.thes_tables.specs.Tables.{Tables};
-ghost use Rattle.thes_jobs.specs.Databases.{ClosesStore, OpensFrom};
+ghost use Rattle.thes_jobs.specs.Databases.{ClosesIfOpen, OpensFrom};
 
 use crate::store_files::{ReopenedImage, StoreFiles, close_database_files, open_database_files};
 use sqlite::{Alter, Connection, FileFrom, FileStore, Start};
@@ -46,9 +45,11 @@ pub trait Databases {
     /// Returns what opens the database in a file again. The file must be open.
     fn reopener(&self, file: &str) -> Result<Self::Opener, Fault>;
 
-    /// Closes a connection, and returns what is left of the files, which hold its store.
-    fn close(&self, conn: Connection<Self::Engine>) -> Self::Left
-        ensures { is_clean result → ClosesStore (holds result) (state Self.Engine.Store conn) };
+    /// Takes a connection, if there is one, closes it, and returns what is left of its files, which
+    /// hold its store. (by reference, since Rattle proves no `impl` of a method that takes a
+    /// connection to an associated type by value)
+    fn close(&self, conn: &mut Option<Connection<Self::Engine>>) -> Option<Self::Left>
+        ensures { ClosesIfOpen Self.Engine.Store is_clean holds conn.old result };
 }
 
 /// The databases in files of this system, whose contents before they are opened are those of `S`.
@@ -78,7 +79,7 @@ impl<'r, S: Start + ReopenedImage> Databases for FileDatabases<'r, S> {
 
     type Image = S;
 
-    ghost use Rattle.thes_jobs.specs.Databases.{AreCleanFiles, ClosesFrom, HoldTables};
+    ghost use Rattle.thes_jobs.specs.Databases.{AreCleanFiles, HoldTables};
 
     ghost is_clean = { AreCleanFiles ⟦<FileFrom<S> as Disk>⟧ };
 
@@ -92,9 +93,13 @@ impl<'r, S: Start + ReopenedImage> Databases for FileDatabases<'r, S> {
         StoreFiles::new(self.rt, file)
     }
 
-    fn close(&self, conn: Connection<FileStore<FileFrom<S>>>) -> Option<Files<FileFrom<S>>>
-        ensures { ClosesFrom ⟦<FileFrom<S> as Disk>⟧ conn result }
-    {
-        close_database_files(conn)
+    fn close(
+        &self,
+        conn: &mut Option<Connection<FileStore<FileFrom<S>>>>,
+    ) -> Option<Option<Files<FileFrom<S>>>> {
+        match conn.take() {
+            Some(conn) => Some(close_database_files(conn)),
+            None => None,
+        }
     }
 }
