@@ -120,6 +120,17 @@ def test_name_for_which_that_of_the_log_would_be_too_long(size: int, tmp_path: P
     assert size == 247 or not [*tmp_path.iterdir()]
 
 
+def test_job_that_is_not_opened_leaves_its_store(tmp_path: Path) -> None:
+    """Its database is closed as after work: the file holds the store without its log."""
+    path = tmp_path / "whole.db"
+    over(path, "script", START)
+    before, whole = path.read_bytes(), over(path, "check")
+    assert over(path, "import", after=[tmp_path / "absent.csv"]).status == 3
+    assert path.read_bytes() == before
+    path.with_name(f"{path.name}-wal").unlink(missing_ok=True)
+    assert over(path, "check") == whole
+
+
 def begin_store(path: Path) -> bytes:
     """Has a command begin to make a store that it doesn't need, and returns the bytes of the file."""
     over(path, "import", after=[path.with_name("absent.csv")])

@@ -3,3 +3,4 @@ pub mod NewStoreLemmas
 pub mod ServedLemmas
 pub mod StoreRunLemmas
 pub mod StoreFileLemmas
+pub mod JobFileLemmas

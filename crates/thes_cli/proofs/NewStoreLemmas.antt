@@ -85,26 +85,27 @@ module _ {F R W E : Type 0} (given : F → Option (List ℕ)) (remaining : R →
   -- Work over a new storage in memory is work over the empty state, or memory ran out.
   pub works_in_memory : {P L : Type 0} (is_open : Tables → Type 0) (finds : Tables → Raw → Type 0)
       (job : MemoryWork P F L) (old : Streams R W E) (status : ℕ) (tables_after : Tables) (new : Streams R W E)
-      → IsBase job.base
-      → WorksOverKeeper storage_in_memory is_open finds given remaining out err job.work None job.limits
-      (empty_tables job.base) old status tables_after new
+      → IsBase job.setting.base
+      → WorksOverKeeper storage_in_memory is_open finds given remaining out err job.work None job.setting.limits
+      (empty_tables job.setting.base) old status tables_after new
       → WorksInMemory given remaining out err job old status new
   works_in_memory is_open finds job old status tables_after new form (inl opens, found) =
       record {
-        shows = new_store_shows job.base form;
+        shows = new_store_shows job.setting.base form;
         nothing = empty_sizes;
         tables_after = tables_after;
         works = inl opens;
       }
   works_in_memory is_open finds job old status tables_after new form (inr un, found) = record {
-    shows = new_store_shows job.base form;
+    shows = new_store_shows job.setting.base form;
     nothing = empty_sizes;
     tables_after = tables_after;
     works = inr record {
       input = un.input;
       output = un.output;
       prints_it = subst (λ (f : Fault). Prints err old.errors new.errors (fault_line (pipe.Fault f)))
-          (only_memory job.base un.fault tables_after (new_store_shows job.base form) un.fails_to_open) un.prints_it;
+          (only_memory job.setting.base un.fault tables_after (new_store_shows job.setting.base form) un.fails_to_open)
+          un.prints_it;
       status_is = un.status_is;
     };
   }

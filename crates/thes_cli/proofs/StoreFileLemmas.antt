@@ -1,23 +1,26 @@
--- Proves that files which held a store hold it after the work over it.
+-- Proves that files hold the store with which the work over them began, after this work.
 use Rattle.std.proofs.Common.{◌≡◌, ◌∙◌, ◌⊎◌, inl, inr, refl, sym, ap, subst, ℕ, List, Option, Some, None, false}
 use Rattle.std.specs.Prelude.{IfSome, IsSomeAnd, MatchOption, string_bytes}
 use Rattle.sqlite.specs.Held.{Held, state}
 use Rattle.sqlite.specs.Schema.{Schema}
 use Rattle.sqlite_trees.specs.declared.store.Store.{Ghosts}
+use Rattle.sqlite_wal.specs.Recovery.{Image}
 use Rattle.thes_base.specs.declared.data.Limits.{Limits}
 use Rattle.thes_tables.specs.Cells.{Raw, cells_of_tables}
-use Rattle.thes_tables.specs.Tables.{Tables}
+use Rattle.thes_tables.specs.Tables.{Tables, empty_tables}
 use Rattle.thes_tables.proofs.CellLemmas.{listed_one}
 use Rattle.thes_sql.specs.StoredRows.{KeepsIn}
 use Rattle.thes_office.specs.Office.{TablesAfterRun}
 use Rattle.thes_sqlite.proofs.KeeperLemmas.{raw_of}
+use Rattle.thes_sqlite.specs.DatabaseFiles.{IsInitialStore, ServesFiles}
 use Rattle.thes_sqlite.specs.KeeperView.{KeeperView, IsStore, IsUp, ServesTables}
 use Rattle.thes_sqlite.specs.Reopening.{ReopeningView, FindsStill, IsKeeperStillUp, IsOpenFirst, IsServingFirst}
 use Rattle.thes_sqlite.specs.Reopening.{IsStillOpen, ReturnsFirst, rows_of_first, rows_still, storage_still}
+use Rattle.thes_sqlite.specs.Reopening.{view_of_connection}
 use Rattle.thes_sqlite.specs.declared.reopening.Leaving.{Leaving}
 use Rattle.thes_jobs.specs.Databases.{ClosesStore}
 use Rattle.thes_jobs.specs.declared.work.DatabaseWork.{DatabaseWork}
-use Rattle.thes_cli.specs.Stores.{storage_of_connection, ClosesLeft, LeadsInFiles, LeavesInFiles}
+use Rattle.thes_cli.specs.Stores.{ClosesLeft, EndsIfClosed, LeadsInFiles, LeavesInFiles}
 use Rattle.thes_cli.specs.Stores.{RunsIfOpened, WorksInDatabase, WorksToClosing}
 use Rattle.thes_cli.specs.Work.{ReportsUnopened, WorksOpened, WorksOverKeeper}
 use Rattle.thes_cli.specs.declared.closing.Closed.{Closed}
@@ -44,19 +47,21 @@ module _ {S : Type 0} (g : Ghosts S) where
     pub keeps : KeepsIn schema (state g conn).now tables
     pub rows : rows_still g keeper ≡ cells_of_tables tables
 
-  returned_serves : (held : Schema → Tables → Type 0) (keeper : ReopeningView S) (back : Option (Held S))
-      (conn : Held S) (schema : Schema) (t : Tables) → ReturnsFirst g held keeper back → back ≡ Some conn
-      → IsUp (state g conn) → held schema t → ServesReturned schema keeper conn
-  returned_serves held keeper back conn schema t returns is up holds =
+  returned_serves : (image : Image) (base : List ℕ) (keeper : ReopeningView S) (back : Option (Held S))
+      (conn : Held S) (schema : Schema) (t : Tables) → ReturnsFirst g image keeper back → back ≡ Some conn
+      → IsUp (state g conn) → IsInitialStore image base schema t → ServesReturned schema keeper conn
+  unfolding ServesFiles
+  returned_serves image base keeper back conn schema t returns is up begins =
       let one : returns.keeper.conn ≡ conn = the_value (sym returns.conn_is ∙ is) in
       let up_then : IsUp (state g returns.keeper.conn) = subst (λ (c : Held S). IsUp (state g c)) (sym one) up in
       let known : IsStore (state g returns.keeper.first) =
-      λ up_first. let x = returns.of_files up_first schema t holds in record { settled = x.0; keeps = (t, x.1.keeps) } in
+      λ up_first. let x = returns.of_files up_first base schema t begins in
+      record { settled = x.settled; keeps = (x.tables, x.keeps.keeps) } in
       let store = returns.kept.served known up_then in
       let keeps = store.keeps in
       let same = returns.kept.same known up_then in
       let keeps_in : KeepsIn schema (state g returns.keeper.conn).now keeps.0 = record {
-        schema_is = same.1 ∙ (returns.of_files same.0 schema t holds).1.schema_is;
+        schema_is = same.1 ∙ (returns.of_files same.0 base schema t begins).keeps.schema_is;
         keeps = keeps.1;
       } in record {
         is_up = subst (IsServingFirst g) (sym returns.first_is) (known, up_then);
@@ -67,40 +72,26 @@ module _ {S : Type 0} (g : Ghosts S) where
             ∙ raw_of (state g returns.keeper.conn).now.trees keeps.0 keeps.1.hold;
       }
 
-  -- The database was closed, if there is one.
-  pub closes_left : {C : Type 0} (is_clean : C → Type 0) (holds : C → Schema → Tables → Type 0) (left : Leaving S)
-      (conn : Option (Held S)) (files : Option C) → left.conn ≡ conn
-      → MatchOption conn (files ≡ None) (λ conn. IsSomeAnd files (λ files.
-      is_clean files → ClosesStore (holds files) (state g conn)))
-      → ClosesLeft g is_clean holds left
-      (record { files = files; is_in_doubt = left.is_in_doubt; is_reopened = left.is_reopened })
-  closes_left is_clean holds left conn files is closes = record {
-    is_reopened = refl;
-    is_in_doubt = refl;
-    files = subst (λ (o : Option (Held S)). MatchOption o (files ≡ None) (λ conn. IsSomeAnd files (λ files.
-        is_clean files → ClosesStore (holds files) (state g conn)))) (sym is) closes;
-  }
-
   module _ {F R W E : Type 0} (given : F → Option (List ℕ)) (remaining : R → Option (List ℕ))
-      (out : W → Option (List ℕ)) (err : E → Option (List ℕ))
-      (held : Schema → Tables → Type 0) where
+      (out : W → Option (List ℕ)) (err : E → Option (List ℕ)) where
     -- If an office was opened, a run of the machine leads from the tables of the files to those of the storage; else
     -- they are the same.
     tables_lead : {O P L : Type 0} (job : DatabaseWork S O P F L) (old new : Streams R W E) (status : ℕ)
-        (keeper : ReopeningView S) (schema : Schema) (t after : Tables) → held schema t
-        → ServesTables held (state g job.conn) → IsKeeperStillUp g keeper → rows_still g keeper ≡ cells_of_tables after
+        (keeper : ReopeningView S) (held : Schema → Tables → Type 0) (schema : Schema) (t after : Tables)
+        → held schema t → ServesTables held (state g job.conn) → IsKeeperStillUp g keeper
+        → rows_still g keeper ≡ cells_of_tables after
         → (works : WorksOverKeeper (storage_still g) (IsStillOpen g) (FindsStill g) given remaining out err
-        job.work (Some (string_bytes job.file)) job.limits (storage_of_connection job.conn) old status keeper new)
-        → RunsIfOpened works.0 job.limits t after
-    tables_lead job old new status keeper schema t after holds serves up rows (inr unopened, found) =
+        job.work (Some (string_bytes job.file)) job.setting.limits (view_of_connection job.conn) old status keeper
+        new) → RunsIfOpened works.0 job.setting.limits t after
+    tables_lead job old new status keeper held schema t after holds serves up rows (inr unopened, found) =
         let keeps = unopened.fails_to_open.keeps in
         let at_start = serves (keeps.was up).1 schema t holds in
         listed_one after t (sym rows ∙ (keeps.same up ∙ raw_of (state g job.conn).now.trees t at_start.1.keeps.hold))
-    tables_lead job old new status keeper schema t after holds serves up rows (inl opened, found) =
+    tables_lead job old new status keeper held schema t after holds serves up rows (inl opened, found) =
         let last = opened.new_office.keeper in
         let up_last : IsKeeperStillUp g last = subst (λ (v : ReopeningView S). IsKeeperStillUp g v) opened.back_is up in
         let reached = work_leads (storage_still g) given out err remaining job.work opened.old_office opened.new_office
-        old new status opened.does (opened_reached (storage_still g) job.limits (storage_of_connection job.conn)
+        old new status opened.does (opened_reached (storage_still g) job.setting.limits (view_of_connection job.conn)
         opened.old_office opened.opens) in
         let up_first = reached.was up_last in
         let finds = found (open_first opened.old_office.keeper.first up_first) in
@@ -121,20 +112,20 @@ module _ {S : Type 0} (g : Ghosts S) where
     -- The tables that the storage had are those to which a run of the machine leads, or a fault of opening is printed.
     to_leads : {O P L : Type 0} (job : DatabaseWork S O P F L) (old new : Streams R W E) (status : ℕ)
         (keeper : ReopeningView S) (t : Tables) (holds : Tables → Type 0)
-        (works : WorksOpened (storage_still g) given remaining out err job.work job.limits
-        (storage_of_connection job.conn) old status keeper new
+        (works : WorksOpened (storage_still g) given remaining out err job.work job.setting.limits
+        (view_of_connection job.conn) old status keeper new
         ⊎ ReportsUnopened (storage_still g) given remaining out err (Some (string_bytes job.file))
-        (storage_of_connection job.conn) old status keeper new)
-        → LeavesInFiles g works job.limits t keeper holds
+        (view_of_connection job.conn) old status keeper new)
+        → LeavesInFiles g works job.setting.limits t keeper holds
         → LeadsInFiles err old.errors new.errors status t holds
     to_leads job old new status keeper t holds (inl opened) x = record {
-      limits = job.limits;
+      limits = job.setting.limits;
       tables_after = x.tables_after;
       run = inl x.run;
       holds_after = x.holds_after;
     }
     to_leads job old new status keeper t holds (inr unopened) x = record {
-      limits = job.limits;
+      limits = job.setting.limits;
       tables_after = x.tables_after;
       run = inr (
         record {
@@ -150,43 +141,44 @@ module _ {S : Type 0} (g : Ghosts S) where
     }
 
     module _ {O P L C : Type 0} (is_clean : C → Type 0) (holds : C → Schema → Tables → Type 0)
-        (job : DatabaseWork S O P F L) (old new : Streams R W E) (status : ℕ) (left : Leaving S)
-        (works : WorksInDatabase given remaining out err g held job old status left new)
-        (serves : ServesTables held (state g job.conn)) where
+        (image : Image) (job : DatabaseWork S O P F L) (old new : Streams R W E) (status : ℕ) (left : Leaving S)
+        (works : WorksInDatabase given remaining out err g image job old status left new)
+        (serves : ServesTables (IsInitialStore image job.setting.base) (state g job.conn)) where
       closed_leaves : (conn : Option (Held S)) (files : Option C) → conn ≡ left.conn → left.is_reopened ≡ false
           → MatchOption conn (files ≡ None) (λ conn. IsSomeAnd files (λ files.
           is_clean files → ClosesStore (holds files) (state g conn)))
-          → IfSome files (λ files. is_clean files → (schema : Schema) (t : Tables) → held schema t
-          → LeavesInFiles g works.works.0 job.limits t works.keeper (holds files schema))
+          → IfSome files (λ files. is_clean files → (schema : Schema) (t : Tables)
+          → IsInitialStore image job.setting.base schema t
+          → LeavesInFiles g works.works.0 job.setting.limits t works.keeper (holds files schema))
       closed_leaves None None is kept closes = tt
       closed_leaves None (Some files) is kept closes = absurd (cc)
       closed_leaves (Some conn) None is kept closes = tt
-      closed_leaves (Some conn) (Some files) is kept closes = λ clean schema t was_held.
+      closed_leaves (Some conn) (Some files) is kept closes = λ clean schema t begins.
           let closing = closes clean in
-          let end = returned_serves held works.keeper left.conn conn schema t (works.returns kept) (sym is)
-          closing.was_up was_held in record {
+          let end = returned_serves image job.setting.base works.keeper left.conn conn schema t (works.returns kept)
+          (sym is) closing.was_up begins in record {
             is_up = end.is_up;
             tables_after = end.tables;
             rows_after = end.rows;
-            run = tables_lead job old new status works.keeper schema t end.tables was_held serves end.is_up end.rows
-                works.works;
+            run = tables_lead job old new status works.keeper (IsInitialStore image job.setting.base) schema t
+                end.tables begins serves end.is_up end.rows works.works;
             holds_after = closing.leaves end.same schema end.tables end.keeps;
           }
 
       -- Work over the store of files, and the closing of its database, leave the store in the files.
       pub works_to_closing : (closed : Closed C) → ClosesLeft g is_clean holds left closed
-          → WorksToClosing given remaining out err g held is_clean holds job old status closed new
+          → WorksToClosing given remaining out err g image is_clean holds job old status closed new
       works_to_closing closed closes = record {
         leaving = left;
         works = works;
         closes = closes;
         certain = λ kept. closes.is_in_doubt ∙ works.certain (sym closes.is_reopened ∙ kept);
         leaves = leaves;
-        leads = λ kept. if_some_weaker closed.files _ _ (λ files leaves clean schema t was_held.
+        leads = λ kept. if_some_weaker closed.files _ _ (λ files leaves clean schema t begins.
             to_leads job old new status works.keeper t (holds files schema) works.works.0
-            (leaves clean schema t was_held)) (leaves kept);
+            (leaves clean schema t begins)) (leaves kept);
       }
         where
-          leaves : closed.is_reopened ≡ false → IfSome closed.files (λ files. is_clean files → (schema : Schema) (t : Tables)
-              → held schema t → LeavesInFiles g works.works.0 job.limits t works.keeper (holds files schema))
+          leaves : EndsIfClosed image job.setting.base is_clean closed (λ files schema t.
+              LeavesInFiles g works.works.0 job.setting.limits t works.keeper (holds files schema))
           leaves kept = closed_leaves left.conn closed.files refl (sym closes.is_reopened ∙ kept) closes.files

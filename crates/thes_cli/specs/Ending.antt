@@ -22,7 +22,7 @@ abbrev pub status_of : Result ScriptEnd PipeFault → ℕ
 status_of (Err fault) = 3
 status_of (Ok ended) = status_with (option_map faults.Fault ended.fault) ended.refused
 
--- A label, and a number in decimal.
+-- The name of a size of the store, such as ` labels=`, and the size in decimal.
 abbrev pub size_text : List ℕ → ℕ → List ℕ
 size_text name size = name ++ decimal size
 

@@ -1,41 +1,74 @@
 -- The run of a command line: its job is opened and done, or the reason why not is reported.
-use Rattle.std.specs.Prelude.{◌≡◌, ℕ, List, Option, None, Result, Ok, Err, IfOk, false, string_bytes}
+use Rattle.std.specs.Prelude.{◌≡◌, ◌⊎◌, ℕ, List, Option, None, Some, Result, Ok, Err, IfOk, false, string_bytes}
 use Rattle.std.specs.Global.{Global}
 use Rattle.std.specs.declared.fs.File.{File}
 use Rattle.std.specs.declared.string.String.{String}
 use Rattle.sqlite.specs.Held.{Held}
 use Rattle.sqlite.specs.Schema.{Schema}
 use Rattle.sqlite_trees.specs.declared.store.Store.{Ghosts}
+use Rattle.sqlite_wal.specs.Recovery.{Image}
+use Rattle.thes_base.specs.declared.fault.Fault.{Fault}
+use Rattle.thes_base.specs.declared.pipe.Pipe.{Pipe}
 use Rattle.thes_tables.specs.Tables.{Tables}
-use Rattle.thes_command_line.specs.Printing.{PrintsText}
+use Rattle.thes_sqlite.specs.DatabaseFiles.{HoldsStore}
+use Rattle.thes_command_line.specs.Printing.{Prints, PrintsText, file_fault_lines, open_failure_line}
 use Rattle.thes_command_line.specs.StartFailure.{ReportsStartFailure}
 use Rattle.thes_command_line.specs.declared.arguments.EarlyExit.{EarlyExit}
 use Rattle.thes_command_line.specs.declared.arguments.Job.{Job}
+use Rattle.thes_command_line.specs.declared.arguments.Task.TheVariants.{Migrate}
+use Rattle.thes_command_line.specs.declared.printing.OpenFailure.{OpenFailure}
 use Rattle.thes_command_line.specs.declared.start_failure.StartFailure.{StartFailure}
+use Rattle.thes_command_line.specs.declared.trouble.StoreTrouble.{StoreTrouble}
 use Rattle.thes_jobs.specs.Migrating.{MigratesDatabase, version_line}
 use Rattle.thes_jobs.specs.Starting.{IsReadyJob, OpensPlan}
+use Rattle.thes_jobs.specs.declared.starting.FailedStart.{FailedStart}
 use Rattle.thes_jobs.specs.declared.starting.OpenJob.{OpenJob}
 use Rattle.thes_jobs.specs.declared.starting.OpenJob.TheVariants.{InFile, InMemory, Migration, Version}
-use Rattle.thes_cli.specs.Stores.{WorksInMemory, WorksToClosing}
+use Rattle.thes_cli.specs.Stores.{ClosesLeft, EndsIfClosed, LeadsInFiles, WorksInMemory, WorksToClosing, open_leaving}
 use Rattle.thes_cli.specs.declared.closing.Closed.{Closed}
 use Rattle.thes_cli.specs.declared.streams.Streams.{Streams}
 
--- Nothing is left of a store's files, and no request is in doubt.
+-- Nothing is left of a store's files, no request is in doubt, and no failure has shut a database.
 abbrev pub LeavesNoFiles : {C : Type 0} → Closed C → Type 0
 LeavesNoFiles closed = closed ≡ record { files = None; is_in_doubt = false; is_reopened = false }
+
+-- The fault of a posting file, a socket or a store is printed, with which no work could begin, and the status is 3.
+pub record PrintsStartFault {E : Type 0} (err : E → Option (List ℕ)) (old new : Pipe E) (status : ℕ) : Type 0 where
+  pub text : List ℕ
+  pub is_fault : ((failure : OpenFailure) × (text ≡ open_failure_line failure))
+      ⊎ ((file : List ℕ) × (trouble : StoreTrouble) × (fault : Fault) × (text ≡ file_fault_lines file trouble fault))
+  pub prints_it : Prints err old new text
+  pub status_is : status ≡ 3
+
+-- How the files of a job end whose work began with the tables `t` in this schema. They hold a store with tables to
+-- which a run of the machine leads from `t`; or `t` itself, after the fault of opening the store, or a migration. If
+-- the work couldn't begin, files that held a store hold it still.
+pub data EndsInFiles {E : Type 0} (err : E → Option (List ℕ)) (image : Image) (job : Job) (old new : Pipe E)
+    (status : ℕ) (holds : Schema → Tables → Type 0) (schema : Schema) (t : Tables) : Type 0 where
+  by_work : LeadsInFiles err old new status t (holds schema) → EndsInFiles err image job old new status holds schema t
+  by_migration : job.task ≡ Migrate → holds schema t → EndsInFiles err image job old new status holds schema t
+  without_work : PrintsStartFault err old new status → (HoldsStore image schema t → holds schema t)
+      → EndsInFiles err image job old new status holds schema t
+
+-- If no failure has shut the database of a job, and its files are clean now, they end as `EndsInFiles` says of the
+-- store with which its work began.
+abbrev pub LeadsIfClosed : {E C : Type 0} → (E → Option (List ℕ)) → Image → (C → Type 0)
+    → (C → Schema → Tables → Type 0) → Result Job EarlyExit → Pipe E → Pipe E → ℕ → Closed C → Type 0
+LeadsIfClosed err image is_clean holds planned old new status closed =
+    IfOk planned (λ job. EndsIfClosed image job.setting.base is_clean closed (λ files.
+    EndsInFiles err image job old new status (holds files)))
 
 module _ {R W E S : Type 0} (out : W → Option (List ℕ)) (err : E → Option (List ℕ)) (store : Ghosts S)
     (old : Streams R W E) (status : ℕ) (new : Streams R W E) where
   -- The store in the file with this name was migrated in its database, which was closed, and its version or the fault
   -- was printed.
-  pub record MigratesInFile {C : Type 0} (closes : Held S → C → Type 0) (file : String Global) (conn : Held S) : Type 0
-    where
-      pub input : new.input ≡ old.input
-      pub conn_after : Held S
-      pub files_left : C
-      pub closes_it : closes conn_after files_left
-      pub migrates : MigratesDatabase out err old.output new.output old.errors new.errors store (string_bytes file) conn
-          status conn_after
+  pub record MigratesInFile {C : Type 0} (is_clean : C → Type 0) (holds : C → Schema → Tables → Type 0)
+      (file : String Global) (conn : Held S) (closed : Closed C) : Type 0 where
+    pub input : new.input ≡ old.input
+    pub conn_after : Held S
+    pub closes_it : ClosesLeft store is_clean holds (open_leaving (Some conn_after)) closed
+    pub migrates : MigratesDatabase out err old.output new.output old.errors new.errors store (string_bytes file) conn
+        status conn_after
 
   -- Nothing was opened, for this reason, which is reported.
   pub record ReportsNoJob (failure : StartFailure) : Type 0 where
@@ -48,28 +81,28 @@ module _ {R W E S : Type 0} (out : W → Option (List ℕ)) (err : E → Option 
     pub prints_it : PrintsText out err old.output new.output old.errors new.errors version_line status
 
 module _ {R W E S C : Type 0} (given : File → Option (List ℕ)) (remaining : R → Option (List ℕ))
-    (out : W → Option (List ℕ)) (err : E → Option (List ℕ)) (store : Ghosts S) (held : Schema → Tables → Type 0)
-    (opens : Held S → Type 0) (closes : Held S → C → Type 0) (is_clean : C → Type 0)
+    (out : W → Option (List ℕ)) (err : E → Option (List ℕ)) (store : Ghosts S) (image : Image) (is_clean : C → Type 0)
     (holds : C → Schema → Tables → Type 0) where
-  -- The work of the job that was opened was done and its store closed, or the reason why none was opened is reported.
-  -- Only work over a store in files leaves something of them.
-  abbrev pub DoesOpened : {O : Type 0} → Result (OpenJob S O) StartFailure → Streams R W E → ℕ → Closed C
+  -- The work of the job that was opened was done and its store closed, or the reason why none was opened is reported,
+  -- and the database was closed if that was opened.
+  abbrev pub DoesOpened : {O : Type 0} → Result (OpenJob S O) (FailedStart S) → Streams R W E → ℕ → Closed C
       → Streams R W E → Type 0
   DoesOpened (Ok (InFile work)) old status closed new =
-      WorksToClosing given remaining out err store held is_clean holds work old status closed new
+      WorksToClosing given remaining out err store image is_clean holds work old status closed new
   DoesOpened (Ok (InMemory work)) old status closed new =
       WorksInMemory given remaining out err work old status new × LeavesNoFiles closed
   DoesOpened (Ok (Migration file conn)) old status closed new =
-      MigratesInFile out err store old status new closes file conn × LeavesNoFiles closed
+      MigratesInFile out err store old status new is_clean holds file conn closed
   DoesOpened (Ok Version) old status closed new = PrintsVersion out err store old status new × LeavesNoFiles closed
-  DoesOpened (Err failure) old status closed new =
-      ReportsNoJob out err store old status new failure × LeavesNoFiles closed
+  DoesOpened (Err failed) old status closed new =
+      ReportsNoJob out err store old status new failed.failure
+      × ClosesLeft store is_clean holds (open_leaving failed.conn) closed
 
   -- The job of a command line was opened as the command line says, and done. The database of work over a store is the
-  -- one that was opened, with what its files held.
+  -- one that was opened in files with these contents.
   pub record RunsPlan (O : Type 0) (planned : Result Job EarlyExit) (old : Streams R W E) (status : ℕ)
       (closed : Closed C) (new : Streams R W E) : Type 0 where
-    pub open_job : Result (OpenJob S O) StartFailure
-    pub opens_it : OpensPlan store opens planned open_job
-    pub ready : IfOk open_job (IsReadyJob store held)
+    pub open_job : Result (OpenJob S O) (FailedStart S)
+    pub opens_it : OpensPlan store image planned open_job
+    pub ready : IfOk open_job (IsReadyJob store image)
     pub does : DoesOpened open_job old status closed new

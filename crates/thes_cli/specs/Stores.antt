@@ -1,9 +1,10 @@
 -- Work over a store in a database, and over a new store in memory.
 use mathlib.Core.Logic.{inl, inr}
-use Rattle.std.specs.Prelude.{◌≡◌, ◌⊎◌, ℕ, List, Option, None, Some, false, IfSome, IsSomeAnd, MatchOption, string_bytes}
-use Rattle.sqlite.specs.Held.{Held, state}
+use Rattle.std.specs.Prelude.{◌≡◌, ◌⊎◌, ℕ, List, Option, None, Some, false, IfSome, string_bytes}
+use Rattle.sqlite.specs.Held.{Held}
 use Rattle.sqlite.specs.Schema.{Schema}
 use Rattle.sqlite_trees.specs.declared.store.Store.{Ghosts}
+use Rattle.sqlite_wal.specs.Recovery.{Image}
 use Rattle.thes_base.specs.State.{empty_state}
 use Rattle.thes_base.specs.declared.data.Limits.{Limits}
 use Rattle.thes_base.specs.declared.fault.Fault.{Fault}
@@ -15,7 +16,8 @@ use Rattle.thes_base.specs.declared.request.Command.{Command}
 use Rattle.thes_tables.specs.Cells.{cells_of_tables}
 use Rattle.thes_tables.specs.Tables.{Tables, empty_tables}
 use Rattle.thes_store.specs.Storage.{StorageView}
-use Rattle.thes_sqlite.specs.Reopening.{ReopeningView, keeper_of_connection, storage_still, IsStillOpen, FindsStill}
+use Rattle.thes_sqlite.specs.DatabaseFiles.{IsInitialStore}
+use Rattle.thes_sqlite.specs.Reopening.{ReopeningView, view_of_connection, storage_still, IsStillOpen, FindsStill}
 use Rattle.thes_sqlite.specs.Reopening.{IsKeeperStillUp, ReturnsFirst, rows_still}
 use Rattle.thes_sqlite.specs.declared.cause.Cause.{Cause}
 use Rattle.thes_sqlite.specs.declared.reopening.Leaving.{Leaving}
@@ -23,7 +25,7 @@ use Rattle.thes_office.specs.Office.{TablesAfterRun}
 use Rattle.thes_office.specs.TablesOfState.{TablesOfState}
 use Rattle.thes_command_line.specs.Printing.{Prints, fault_line, fault_lines}
 use Rattle.thes_command_line.specs.declared.trouble.StoreTrouble.TheVariants.{Unreadable}
-use Rattle.thes_jobs.specs.Databases.{ClosesStore}
+use Rattle.thes_jobs.specs.Databases.{ClosesIfOpen}
 use Rattle.thes_jobs.specs.Trouble.{trouble_of}
 use Rattle.thes_jobs.specs.declared.work.DatabaseWork.{DatabaseWork}
 use Rattle.thes_jobs.specs.declared.work.MemoryWork.{MemoryWork}
@@ -31,10 +33,6 @@ use Rattle.thes_cli.specs.Checking.{no_sizes, sizes_of}
 use Rattle.thes_cli.specs.Work.{WorksOpened, WorksOverKeeper}
 use Rattle.thes_cli.specs.declared.closing.Closed.{Closed}
 use Rattle.thes_cli.specs.declared.streams.Streams.{Streams}
-
--- The storage over a new connection, before any call.
-abbrev pub storage_of_connection : {S : Type 0} → Held S → ReopeningView S
-storage_of_connection conn = record { first = Some (keeper_of_connection conn); failures = 0 }
 
 -- Storage in memory as any storage is seen: it always works, and never fails.
 abbrev pub storage_in_memory : Tables → StorageView
@@ -58,8 +56,8 @@ pub record PrintsUnopened {E : Type 0} (err : E → Option (List ℕ)) (old new 
   pub prints_it : Prints err old new (fault_lines file (trouble_of cause Unreadable) fault)
   pub status_is : status ≡ 3
 
--- The files, which held a store with the tables `t`, hold a store with tables to which a run of the machine leads from
--- `t`; or a fault of opening the store is printed, and they hold what they held.
+-- The files, whose work began with the tables `t`, hold a store with tables to which a run of the machine leads from
+-- `t`; or a fault of opening the store is printed, and they hold these tables.
 pub record LeadsInFiles {E : Type 0} (err : E → Option (List ℕ)) (old new : Pipe E) (status : ℕ) (t : Tables)
     (holds : Tables → Type 0) : Type 0 where
   pub limits : Limits
@@ -67,13 +65,17 @@ pub record LeadsInFiles {E : Type 0} (err : E → Option (List ℕ)) (old new : 
   pub run : RunLeads limits t tables_after ⊎ (PrintsUnopened err old new status × (tables_after ≡ t))
   pub holds_after : holds tables_after
 
--- If no failure has shut the database, the files held a store, and they are clean now, they hold the store after a run
--- of the machine.
-abbrev pub LeadsIfClosed : {E C : Type 0} → (E → Option (List ℕ)) → (Schema → Tables → Type 0) → (C → Type 0)
-    → (C → Schema → Tables → Type 0) → Pipe E → Pipe E → ℕ → Closed C → Type 0
-LeadsIfClosed err held is_clean holds old new status closed =
+-- If no failure has shut the database, and its files are clean now, `Ends` is true of them and of the store with which
+-- the work began: the one that the files held, or, in new files, an empty one with this base.
+abbrev pub EndsIfClosed : {C : Type 0} → Image → List ℕ → (C → Type 0) → Closed C → (C → Schema → Tables → Type 0)
+    → Type 0
+EndsIfClosed image base is_clean closed Ends =
     closed.is_reopened ≡ false → IfSome closed.files (λ files. is_clean files → (schema : Schema) (t : Tables)
-    → held schema t → LeadsInFiles err old new status t (holds files schema))
+    → IsInitialStore image base schema t → Ends files schema t)
+
+-- What a job leaves whose database no failure has shut: this connection, if there is one.
+abbrev pub open_leaving : {S : Type 0} → Option (Held S) → Leaving S
+open_leaving conn = record { conn = conn; is_in_doubt = false; is_reopened = false }
 
 module _ {S : Type 0} (store : Ghosts S) where
   -- The database was closed, if there is one.
@@ -81,11 +83,10 @@ module _ {S : Type 0} (store : Ghosts S) where
       (left : Leaving S) (closed : Closed C) : Type 0 where
     pub is_reopened : closed.is_reopened ≡ left.is_reopened
     pub is_in_doubt : closed.is_in_doubt ≡ left.is_in_doubt
-    pub files : MatchOption left.conn (closed.files ≡ None) (λ conn. IsSomeAnd closed.files (λ files.
-        is_clean files → ClosesStore (holds files) (state store conn)))
+    pub files : ClosesIfOpen store is_clean holds left.conn closed.files
 
   -- The storage was up to the end of the work, so that all promises of the work hold. The files hold the tables that it
-  -- then had; if an office was opened, a run of the machine leads to these from the tables that the files held before,
+  -- then had; if an office was opened, a run of the machine leads to these from the tables with which the work began,
   -- and else they are the same.
   pub record LeavesInFiles {A B : Type 0} (works : A ⊎ B) (limits : Limits) (t : Tables) (keeper : ReopeningView S)
       (holds : Tables → Type 0) : Type 0 where
@@ -108,37 +109,38 @@ module _ {F R W E : Type 0} (given : F → Option (List ℕ)) (remaining : R →
   -- it ran out.
   pub record WorksInMemory {P L : Type 0} (job : MemoryWork P F L) (old : Streams R W E) (status : ℕ)
       (new : Streams R W E) : Type 0 where
-    pub shows : TablesOfState (cells_of_tables (empty_tables job.base)) job.base empty_state
+    pub shows : TablesOfState (cells_of_tables (empty_tables job.setting.base)) job.setting.base empty_state
     pub nothing : sizes_of empty_state ≡ no_sizes
     pub tables_after : Tables
     pub works :
-        WorksOpened storage_in_memory given remaining out err job.work job.limits
-        (empty_tables job.base) old status tables_after new
+        WorksOpened storage_in_memory given remaining out err job.work job.setting.limits
+        (empty_tables job.setting.base) old status tables_after new
         ⊎ ReportsNoMemory old status new
 
   module _ {S : Type 0} (store : Ghosts S) where
     -- The work was done on the tables of the database, through the storage over this connection.
-    pub record WorksInDatabase {O P L : Type 0} (held : Schema → Tables → Type 0) (job : DatabaseWork S O P F L)
-        (old : Streams R W E) (status : ℕ) (left : Leaving S) (new : Streams R W E) : Type 0 where
+    pub record WorksInDatabase {O P L : Type 0} (image : Image) (job : DatabaseWork S O P F L) (old : Streams R W E)
+        (status : ℕ) (left : Leaving S) (new : Streams R W E) : Type 0 where
       pub keeper : ReopeningView S
       pub works : WorksOverKeeper (storage_still store) (IsStillOpen store) (FindsStill store) given remaining out err
-          job.work (Some (string_bytes job.file)) job.limits (storage_of_connection job.conn) old status keeper new
-      -- The first connection is returned, unless a failure has closed it.
+          job.work (Some (string_bytes job.file)) job.setting.limits (view_of_connection job.conn) old status keeper
+          new
+      -- The first connection is returned, unless a failure has shut it.
       pub back_is : IfSome keeper.first (λ k. (left.conn ≡ Some k.conn) × (left.is_reopened ≡ false))
-      pub returns : left.is_reopened ≡ false → ReturnsFirst store held keeper left.conn
+      pub returns : left.is_reopened ≡ false → ReturnsFirst store image keeper left.conn
       pub certain : left.is_reopened ≡ false → left.is_in_doubt ≡ false
 
-    -- The work was done on the tables of the database, and the database was closed. If no failure has shut it, the
-    -- files held a store and the closed files are clean, they hold the store after the work, and so after a run of the
-    -- machine.
-    pub record WorksToClosing {O P L C : Type 0} (held : Schema → Tables → Type 0) (is_clean : C → Type 0)
+    -- The work was done on the tables of the database, and the database was closed. If no failure has shut it, and the
+    -- closed files are clean, they hold the store after the work, and so after a run of the machine.
+    pub record WorksToClosing {O P L C : Type 0} (image : Image) (is_clean : C → Type 0)
         (holds : C → Schema → Tables → Type 0) (job : DatabaseWork S O P F L) (old : Streams R W E) (status : ℕ)
         (closed : Closed C) (new : Streams R W E) : Type 0 where
       pub leaving : Leaving S
-      pub works : WorksInDatabase held job old status leaving new
+      pub works : WorksInDatabase image job old status leaving new
       pub closes : ClosesLeft store is_clean holds leaving closed
       -- A request is in doubt only if a failure has shut the database.
       pub certain : closed.is_reopened ≡ false → closed.is_in_doubt ≡ false
-      pub leaves : closed.is_reopened ≡ false → IfSome closed.files (λ files. is_clean files → (schema : Schema) (t : Tables)
-          → held schema t → LeavesInFiles store works.works.0 job.limits t works.keeper (holds files schema))
-      pub leads : LeadsIfClosed err held is_clean holds old.errors new.errors status closed
+      pub leaves : EndsIfClosed image job.setting.base is_clean closed (λ files schema t.
+          LeavesInFiles store works.works.0 job.setting.limits t works.keeper (holds files schema))
+      pub leads : EndsIfClosed image job.setting.base is_clean closed (λ files schema t.
+          LeadsInFiles err old.errors new.errors status t (holds files schema))

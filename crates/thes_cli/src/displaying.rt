@@ -56,8 +56,8 @@ fn report_display<E: Write>(errors: &mut Pipe<E>, shown: Result<DisplayOutcome, 
     }
 }
 
-/// Writes a display, and returns the exit status 0. After a
-/// refusal or a fault, prints it and returns 1 or 3.
+/// Writes a display, and returns the exit status 0. After a refusal or a fault, prints it and
+/// returns 1 or 3.
 pub fn display_store<K: Keeper, W: Write, E: Write>(
     alloc: Global,
     office: &mut Office<K>,

@@ -52,7 +52,7 @@ pub fn counts_line(counts: Counts) -> ArrayString<96>
     line
 }
 
-// Appends a label and a number in decimal.
+// Appends the name of a size of the store, such as ` labels=`, and the size in decimal.
 fn push_size(line: &mut String, name: &str, size: u64) -> Result<(), AllocError>
     ensures { OnOk result
         (string_bytes line.new ≡ string_bytes line.old ++ ends.size_text name.now size) }

@@ -31,7 +31,7 @@ fn listening_line(port: u16) -> ShortLine
     line
 }
 
-// Prints the fault of this error, OutOfMemory or Net, and returns the exit status 3.
+// Prints the fault of a server's error, OutOfMemory or Net, and returns the exit status 3.
 fn report_unserved<E: Write>(errors: &mut Pipe<E>, error: &io::Error) -> u8
     requires { IsFresh errors.old }
     ensures { EndsUnserved E.contents error.now errors.old errors.new result }
@@ -43,8 +43,8 @@ fn report_unserved<E: Write>(errors: &mut Pipe<E>, error: &io::Error) -> u8
     }
 }
 
-// Returns the exit status 0 with the number of connections, or, if a connection couldn't be
-// accepted or memory ran out, prints the fault and returns 3.
+// Records the number of connections served, and returns the exit status 0; or, if a connection
+// couldn't be accepted or memory ran out, prints the fault and returns 3.
 fn report_served<E: Write>(
     errors: &mut Pipe<E>,
     connections: &mut ConnectionCount,

@@ -1,16 +1,17 @@
 //! Work over the stores of the program: in a database, and in memory.
-ghost use Rattle.thes_jobs.specs.Databases.{ClosesStores, IsReadyConnection};
-ghost use Rattle.thes_cli.specs.Stores.{ClosesLeft, WorksInDatabase, WorksInMemory, WorksToClosing};
+ghost use Rattle.thes_jobs.specs.Databases.{IsReadyConnection};
+ghost use Rattle.thes_cli.specs.Stores.{ClosesLeft, WorksInDatabase, WorksInMemory, WorksToClosing, open_leaving};
 ghost use Rattle.thes_cli.specs.Streams.{AreFresh};
 
 use crate::closing::Closed;
 use crate::streams::Streams;
-use crate::work::work_with_progress;
+use crate::work::{work_over_keeper, work_with_progress};
 use sqlite::{Alter, Connection};
 use std::alloc::Global;
 use std::io::{Read, Write};
 use std::net::Net;
 use std::rt::Clock;
+use thes_command_line::arguments::StoreSetting;
 use thes_jobs::databases::Databases;
 use thes_jobs::progress::Progress;
 use thes_jobs::work::{DatabaseWork, MemoryWork};
@@ -18,8 +19,9 @@ use thes_sqlite::reopening::{HeldTables, Leaving, Reopen, ReopeningKeeper};
 use thes_store::mem::MemKeeper;
 
 /// Opens an office over the store in a database, and works over it. Returns the exit status with
-/// what the storage leaves: the last connection, whether it was opened again, and whether a request
-/// is in doubt. The fault of a store that can't be opened is printed after the name of its file.
+/// what the storage leaves: the last connection, whether a failure has shut the first, and whether
+/// a request is in doubt. The fault of a store that can't be opened is printed after the name of
+/// its file.
 pub fn work_in_database<
     N: Net + Clock,
     S: Alter + Drop,
@@ -35,15 +37,15 @@ pub fn work_in_database<
     job: DatabaseWork<S, O, P, F, N::Listener>,
     streams: &mut Streams<R, W, E>,
 ) -> (u8, Leaving<S>)
-    requires ready { IsReadyConnection S.Store O.held job.conn }
+    requires ready { IsReadyConnection S.Store O.image job.setting.base job.conn }
     requires streams { AreFresh streams.old }
-    ensures { WorksInDatabase F.remaining R.remaining W.contents E.contents S.Store O.held job
+    ensures { WorksInDatabase F.remaining R.remaining W.contents E.contents S.Store O.image job
         streams.old result.0 result.1 streams.new }
 {
     let DatabaseWork {
         work,
         file,
-        limits,
+        setting,
         conn,
         opener,
         progress,
@@ -55,7 +57,7 @@ pub fn work_in_database<
         work,
         keeper,
         progress,
-        limits,
+        setting.limits,
         Some(file),
         streams,
     );
@@ -63,40 +65,43 @@ pub fn work_in_database<
 }
 
 // Closes the database that work over a store leaves, if there is one.
-fn close_left<S: Alter, O, L, D: Databases<Connection<S>, O, L>>(
-    databases: &D,
-    left: Leaving<S>,
-) -> Closed<L>
-    requires { ClosesStores S.Store D.closes D.is_clean D.holds }
-    ensures { ClosesLeft S.Store D.is_clean D.holds left result }
+fn close_left<D: Databases>(databases: &D, left: Leaving<D::Engine>) -> Closed<D::Left>
+    ensures { ClosesLeft D.Engine.Store D.is_clean D.holds left result }
 {
     let Leaving {
         conn,
         is_in_doubt,
         is_reopened,
     } = left;
-    match conn {
-        Some(conn) => Closed {
-            files: Some(databases.close(conn)),
-            is_in_doubt,
-            is_reopened,
-        },
-        None => Closed {
-            files: None,
-            is_in_doubt,
-            is_reopened,
-        },
+    let mut conn = conn;
+    Closed {
+        files: databases.close(&mut conn),
+        is_in_doubt,
+        is_reopened,
     }
 }
 
+/// Closes a database that no failure has shut, if there is one.
+pub fn close_open<D: Databases>(
+    databases: &D,
+    conn: Option<Connection<D::Engine>>,
+) -> Closed<D::Left>
+    ensures { ClosesLeft D.Engine.Store D.is_clean D.holds (open_leaving conn) result }
+{
+    let left = Leaving {
+        conn,
+        is_in_doubt: false,
+        is_reopened: false,
+    };
+    close_left(databases, left)
+}
+
 /// Works over the store in a database, closes the database, and returns the exit status with what
-/// is left of its files. They hold the store after the work, if they held a store before.
+/// is left of its files. If the disk has returned what was written, and no failure has shut the
+/// database, the files hold the store after the work.
 pub fn work_and_close<
     N: Net + Clock,
-    S: Alter + Drop,
-    O: Reopen<Connection<S>> + HeldTables + Drop,
-    L,
-    D: Databases<Connection<S>, O, L>,
+    D: Databases,
     P: Progress,
     F: Read + Drop,
     R: Read,
@@ -106,17 +111,18 @@ pub fn work_and_close<
     alloc: Global,
     clock: &N,
     databases: &D,
-    job: DatabaseWork<S, O, P, F, N::Listener>,
+    job: DatabaseWork<D::Engine, D::Opener, P, F, N::Listener>,
     streams: &mut Streams<R, W, E>,
-) -> (u8, Closed<L>)
-    requires closes { ClosesStores S.Store D.closes D.is_clean D.holds }
-    requires ready { IsReadyConnection S.Store O.held job.conn }
+) -> (u8, Closed<D::Left>)
+    requires ready { IsReadyConnection D.Engine.Store D.Opener.image job.setting.base job.conn }
     requires streams { AreFresh streams.old }
-    ensures { WorksToClosing F.remaining R.remaining W.contents E.contents S.Store O.held
-        D.is_clean D.holds job streams.old result.0 result.1 streams.new }
+    ensures { WorksToClosing F.remaining R.remaining W.contents E.contents D.Engine.Store
+        D.Opener.image D.is_clean D.holds job streams.old result.0 result.1 streams.new }
 {
-    let (status, left) = work_in_database::<N, S, O, P, F, R, W, E>(alloc, clock, job, streams);
-    (status, close_left::<S, O, L, D>(databases, left))
+    let (status, left) = work_in_database::<N, D::Engine, D::Opener, P, F, R, W, E>(
+        alloc, clock, job, streams,
+    );
+    (status, close_left(databases, left))
 }
 
 /// Works over a new store in memory with this base and these limits, and returns the exit status.
@@ -130,17 +136,18 @@ pub fn work_in_memory<N: Net + Clock, P: Progress, F: Read + Drop, R: Read, W: W
     ensures { WorksInMemory F.remaining R.remaining W.contents E.contents job streams.old result
         streams.new }
 {
+    // A new store has nothing to load and no concept to import to, so no progress is reported.
     let MemoryWork {
         work,
-        base,
-        limits,
-        progress,
+        setting,
+        progress: _,
     } = job;
+    let StoreSetting { base, limits } = setting;
     // No effect; states for the proof that the base has its form.
     let _ = base.as_str();
     let keeper = MemKeeper::new(alloc, base);
-    let (status, keeper) = work_with_progress::<N, MemKeeper, P, F, R, W, E>(
-        alloc, clock, work, keeper, progress, limits, None, streams,
+    let (status, keeper) = work_over_keeper::<N, MemKeeper, F, R, W, E>(
+        alloc, clock, work, keeper, limits, None, streams,
     );
     drop(keeper);
     status

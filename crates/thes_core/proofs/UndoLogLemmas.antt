@@ -6,17 +6,16 @@ use Rattle.std.proofs.lemmas.List.Sums.{count_by-le-length}
 use Rattle.std.specs.Prelude.{Result, Ok, Err, OnOk, None, Some, count_by}
 use Rattle.std.proofs.lemmas.Option.{same_Some}
 use Rattle.thes_base.specs.declared.data.History.{History}
-use Rattle.thes_base.specs.declared.data.Resource.{Resource}
 use Rattle.thes_base.specs.declared.request.Command.{Command}
 use Rattle.thes_base.specs.declared.request.Command.TheVariants as request
-use Rattle.thes_base.specs.Changes.{histories_after_merge, histories_after_post, histories_after_split}
+use Rattle.thes_base.specs.Changes.{histories_after_merge, histories_after_split}
 use Rattle.thes_base.specs.Changes.{histories_after_withdrawal, is_listed, next_number}
 use Rattle.thes_base.specs.Legal.{IsLegalState}
 use Rattle.thes_base.specs.Machine.{next_state}
 use Rattle.thes_base.specs.Postings.{assigned_count, is_assigned_to, move_count}
 use Rattle.thes_base.specs.RefusalRules.{accepted}
 use Rattle.thes_base.specs.Refusals.{Setting}
-use Rattle.thes_base.specs.Resources.{IsConcept, entry_at, replacements}
+use Rattle.thes_base.specs.Resources.{IsConcept, entry_at}
 use Rattle.thes_base.specs.RuleParts.{unless_split_postings}
 use Rattle.thes_base.specs.State.{State}
 use Rattle.thes_base.proofs.ListedLemmas.{listed_count}
@@ -35,7 +34,7 @@ use Rattle.thes_core.specs.Losses.{IsLostFromParts, IsLostFromPostings}
 use Rattle.thes_core.specs.NamedPostings.{first_named_posting}
 use Rattle.thes_core.specs.PartsView.{parts_state, parts_view, setting_of, AreLegal}
 use Rattle.thes_core.specs.Requests.{PartsOfState}
-use Rattle.thes_core.specs.UndoLogs.{ArePartsAfter, ArePartsTakenBack, AreCountsTakenBack, IsAcceptedOnParts, IsLogOf}
+use Rattle.thes_core.specs.UndoLogs.{ArePartsAfter, IsAcceptedOnParts, IsLogOf}
 use Rattle.thes_core.specs.UndoLogs.{IsUndoStep}
 use Rattle.thes_core.specs.UndoLogs.{LeadsWithoutPostings, StepsLead}
 use Rattle.thes_core.specs.declared.facts.Facts.{Facts}
@@ -150,11 +149,6 @@ module _ (t : Thesaurus) (spent : Bool) (k : CoreView) (is : parts_view t spent 
   fit_before new after made = kept_after t new (without_postings s) fit.fit (legal_without t.vocab.base s after.legal)
       made
 
-  -- The state without postings of a core that is taken back.
-  pub bare_before : (new : Thesaurus) (now : CoreView) → parts_view new false ≡ now
-      → PartsOfState t (without_postings s) new → with_histories [] now ≡ without_postings s
-  bare_before new now shows made = sym (ap (with_histories []) shows) ∙ made.state
-
   -- A core that is taken back is a view of the state before.
   pub view_before : (new : Thesaurus) (now : CoreView) (after : State) → parts_view new false ≡ now
       → ArePartsAfter command s t → PartsOfState t (without_postings s) new
@@ -172,50 +166,6 @@ module _ (t : Thesaurus) (spent : Bool) (k : CoreView) (is : parts_view t spent 
 pub follows_if_ok : {A E : Type 0} (r : Result A E) (P Q : Type 0) → (P → Q) → OnOk r P → OnOk r Q
 follows_if_ok (Ok x) P Q to p = to p
 follows_if_ok (Err e) P Q to p = tt
-
--- Assumes that the request is `shown`.
-module _ (command shown : Command) (is : command ≡ shown) (s : State) (old new : Thesaurus) where
-  pub parts_of_command : ArePartsAfter command s old → ArePartsAfter shown s old
-  parts_of_command = subst (λ (x : Command). ArePartsAfter x s old) is
-
-  -- A request that concerns no postings leaves the counts unchanged.
-  pub counts_kept : (lost : Lost) → (next_state shown s).histories ≡ s.histories → new.book ≡ old.book
-      → AreCountsTakenBack command s lost old new
-  counts_kept lost same book accepts lost_is counts =
-      subst (ArePostingCounts s.histories) (sym book)
-      (subst (λ (hs : List History). ArePostingCounts hs old.book)
-      (ap (λ (x : Command). (next_state x s).histories) is ∙ same) counts)
-
-  -- A request that concerns postings alone leaves the other parts unchanged.
-  pub parts_kept : without_postings (next_state shown s) ≡ without_postings s → new ≡ record old { book = new.book }
-      → ArePartsAfter command s old → PartsOfState old (without_postings s) new
-  parts_kept same kept after =
-      let made : PartsOfState old (without_postings s) (record old { book = new.book }) = record {
-        state = (parts_of_command after).state ∙ same;
-        setting = refl;
-        outside = after.outside;
-      } in
-      subst (PartsOfState old (without_postings s)) (sym kept) made
-
-  pub parts_of_taken : (lost : Lost) → ArePartsTakenBack shown s lost old new → ArePartsTakenBack command s lost old new
-  parts_of_taken lost = subst (λ (x : Command). ArePartsTakenBack x s lost old new) (sym is)
-
-  pub lost_of_command : (lost : Lost) → IsLostFromParts command s lost → IsLostFromParts shown s lost
-  lost_of_command lost = subst (λ (x : Command). IsLostFromParts x s lost) is
-
-  pub counts_of_command : (lost : Lost) → AreCountsTakenBack shown s lost old new → AreCountsTakenBack command s lost old new
-  counts_of_command lost = subst (λ (x : Command). AreCountsTakenBack x s lost old new) (sym is)
-
--- The counts before a new posting.
-pub counts_unposted : (s : State) (key rec : List ℕ) (concept : ℕ) (lost : Lost) (old new : Thesaurus)
-    → ArePartsAfter (request.Post key rec concept) s old
-    → ((k r : List ℕ) (hs : List History) → ArePostingCounts (histories_after_post k r concept
-    (replacements old.vocab.resources concept) hs) old.book → ArePostingCounts hs new.book)
-    → AreCountsTakenBack (request.Post key rec concept) s lost old new
-counts_unposted s key rec concept lost old new after back accepts lost_is counts =
-    let resources : s.resources ≡ old.vocab.resources = sym (ap (λ (x : State). x.resources) after.state) in
-    back key rec s.histories (subst (λ (rs : List Resource). ArePostingCounts (histories_after_post key rec concept
-    (replacements rs concept) s.histories) old.book) resources counts)
 
 -- The counts before a withdrawal.
 pub counts_unwithdrawn : (setting : Setting) (s : State) (posting concept : ℕ) (old new : PostingCounts)
@@ -274,19 +224,19 @@ counts_unsplit setting s source tag text postings n k old new legal accepts numb
     counted = subst (λ m. ArePostingCounts (histories_after_split postings m s.histories) old) (sym number) counts
 
 -- The counts before a merge.
-pub counts_unmerged : (setting : Setting) (s : State) (source target : ℕ) (loss : MergeLoss) (old new : PostingCounts)
+pub counts_unmerged : (setting : Setting) (s : State) (source target moves : ℕ) (old new : PostingCounts)
     → IsLegalState setting.base s → source ≢ target
-    → IsLostFromPostings (request.Merge source target) s (Merge loss)
+    → (length s.histories < 2 ^ 32 → moves ≡ assigned_count source s.histories)
     → ArePostingCounts (histories_after_merge source target s.histories) old
-    → (HasMovesToTakeBack source target loss.moves old → CountsAfterMoves source target loss.moves new old)
+    → (HasMovesToTakeBack source target moves old → CountsAfterMoves source target moves new old)
     → ArePostingCounts s.histories new
-counts_unmerged setting s source target loss old new legal apart lost counts back =
+counts_unmerged setting s source target moves old new legal apart moved counts back =
     let few = legal.postings.few in
     let all = all_assigned source target apart s.histories in
     sums_before_moves (is_assigned_to source) source target apart (move_count s.histories + 1) s.histories all
-    loss.moves (lost few) old new counts
+    moves (moved few) old new counts
     (back (moves_counted (is_assigned_to source) source target apart (move_count s.histories + 1) s.histories all
-    loss.moves (lost few) old counts few))
+    moves (moved few) old counts few))
 
 -- The number of postings that a merge moves is that of the postings in its facts.
 pub moves_lost : (source target : ℕ) (s : State) (facts : Facts) (standing : List ℕ) (moved : ℕ)

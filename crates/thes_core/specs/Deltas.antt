@@ -1,4 +1,4 @@
--- The rows of moves that a merge or a split inserts, and the places that it sets.
+-- The rows of moves that a merge or a split inserts, and the places that a split sets.
 use Rattle.std.specs.Prelude.{ℕ, List, [], ◌∷◌, ◌+◌}
 use Rattle.thes_tables.specs.declared.rows.MoveRow.{MoveRow}
 use Rattle.thes_tables.specs.declared.change.Change.{Change}

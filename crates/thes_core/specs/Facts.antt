@@ -18,7 +18,7 @@ posting_row_at histories n = option_map posting_row (entry_at histories n)
 abbrev pub assigned_posting_numbers : ℕ → List History → List ℕ
 assigned_posting_numbers concept histories = map (λ h. h.number) (filter (is_assigned_to concept) histories)
 
--- The row of the posting with the key; None if no posting has it.
+-- The option is the row of the posting with the key, or None if no posting has the key.
 abbrev pub IsRowOfKey : List ℕ → List History → Option PostingRow → Type 0
 IsRowOfKey key histories (Some row) = (h : History) × IsOfKey key histories h × (row ≡ posting_row h)
 IsRowOfKey key histories None = (h : History) → ¬ IsOfKey key histories h

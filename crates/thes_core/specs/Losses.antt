@@ -18,13 +18,13 @@ use Rattle.thes_core.specs.declared.losses.Lost.{Lost}
 use Rattle.thes_core.specs.declared.losses.Lost.TheVariants.{Place, Preferred, Links, Merge}
 use Rattle.thes_core.specs.declared.losses.MergeLoss.{MergeLoss}
 
--- The labels without the alternative label that a Relabel kept, if `keep` is set.
+-- The labels, without the owner's alternative label with the tag and the text `old` if `keep` is true.
 abbrev pub labels_without_kept : ℕ → List ℕ → List ℕ → Bool → Labels → Labels
 labels_without_kept owner tag old keep labels =
     if keep then set.remove labels (label owner Alt tag old) else labels
 
--- The loss is what the merge changes in the labels and links: the links of the source, those held after the merge
--- alone, and the labels that are copied to the target.
+-- The loss is what the merge changes in the labels and links: the links of the source, those held after the merge and
+-- not before, and the labels that are copied to the target.
 pub record IsMergeLoss (source target : ℕ) (s : State) (loss : MergeLoss) : Type 0 where
   pub links : IsRow s.links source loss.links.items
   pub additions :
@@ -39,7 +39,7 @@ IsLostFromParts (request.Relabel owner tag text keep) s (Preferred old) =
 IsLostFromParts (request.Relabel owner tag text keep) s _ = ⊥
 IsLostFromParts (request.Deprecate concept) s (Links row) = IsRow s.links concept row.items
 IsLostFromParts (request.Deprecate concept) s _ = ⊥
-IsLostFromParts (request.Merge source target) s (Merge loss) = IsMergeLoss source target s loss
+IsLostFromParts (request.Merge source target) s (Merge loss) = IsMergeLoss source target s loss.value
 IsLostFromParts (request.Merge source target) s _ = ⊥
 IsLostFromParts _ s _ = Unit {0}
 
@@ -50,6 +50,6 @@ IsLostFromPostings (request.Withdraw posting) s (Place concept) =
     (h : History) × (entry_at s.histories posting ≡ Some h) × (concept ≡ place h)
 IsLostFromPostings (request.Withdraw posting) s _ = ⊥
 IsLostFromPostings (request.Merge source target) s (Merge loss) =
-    length s.histories < 2 ^ 32 → loss.moves ≡ assigned_count source s.histories
+    length s.histories < 2 ^ 32 → loss.value.moves ≡ assigned_count source s.histories
 IsLostFromPostings (request.Merge source target) s _ = ⊥
 IsLostFromPostings _ s _ = Unit {0}

@@ -28,7 +28,7 @@ RefusalByParts t histories command =
     let s = parts_state t histories in refusal_rule_of (setting_of t) s (next_state command s) command
 
 -- The checks of a new link in normal form: LinkThere if it is held, or else the first rule that the links with it
--- break.
+-- break. `outside` is the test for outside concepts, on which the form depends.
 abbrev pub unless_linkable : (ℕ → Bool) → Links → Link → RefusalRule
 unless_linkable outside links l =
     let kept = normal_form outside l in

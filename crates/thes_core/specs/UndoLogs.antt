@@ -20,15 +20,16 @@ use Rattle.thes_core.specs.declared.thesaurus.Thesaurus.{Thesaurus}
 use Rattle.thes_core.specs.declared.losses.Lost.{Lost}
 use Rattle.thes_core.specs.declared.undo_log.UndoStep.{UndoStep}
 
--- The request passes its checks, unless it concerns postings; the source of a Split is a concept.
+-- The request passes its checks; of a Split only the source is checked to be a concept, of a Post or a Withdraw
+-- nothing.
 abbrev pub IsAcceptedOnParts : Setting → State → Command → Type 0
 IsAcceptedOnParts setting s (request.Split source tag text postings) = IsConcept s.resources source
 IsAcceptedOnParts setting s (request.Post key rec concept) = Unit {0}
 IsAcceptedOnParts setting s (request.Withdraw posting) = Unit {0}
 IsAcceptedOnParts setting s command = IsAccepted setting s command
 
--- Postings aside, the parts are those of the state after the request, which is accepted in the legal state `s`; the
--- graph marks exactly the outside concepts.
+-- Postings aside, the parts are those of the state after the request, which passes these checks in the legal state `s`;
+-- the graph marks exactly the outside concepts.
 pub record ArePartsAfter (command : Command) (s : State) (t : Thesaurus) : Type 0 where
   pub legal : IsLegalState t.vocab.base s
   pub accepts : IsAcceptedOnParts (setting_of t) s command
@@ -43,18 +44,20 @@ pub record ArePartsAfterCreation (tag text : List ℕ) (s : State) (t : Thesauru
   pub state : parts_state t [] ≡ without_postings (state_after_creation resource tag text s)
   pub outside : MarksOutside t.vocab.resources t.graph
 
--- If the old parts are those after the request, and the loss is what it takes, the new ones are those before it.
+-- Postings aside, if the old parts are those after the request, and the loss is what it takes, the new ones are those
+-- of the state `s` before it.
 abbrev pub ArePartsTakenBack : Command → State → Lost → Thesaurus → Thesaurus → Type 0
 ArePartsTakenBack command s lost old new = ArePartsAfter command s old → IsLostFromParts command s lost
     → PartsOfState old (without_postings s) new
 
--- If the old parts count the postings of the state after the accepted request, the new ones count those of the state
--- before it.
+-- If the old parts count the postings of the state after the accepted request, and the loss is what it takes from them,
+-- the new ones count those of the state before it.
 abbrev pub AreCountsTakenBack : Command → State → Lost → Thesaurus → Thesaurus → Type 0
 AreCountsTakenBack command s lost old new = IsAccepted (setting_of old) s command → IsLostFromPostings command s lost
     → ArePostingCounts (next_state command s).histories old.book → ArePostingCounts s.histories new.book
 
--- The step leads from one state to another: the first accepts the request, and the loss is what it takes from it.
+-- The step leads from the legal state `s` to the state `t`: its request is accepted in `s`, and its loss is what the
+-- request takes.
 pub record IsUndoStep (setting : Setting) (s : State) (step : UndoStep) (t : State) : Type 0 where
   pub legal : IsLegalState setting.base s
   pub accepts : IsAccepted setting s step.command
@@ -62,7 +65,7 @@ pub record IsUndoStep (setting : Setting) (s : State) (step : UndoStep) (t : Sta
   pub lost_postings : IsLostFromPostings step.command s step.lost
   pub after : t ≡ next_state step.command s
 
--- The steps lead one after another from the state `s` to the state `t`.
+-- The steps lead, each as `Leads` states, one after another from the state `s` to the state `t`.
 abbrev pub StepsLead : (State → UndoStep → State → Type 0) → State → List UndoStep → State → Type 0
 StepsLead Leads s [] t = t ≡ s
 StepsLead Leads s (step ∷ steps) t = (mid : State) × Leads s step mid × StepsLead Leads mid steps t

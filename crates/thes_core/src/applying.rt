@@ -23,7 +23,7 @@ fn is_outside(new: &NewResource) -> bool
 }
 
 impl Thesaurus {
-    // Applies an accepted request to all parts.
+    // Applies an accepted request to the vocabulary, the links and the counts of postings.
     pub(crate) fn change(&mut self, command: &Command, facts: &Facts) -> Result<(), AllocError>
         requires { MayChange self.old command.now }
         ensures becomes { OnOk result (PartsAfter command.now self.old self.new) }
@@ -90,7 +90,7 @@ impl Thesaurus {
         Ok(())
     }
 
-    // Adds a label to its owner.
+    // Applies an AddLabel request: adds the label to its owner.
     fn add_label(&mut self, owner: ResNo, label: &Label) -> Result<(), AllocError>
         requires { PartsAccept self.old [] (request.AddLabel owner label.now) }
         ensures { OnOk result (IsChangedBy (request.AddLabel owner label.now) self.old self.new) }
@@ -99,7 +99,7 @@ impl Thesaurus {
         Ok(())
     }
 
-    // Removes a label from its owner.
+    // Applies a DropLabel request: removes the label from its owner.
     fn drop_label(&mut self, owner: ResNo, label: &Label)
         requires { PartsAccept self.old [] (request.DropLabel owner label.now) }
         ensures { IsChangedBy (request.DropLabel owner label.now) self.old self.new }
@@ -124,7 +124,7 @@ impl Thesaurus {
         Ok(())
     }
 
-    // Adds a link in normal form.
+    // Applies a Link request: adds the link in its normal form.
     fn link(&mut self, kind: LinkKind, a: ResNo, b: ResNo) -> Result<(), AllocError>
         requires { PartsAccept self.old [] (request.Link kind a b) }
         ensures { OnOk result (IsChangedBy (request.Link kind a b) self.old self.new) }
@@ -133,7 +133,7 @@ impl Thesaurus {
         Ok(())
     }
 
-    // Removes a link in normal form.
+    // Applies an Unlink request: removes the link, which is held in its normal form.
     fn unlink(&mut self, kind: LinkKind, a: ResNo, b: ResNo)
         requires { PartsAccept self.old [] (request.Unlink kind a b) }
         ensures { IsChangedBy (request.Unlink kind a b) self.old self.new }
@@ -141,7 +141,8 @@ impl Thesaurus {
         self.graph.remove(&Link { kind, a, b });
     }
 
-    // Marks a concept as dead without a replacement, and removes its links.
+    // Applies a Deprecate request: marks the concept as dead without a replacement, and removes its
+    // links.
     #[tactic(auto, using(crate::proofs::ApplyLemmas::parts_become_state, crate::proofs::OutsideLemmas::outside_marked_dead))]
     fn deprecate(&mut self, concept: ResNo)
         requires { PartsAccept self.old [] (request.Deprecate concept) }
@@ -151,7 +152,8 @@ impl Thesaurus {
         self.graph.drop_all(concept);
     }
 
-    // Merges the source into the target, and counts its postings as moved to the target.
+    // Applies a Merge request: merges the source into the target, and counts the source's postings
+    // as moved to the target.
     fn merge(&mut self, source: ResNo, target: ResNo) -> Result<(), AllocError>
         requires { PartsAccept self.old [] (request.Merge source target) }
         ensures { OnOk result (IsChangedBy (request.Merge source target) self.old self.new) }
@@ -163,7 +165,8 @@ impl Thesaurus {
         Ok(())
     }
 
-    // Adds a concept in the scheme of the source, and counts the listed postings as moved to it.
+    // Applies a Split request: adds a concept in the scheme of the source, and counts the listed
+    // postings as moved to that concept.
     fn split(
         &mut self,
         source: ResNo,
@@ -187,7 +190,8 @@ impl Thesaurus {
         Ok(())
     }
 
-    // Counts a posting with a new key at the end of its concept's chain of replacements.
+    // Applies a Post request with a new key: counts its posting at the end of the concept's chain
+    // of replacements.
     fn post(&mut self, concept: ResNo) -> Result<(), AllocError>
         requires { AreLegal self.old [] }
         ensures { OnOk result ((key rec : List ℕ)
@@ -198,8 +202,8 @@ impl Thesaurus {
         Ok(())
     }
 
-    // Counts a posting as withdrawn from the concept to which it is assigned; counts nothing if the
-    // facts don't have the posting.
+    // Applies a Withdraw request: counts its posting as withdrawn from the concept to which it is
+    // assigned; counts nothing if the facts don't have the posting.
     fn withdraw(&mut self, posting: PostNo, facts: &Facts)
         requires { AreLegal self.old [] }
         ensures becomes { PartsAfter (request.Withdraw posting) self.old self.new }

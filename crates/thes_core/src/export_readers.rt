@@ -6,8 +6,8 @@ use thes_base::data::Resource;
 use thes_base::text::Base;
 
 impl Core {
-    /// Returns the base, the prefix of the IRIs of schemes, concepts and collections.
-    /// Answered by the core's vocabulary.
+    /// Returns the base of the core's vocabulary, the prefix of the IRIs of schemes, concepts and
+    /// collections.
     pub fn base(&self) -> &Base
         requires { self.now.spent ≡ false }
         ensures { result.now ≡ self.now.setting.base }
@@ -15,8 +15,8 @@ impl Core {
         self.thesaurus.vocab.base()
     }
 
-    /// Returns all resources, live and dead; number `n` is at index `n - 1`.
-    /// Answered by the core's vocabulary.
+    /// Returns all resources of the core's vocabulary, live and dead; number `n` is at index
+    /// `n - 1`.
     pub fn resources(&self) -> &[Resource]
         requires { self.now.spent ≡ false }
         ensures all { result.now ≡ self.now.resources }

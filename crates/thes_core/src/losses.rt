@@ -24,7 +24,7 @@ use thes_base::text::Text;
 pub struct MergeLoss {
     /// The links of the source.
     pub links: Vec<Link>,
-    /// The links that are held after the merge alone.
+    /// The links that are held after the merge, and weren't before.
     pub additions: Vec<Link>,
     /// The labels that are copied to the target.
     pub copies: Vec<Label>,
@@ -44,11 +44,12 @@ pub enum Lost {
     Preferred(Text),
     /// The links of a concept that was deprecated.
     Links(Vec<Link>),
-    /// What a merge changed.
-    Merge(MergeLoss),
+    /// What a merge changed, in a box, so that the other losses take little memory.
+    Merge(Box<MergeLoss>),
 }
 
-// Returns the place of a posting that is withdrawn, if the facts have it.
+// Returns the place of the posting that a Withdraw names; `Nothing` if the facts don't have the
+// posting.
 fn lost_place(facts: &Facts) -> Lost
     ensures { (posting : ℕ) (setting : Setting) (s : State)
         → IsAccepted setting s (request.Withdraw posting)
@@ -102,7 +103,8 @@ impl Thesaurus {
             },
             Command::Deprecate(concept) => Ok(Lost::Links(self.links_at(*concept)?)),
             Command::Merge(source, target) => {
-                Ok(Lost::Merge(self.lost_by_merge(*source, *target, facts)?))
+                let loss = self.lost_by_merge(*source, *target, facts)?;
+                Ok(Lost::Merge(Box::new(self.alloc, loss)?))
             }
             _ => Ok(Lost::Nothing),
         }

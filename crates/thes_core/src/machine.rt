@@ -26,7 +26,8 @@ use thes_vocab::Vocab;
 #[derive(Drop)]
 pub struct Core {
     pub(crate) thesaurus: Thesaurus,
-    // Whether running out of memory has left the parts inconsistent.
+    // Whether the core is unusable: running out of memory has left the parts inconsistent, or
+    // `mark_spent` was called.
     pub(crate) spent: bool,
 }
 

@@ -64,8 +64,8 @@ impl Core {
         }
     }
 
-    /// Returns the numbers of postings accepted, withdrawn, and not withdrawn.
-    /// Answered by the core's counts.
+    /// Returns the numbers of postings accepted, withdrawn, and not withdrawn, from the core's
+    /// counts.
     pub fn totals(&self) -> Totals
         requires { self.now.spent ≡ false }
         ensures { AreTotalsOf self.now.posting_counts result }
@@ -73,8 +73,8 @@ impl Core {
         self.thesaurus.book.totals()
     }
 
-    /// Returns the number of postings assigned to a concept, 0 for other numbers.
-    /// Answered by the core's counts.
+    /// Returns the number of postings assigned to a concept, from the core's counts; 0 for other
+    /// numbers.
     pub fn count(&self, concept: ResNo) -> u64
         requires { self.now.spent ≡ false }
         ensures { result ≡ count_of self.now.posting_counts concept }
@@ -82,8 +82,7 @@ impl Core {
         self.thesaurus.book.count(concept)
     }
 
-    /// Returns the resource with this number, live or dead.
-    /// Answered by the core's vocabulary.
+    /// Returns the resource with this number, live or dead, from the core's vocabulary.
     pub fn resource(&self, n: ResNo) -> Option<&Resource>
         requires { self.now.spent ≡ false }
         ensures { option_copied result ≡ entry_at self.now.resources n }
@@ -91,8 +90,8 @@ impl Core {
         self.thesaurus.vocab.resource(n)
     }
 
-    /// Returns the chain of replacements of a concept in order, without the concept itself.
-    /// Answered by the core's vocabulary.
+    /// Returns a concept's chain of replacements from the core's vocabulary, in order, without the
+    /// concept itself.
     pub fn replacements(&self, alloc: Global, concept: ResNo) -> Result<Vec<ResNo>, AllocError>
         requires { self.now.spent ≡ false }
         ensures { IfOk result (λ way. way.items ≡ replacements self.now.resources concept) }
@@ -100,8 +99,7 @@ impl Core {
         self.thesaurus.vocab.replacements(alloc, concept)
     }
 
-    /// Checks whether the number is that of a live resource.
-    /// Answered by the core's vocabulary.
+    /// Checks whether the number is that of a live resource of the core's vocabulary.
     pub fn is_live(&self, n: ResNo) -> bool
         requires { self.now.spent ≡ false }
         ensures { IsTrue result ↔ IsLive self.now.resources n }
@@ -109,8 +107,8 @@ impl Core {
         self.thesaurus.vocab.is_live(n)
     }
 
-    /// Returns the owner's preferred label in the language. There is at most one (SKOS S14).
-    /// Answered by the core's vocabulary.
+    /// Returns the owner's preferred label in the language, from the core's vocabulary. There is at
+    /// most one (SKOS S14).
     pub fn preferred(&self, owner: ResNo, tag: &Tag) -> Option<&Text>
         requires { self.now.spent ≡ false }
         ensures { option_copied result ≡ preferred_label_in self.now.labels owner tag.now }
@@ -118,8 +116,7 @@ impl Core {
         self.thesaurus.vocab.preferred(owner, tag)
     }
 
-    /// Returns the owner's labels, sorted by kind, language and text.
-    /// Answered by the core's vocabulary.
+    /// Returns the owner's labels from the core's vocabulary, sorted by kind, language and text.
     pub fn labels_of(&self, owner: ResNo) -> &[Label]
         requires { self.now.spent ≡ false }
         ensures { AreLabelsOf self.now.labels owner result.now }
@@ -127,8 +124,8 @@ impl Core {
         self.thesaurus.vocab.labels_of(owner)
     }
 
-    /// Returns the live concept of the scheme that has this preferred label. There is at most one.
-    /// Answered by the core's vocabulary.
+    /// Returns the live concept of the scheme that has this preferred label in the core's
+    /// vocabulary. There is at most one.
     pub fn holder(&self, scheme: ResNo, tag: &Tag, text: &Text) -> Option<ResNo>
         requires { self.now.spent ≡ false }
         ensures { let s = self.now in
@@ -138,8 +135,7 @@ impl Core {
         self.thesaurus.vocab.holder(scheme, tag, text)
     }
 
-    /// Returns the number of the outside concept that has the IRI.
-    /// Answered by the core's vocabulary.
+    /// Returns the number of the outside concept that has the IRI in the core's vocabulary.
     pub fn outside(&self, iri: &Iri) -> Option<ResNo>
         requires { self.now.spent ≡ false }
         ensures { let has_iri = λ (n : ℕ). dict.get self.now.iris n ≡ Some iri.now in
@@ -148,8 +144,7 @@ impl Core {
         self.thesaurus.vocab.outside(iri)
     }
 
-    /// Returns the IRI of an outside concept by its number.
-    /// Answered by the core's vocabulary.
+    /// Returns the IRI that the outside concept with this number has in the core's vocabulary.
     pub fn outside_iri(&self, n: ResNo) -> Option<&Iri>
         requires { self.now.spent ≡ false }
         ensures { option_copied result ≡ dict.get self.now.iris n }
@@ -157,9 +152,8 @@ impl Core {
         self.thesaurus.vocab.outside_iri(n)
     }
 
-    /// Checks whether the link is held in its normal form, so that a symmetric link may be stated
-    /// from either end.
-    /// Answered by the core's links.
+    /// Checks whether the core's links have this one in its normal form, so that a symmetric link
+    /// may be stated from either end.
     pub fn has(&self, link: &Link) -> bool
         requires { self.now.spent ≡ false }
         ensures { let s = self.now in
@@ -168,9 +162,8 @@ impl Core {
         self.thesaurus.graph.has(link)
     }
 
-    /// Returns the concepts broader than this one in its scheme, by links of any type, in ascending
-    /// order.
-    /// Answered by the core's links.
+    /// Returns the concepts broader than this one in its scheme, by the core's links of any type,
+    /// in ascending order.
     pub fn broader_of(&self, alloc: Global, n: ResNo) -> Result<Vec<ResNo>, AllocError>
         requires { self.now.spent ≡ false }
         ensures { let is_broader = HasBroader self.now.links n in
@@ -179,9 +172,8 @@ impl Core {
         self.thesaurus.graph.broader_of(alloc, n)
     }
 
-    /// Returns the concepts narrower than this one in its scheme, by links of any type, in
-    /// ascending order.
-    /// Answered by the core's links.
+    /// Returns the concepts narrower than this one in its scheme, by the core's links of any type,
+    /// in ascending order.
     pub fn narrower_of(&self, alloc: Global, n: ResNo) -> Result<Vec<ResNo>, AllocError>
         requires { self.now.spent ≡ false }
         ensures { let is_narrower = λ (a : ℕ). HasBroader self.now.links a n in
@@ -190,8 +182,8 @@ impl Core {
         self.thesaurus.graph.narrower_of(alloc, n)
     }
 
-    /// Returns the concepts related to this one in its scheme, in ascending order.
-    /// Answered by the core's links.
+    /// Returns the concepts related to this one in its scheme by the core's links, in ascending
+    /// order.
     pub fn related_of(&self, alloc: Global, n: ResNo) -> Result<Vec<ResNo>, AllocError>
         requires { self.now.spent ≡ false }
         ensures { let has = HasLink self.now.links kinds.Related in
@@ -200,8 +192,8 @@ impl Core {
         self.thesaurus.graph.related_of(alloc, n)
     }
 
-    /// Returns the collections of which the concept is a member, in ascending order.
-    /// Answered by the core's links.
+    /// Returns the collections of which the core's links make the concept a member, in ascending
+    /// order.
     pub fn collections_of(&self, alloc: Global, n: ResNo) -> Result<Vec<ResNo>, AllocError>
         requires { self.now.spent ≡ false }
         ensures { let has_member = λ (c : ℕ). HasLink self.now.links kinds.Member c n in
@@ -210,9 +202,8 @@ impl Core {
         self.thesaurus.graph.collections_of(alloc, n)
     }
 
-    /// Returns the mappings of the concept as seen from it, sorted by the names of their kinds and
-    /// then by number.
-    /// Answered by the core's links.
+    /// Returns the mappings of the concept among the core's links, as seen from it, sorted by the
+    /// names of their kinds and then by number.
     pub fn mappings(&self, alloc: Global, n: ResNo) -> Result<Vec<(LinkKind, ResNo)>, AllocError>
         requires { self.now.spent ≡ false }
         ensures { let is_mapping = IsMapping self.now.links n in
@@ -221,9 +212,8 @@ impl Core {
         self.thesaurus.graph.mappings(alloc, n)
     }
 
-    /// Returns the typed hierarchical links of the concept as seen from it, sorted by the names of
-    /// their types and then by number.
-    /// Answered by the core's links.
+    /// Returns the typed hierarchical links of the concept among the core's links, as seen from it,
+    /// sorted by the names of their types and then by number.
     pub fn typed_of(&self, alloc: Global, n: ResNo) -> Result<Vec<(TypedKind, ResNo)>, AllocError>
         requires { self.now.spent ≡ false }
         ensures { let is_typed = IsTypedLink self.now.links n in

@@ -30,8 +30,8 @@ impl Growth {
     };
 }
 
-/// Checks whether a count may grow by `more` without exceeding its limit; a count above its limit
-/// may stay as it is.
+/// Checks whether a request may enlarge a count of the state by `more` without exceeding its limit;
+/// a count above its limit may stay as it is.
 pub fn may_rise(limit: u32, count: u64, more: u64) -> bool
     ensures { IsTrue result ↔ IsWithinLimit limit count (count + more) }
 {

@@ -28,7 +28,7 @@ use thes_tables::change::Change;
 use thes_tables::delta::Delta;
 use thes_tables::rows::{HierRow, HierType, LabelRow};
 
-// Returns a delta that has this change alone.
+// Returns the list of changes of rows that has this change alone.
 fn one(alloc: Global, change: Change) -> Result<Delta, AllocError>
     ensures { IfOk result (λ delta. delta ≡ change ∷ []) }
 {
@@ -69,7 +69,8 @@ fn alternative_row(
     Ok(LabelRow { owner, label })
 }
 
-// Returns the type of a hierarchical kind of link; None for other kinds.
+// Returns the type that a row of table hier has for a hierarchical kind of link; None for other
+// kinds.
 fn hier_type(kind: LinkKind) -> Option<HierType>
     ensures { result ≡ hier_type kind }
 {

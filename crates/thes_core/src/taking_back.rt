@@ -27,7 +27,7 @@ use thes_base::number::{PostNo, ResNo};
 use thes_base::request::Command;
 use thes_base::text::{Iri, Tag, Text};
 
-// Returns an alternative label with copies of the tag and the text.
+// Returns the alternative label that a Relabel has added, with copies of the tag and the text.
 fn alternative_label(alloc: Global, tag: &Tag, text: &Text) -> Result<Label, AllocError>
     ensures { IfOk result (λ label. label ≡ own_label Alt tag.now text.now) }
 {
@@ -38,7 +38,7 @@ fn alternative_label(alloc: Global, tag: &Tag, text: &Text) -> Result<Label, All
 }
 
 impl Thesaurus {
-    // Takes back the request that was applied last.
+    // Takes back the request that was applied last; `lost` is what it changed without naming it.
     pub(crate) fn take_back(&mut self, command: &Command, lost: &Lost) -> Result<(), AllocError>
         requires { (s : State) × ArePartsAfter command.now s self.old
             × IsLostFromParts command.now s lost.now }
@@ -90,7 +90,8 @@ impl Thesaurus {
         }
     }
 
-    // Takes back the creation of the last resource, which isn't an outside concept.
+    // Takes back the creation of the last resource, a scheme, concept or collection with this
+    // preferred label.
     fn take_back_named(&mut self, tag: &Tag, text: &Text)
         requires { (s : State) × ArePartsAfterCreation tag.now text.now s self.old }
         ensures parts { (s : State) → ArePartsAfterCreation tag.now text.now s self.old
@@ -190,6 +191,7 @@ impl Thesaurus {
         let Lost::Merge(loss) = lost else {
             return Ok(());
         };
+        let loss = &**loss;
         self.vocab.take_back_death(source)?;
         self.vocab.drop_labels(target, loss.copies.as_slice());
         self.graph.add_all(loss.links.as_slice())?;
@@ -198,7 +200,7 @@ impl Thesaurus {
         Ok(())
     }
 
-    // Takes back the count of a posting to a concept.
+    // Takes back the counts of a new posting to a concept, and of its moves along the replacements.
     fn take_back_post(&mut self, concept: ResNo)
         ensures same { self.new ≡ record self.old { book = self.new.book } }
         ensures counts { (key rec : List ℕ) (histories : List History)
@@ -210,7 +212,7 @@ impl Thesaurus {
         self.book.take_back_post(way.place, way.steps);
     }
 
-    // Takes back the count of a withdrawal, if the place of the posting is known.
+    // Takes back the count of a withdrawal; changes nothing if `lost` has no place of its posting.
     fn take_back_withdrawal(&mut self, lost: &Lost) -> Result<(), AllocError>
         ensures same { OnOk result (self.new ≡ record self.old { book = self.new.book }) }
         ensures counts { OnOk result ((posting : ℕ) (s : State)
@@ -224,7 +226,8 @@ impl Thesaurus {
         Ok(())
     }
 
-    // Takes back the replacement of a preferred label, whose text is in `lost`.
+    // Takes back a Relabel: restores the old text, which is in `lost`, and removes the alternative
+    // label with that text if `keep` is true.
     fn take_back_relabel(
         &mut self,
         owner: ResNo,
@@ -248,8 +251,7 @@ impl Thesaurus {
         Ok(())
     }
 
-    // Removes the alternative label that the replacement of a preferred label kept, if `keep` is
-    // true.
+    // Removes the alternative label with the old text, which a Relabel has added if `keep` is true.
     fn drop_kept(
         &mut self,
         owner: ResNo,
@@ -273,7 +275,7 @@ impl Thesaurus {
         Ok(())
     }
 
-    // Takes back a split.
+    // Takes back a split: removes the new concept, and counts the listed postings at the source.
     fn take_back_split(
         &mut self,
         source: ResNo,

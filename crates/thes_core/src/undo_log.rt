@@ -17,7 +17,7 @@ use std::marker::Model;
 use thes_base::fault::Fault;
 use thes_base::request::Command;
 
-/// A request that was applied to a core.
+/// A request that was applied to a core, with what it changed without naming it.
 #[derive(Debug, Drop)]
 pub struct UndoStep {
     pub(crate) command: Command,

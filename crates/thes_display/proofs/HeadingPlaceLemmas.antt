@@ -2,8 +2,7 @@
 use Rattle.std.proofs.lemmas.Grind.{common_steps}
 use Rattle.std.proofs.Common.{◌≡◌, ◌∙◌, ◌<◌, ◌≤◌, ◌+◌, sym, ap, ap₂, refl, subst, ℕ, List, [], ◌∷◌, map, length, Option, Some}
 use Rattle.std.proofs.Common.{None, arith, inl, inr, Ordering, Less, Equal, Greater, false, Bool, get_or}
-use Rattle.std.proofs.Common.{Result, Ok, Err, IfOk, IfSome, OnOk, ◌++◌, true, true≢false}
-use Rattle.std.specs.Prelude.{Contains, flat_map}
+use Rattle.std.specs.Prelude.{Contains}
 use Rattle.std.specs.List.{AllByRecursion, filter_map, cons_option}
 use Rattle.std.specs.List.Sorted.{IsStrictlySortedBy}
 use Rattle.std.specs.Option.{option_map_or}
@@ -15,21 +14,17 @@ use Rattle.std.proofs.lemmas.Map.Lookups.{exact_unsigned}
 use Rattle.std.proofs.lemmas.Option.{get_or_from_slice_get, slice_get_read, slice_get_within}
 use Rattle.thes_base.specs.Listing.{IsListing}
 use Rattle.thes_base.specs.State.{State}
-use Rattle.thes_display.specs.declared.entry.Heading.{Heading}
+use Rattle.thes_display.specs.declared.heading.Heading.{Heading}
 use Rattle.thes_display.specs.declared.heading_index.HeadingIndex.{HeadingIndex}
 use Rattle.thes_display.specs.declared.symbol.Symbol.{Symbol}
 use Rattle.thes_display.specs.declared.symbol.Symbol.TheVariants as symbol
-use Rattle.thes_display.specs.Alphabetical.{AreLinesOf, IsHeadedBy, IsUnder, entry_line, heading_cmp, symbol_text}
+use Rattle.thes_display.specs.Alphabetical.{IsHeadedBy, IsUnder, heading_cmp}
 use Rattle.thes_core.specs.Terms.{term_text}
-use Rattle.thes_base.specs.declared.data.TypedKind.TheVariants as typed
-use Rattle.thes_display.specs.declared.symbol.Hierarchy.TheVariants as hier
-use Rattle.thes_display.specs.EntryTerms.{AreLinkedUnder, HasNoTypedLink, IsTermOf, is_typed_symbol}
+use Rattle.thes_display.specs.EntryTerms.{AreLinkedUnder, IsTermOf}
 use Rattle.thes_display.specs.HeadingIndex.{AreSortedPlaces, AreTermPlaces, IsHeadingIndex, IsOwnAt, term_at}
 use Rattle.thes_display.specs.HierarchyParts.{rank_at}
 use Rattle.thes_display.specs.Order.{Term, term_cmp}
-use Rattle.thes_display.specs.TextAppends.{AppendsText}
 use Rattle.thes_display.proofs.HomeLemmas.{rank_from}
-use Rattle.thes_display.proofs.ListingLemmas.{listing_none}
 use Rattle.thes_display.proofs.SortLemmas.{listing_in_order, rises_by}
 use Rattle.thes_display.proofs.TermLemmas.{same_term}
 use Rattle.thes_display.proofs.WalkLemmas.{IsOneOf, among_from, among_map, contains_of, map_among}
@@ -107,41 +102,12 @@ module _ (headings : List Heading) where
           let b = owned j (inl refl) in
           (less_terms rises a.0 b.0 k j a.1 b.1 all.0, below js all.1 (λ i x. owned i (inr x)))
 
-module _ (s : State) (tag : List ℕ) (index : HeadingIndex) (is : IsHeadingIndex s tag index) (P : ℕ → Type 0)
-    (xs ks : List ℕ) (listed : IsListing nat_cmp P xs)
-    (are : AreSortedPlaces (rank_at index.places.items) xs ks) where
+module _ (s : State) (tag : List ℕ) (index : HeadingIndex) (is : IsHeadingIndex s tag index) where
   abbrev Hs : List Heading
   Hs = index.headings.items
 
   abbrev Place : ℕ → Option ℕ
   Place = rank_at index.places.items
-
-  abbrev Zs : List ℕ
-  Zs = filter_map Place xs
-
-  ok : (n k : ℕ) → Place n ≡ Some k → concept_at Hs k ≡ n
-  ok n k e = own_concept Hs n k (is.places n k e)
-
-  zs_back : map (concept_at Hs) Zs ≡ xs
-  zs_back = back Place (concept_at Hs) ok xs are.all
-
-  own_of : (k : ℕ) → IsOneOf k Zs → (n : ℕ) × IsOneOf n xs × IsOwnAt Hs n k
-  own_of k a = let x = rank_from Place Zs xs k refl a in (x.0, x.1, is.places x.0 k x.2)
-
-  in_order : IsListing nat_cmp (λ k. IsOneOf k Zs) ks
-  in_order =
-      listing_in_order (λ x y. nat_cmp (concept_at Hs x) (concept_at Hs y)) nat_cmp
-      (on_total (concept_at Hs) nat_cmp_total) nat_cmp_total
-      (λ x y e. ap (λ i. nat_cmp (concept_at Hs i) (concept_at Hs y)) (exact_unsigned x y e)
-      ∙ tied_itself nat_cmp_total (concept_at Hs y)) (λ k. IsOneOf k Zs) Zs ks
-      (record {
-        rises = rises_by (concept_at Hs) Zs (subst (IsStrictlySortedBy nat_cmp) (sym zs_back) listed.rises);
-        sound = λ k c. among_from k Zs c;
-        complete = λ k i. contains_of k Zs i;
-      }) are.same are.order
-
-  own_at : (k : ℕ) → IsOneOf k ks → (n : ℕ) × IsOneOf n xs × IsOwnAt Hs n k
-  own_at k a = own_of k (in_order.sound k (contains_of k ks a))
 
   text_at : (h : Heading) → Contains Hs h → (b : Bool) → h.lead_in ≡ b → b ≡ false → h.term.text
       ≡ term_text s.labels tag h.term.concept
@@ -154,31 +120,76 @@ module _ (s : State) (tag : List ℕ) (index : HeadingIndex) (is : IsHeadingInde
     get_or_from_slice_get Hs k o.heading o.heading o.heading_at,
   ) false o.own refl
 
-  term_sound : (t : Term) → IsOneOf t (map (term_at Hs) ks) → IsTermOf s.labels tag P t
-  term_sound t a =
-      let k = among_map (term_at Hs) t ks a in
-      let o = own_at k.0 k.1 in
-      let same : t ≡ o.2.heading.term = k.2 ∙ term_is Hs o.0 k.0 o.2 in
-      subst (IsTermOf s.labels tag P) (sym same)
-      (subst P (sym o.2.concept) (listed.sound o.0 (contains_of o.0 xs o.1)), own_text o.0 k.0 o.2)
+  -- The place of a concept is that of a heading with its term.
+  pub place_within : (n k : ℕ) → Place n ≡ Some k → k < length Hs
+  place_within n k e = let o = is.places n k e in slice_get_within Hs k o.heading o.heading_at
 
-  term_complete : (t : Term) → IsTermOf s.labels tag P t → IsOneOf t (map (term_at Hs) ks)
+  pub place_text : (n k : ℕ) → Place n ≡ Some k → (term_at Hs k).text ≡ term_text s.labels tag n
+  place_text n k e =
+      let o = is.places n k e in
+      ap (λ (t : Term). t.text) (term_is Hs n k o) ∙ own_text n k o ∙ ap (term_text s.labels tag) o.concept
+
+module _ (s : State) (tag : List ℕ) (index : HeadingIndex) (is : IsHeadingIndex s tag index) (P : ℕ → Type 0)
+    (xs ks : List ℕ) (listed : IsListing nat_cmp P xs)
+    (are : AreSortedPlaces (rank_at index.places.items) xs ks) where
+  abbrev Headings : List Heading
+  Headings = index.headings.items
+
+  abbrev PlaceOf : ℕ → Option ℕ
+  PlaceOf = rank_at index.places.items
+
+  abbrev Zs : List ℕ
+  Zs = filter_map PlaceOf xs
+
+  ok : (n k : ℕ) → PlaceOf n ≡ Some k → concept_at Headings k ≡ n
+  ok n k e = own_concept Headings n k (is.places n k e)
+
+  zs_back : map (concept_at Headings) Zs ≡ xs
+  zs_back = back PlaceOf (concept_at Headings) ok xs are.all
+
+  own_of : (k : ℕ) → IsOneOf k Zs → (n : ℕ) × IsOneOf n xs × IsOwnAt Headings n k
+  own_of k a = let x = rank_from PlaceOf Zs xs k refl a in (x.0, x.1, is.places x.0 k x.2)
+
+  in_order : IsListing nat_cmp (λ k. IsOneOf k Zs) ks
+  in_order =
+      listing_in_order (λ x y. nat_cmp (concept_at Headings x) (concept_at Headings y)) nat_cmp
+      (on_total (concept_at Headings) nat_cmp_total) nat_cmp_total
+      (λ x y e. ap (λ i. nat_cmp (concept_at Headings i) (concept_at Headings y)) (exact_unsigned x y e)
+      ∙ tied_itself nat_cmp_total (concept_at Headings y)) (λ k. IsOneOf k Zs) Zs ks
+      (record {
+        rises = rises_by (concept_at Headings) Zs (subst (IsStrictlySortedBy nat_cmp) (sym zs_back) listed.rises);
+        sound = λ k c. among_from k Zs c;
+        complete = λ k i. contains_of k Zs i;
+      }) are.same are.order
+
+  own_at : (k : ℕ) → IsOneOf k ks → (n : ℕ) × IsOneOf n xs × IsOwnAt Headings n k
+  own_at k a = own_of k (in_order.sound k (contains_of k ks a))
+
+  term_sound : (t : Term) → IsOneOf t (map (term_at Headings) ks) → IsTermOf s.labels tag P t
+  term_sound t a =
+      let k = among_map (term_at Headings) t ks a in
+      let o = own_at k.0 k.1 in
+      let same : t ≡ o.2.heading.term = k.2 ∙ term_is Headings o.0 k.0 o.2 in
+      subst (IsTermOf s.labels tag P) (sym same)
+      (subst P (sym o.2.concept) (listed.sound o.0 (contains_of o.0 xs o.1)), own_text s tag index is o.0 k.0 o.2)
+
+  term_complete : (t : Term) → IsTermOf s.labels tag P t → IsOneOf t (map (term_at Headings) ks)
   term_complete t p =
       let x = among_from t.concept xs (listed.complete t.concept p.0) in
-      let k = among_map (concept_at Hs) t.concept Zs (subst (IsOneOf t.concept) (sym zs_back) x) in
+      let k = among_map (concept_at Headings) t.concept Zs (subst (IsOneOf t.concept) (sym zs_back) x) in
       let o = own_of k.0 k.1 in
-      let there = map_among (term_at Hs) k.0 ks (among_from k.0 ks (in_order.complete k.0 k.1)) in
-      let is_term = term_is Hs o.0 k.0 o.2 in
+      let there = map_among (term_at Headings) k.0 ks (among_from k.0 ks (in_order.complete k.0 k.1)) in
+      let is_term = term_is Headings o.0 k.0 o.2 in
       let number : o.2.heading.term.concept ≡ t.concept = sym (ap (λ (z : Term). z.concept) is_term) ∙ sym k.2 in
-      let same : term_at Hs k.0 ≡ t = is_term ∙ same_term o.2.heading.term t
-      (own_text o.0 k.0 o.2 ∙ ap (term_text s.labels tag) number ∙ sym p.1) number in
-      subst (λ z. IsOneOf z (map (term_at Hs) ks)) same there
+      let same : term_at Headings k.0 ≡ t = is_term ∙ same_term o.2.heading.term t
+      (own_text s tag index is o.0 k.0 o.2 ∙ ap (term_text s.labels tag) number ∙ sym p.1) number in
+      subst (λ z. IsOneOf z (map (term_at Headings) ks)) same there
 
-  pub are_places : AreTermPlaces Hs (IsTermOf s.labels tag P) ks
+  pub are_places : AreTermPlaces Headings (IsTermOf s.labels tag P) ks
   are_places = record {
-    bound = λ k c. let o = own_at k (among_from k ks c) in slice_get_within Hs k o.2.heading o.2.heading_at;
+    bound = λ k c. let o = own_at k (among_from k ks c) in slice_get_within Headings k o.2.heading o.2.heading_at;
     listing = record {
-      rises = terms_rise Hs is.rises ks in_order.rises (λ k a. let o = own_at k a in (o.0, o.2));
+      rises = terms_rise Headings is.rises ks in_order.rises (λ k a. let o = own_at k a in (o.0, o.2));
       sound = λ t c. term_sound t (among_from t _ c);
       complete = λ t p. contains_of t _ (term_complete t p);
     };
@@ -194,60 +205,14 @@ places_are s tag index is n (symbol.Broader type) xs ks listed are = are_places 
 places_are s tag index is n (symbol.Narrower type) xs ks listed are = are_places s tag index is _ xs ks listed are
 places_are s tag index is n symbol.Related xs ks listed are = are_places s tag index is _ xs ks listed are
 
-pub if_found : {V E : Type 0} (r : Result (Option V) E) (P Q : V → Type 0) → ((v : V) → P v → Q v)
-    → IfOk r (λ o. IfSome o P) → IfOk r (λ o. IfSome o Q)
-if_found (Ok (Some v)) P Q f p = f v p
-if_found (Ok None) P Q f p = p
-if_found (Err e) P Q f p = p
-
-pub on_written : {V E : Type 0} (r : Result V E) (P Q : Type 0) → (P → Q) → OnOk r P → OnOk r Q
-on_written (Ok v) P Q f p = f p
-on_written (Err e) P Q f p = p
-
 -- The term of the heading that is read at a place.
 pub term_read : (headings : List Heading) (k : ℕ) (h : Heading) → k < length headings → h ≡ get_or headings k h
     → term_at headings k ≡ h.term
 term_read headings k h l e = ap (λ x. option_map_or (λ (z : Heading). z.term) x (record { text = []; concept = 0 }))
     (slice_get_read headings (length headings) k h refl l e)
 
-lines_same : (headings : List Heading) (line : Term → List ℕ) (ks : List ℕ)
-    → flat_map (λ (k : ℕ). line (term_at headings k)) ks ≡ flat_map line (map (term_at headings) ks)
-lines_same headings line [] = refl
-lines_same headings line (k ∷ ks) = ap (λ r. line (term_at headings k) ++ r) (lines_same headings line ks)
-
--- The lines for the terms at the places are those of the symbol.
-pub lines_at : (s : State) (tag : List ℕ) (n : ℕ) (z : Symbol) (headings : List Heading) (ks old new : List ℕ)
-    → AreTermPlaces headings (IsUnder s tag n z) ks
-    → new ≡ old ++ flat_map (λ (k : ℕ). entry_line (symbol_text z) (term_at headings k).text) ks
-    → AppendsText (AreLinesOf s tag n z) old new
-lines_at s tag n z headings ks old new are e = record {
-  addition = flat_map (λ (k : ℕ). entry_line (symbol_text z) (term_at headings k).text) ks;
-  one = record {
-    terms = map (term_at headings) ks;
-    listing = are.listing;
-    is = lines_same headings (λ (t : Term). entry_line (symbol_text z) t.text) ks;
-  };
-  is = e;
-}
-
--- Without typed links there are no terms for a typed symbol.
-module _ (s : State) (tag : List ℕ) (n : ℕ) (none : HasNoTypedLink s.links n) where
-  no_under : (z : Symbol) → is_typed_symbol z ≡ true → (t : Term) → IsUnder s tag n z t → ⊥
-  no_under symbol.ScopeNote e t u = true≢false (sym e)
-  no_under symbol.UsedFor e t u = true≢false (sym e)
-  no_under symbol.Related e t u = true≢false (sym e)
-  no_under (symbol.Broader hier.Untyped) e t u = true≢false (sym e)
-  no_under (symbol.Broader hier.Generic) e t u = none (typed.BroaderGeneric, t.concept) u.0
-  no_under (symbol.Broader hier.Partitive) e t u = none (typed.BroaderPartitive, t.concept) u.0
-  no_under (symbol.Broader hier.Instantial) e t u = none (typed.BroaderInstantial, t.concept) u.0
-  no_under (symbol.Narrower hier.Untyped) e t u = true≢false (sym e)
-  no_under (symbol.Narrower hier.Generic) e t u = none (typed.NarrowerGeneric, t.concept) u.0
-  no_under (symbol.Narrower hier.Partitive) e t u = none (typed.NarrowerPartitive, t.concept) u.0
-  no_under (symbol.Narrower hier.Instantial) e t u = none (typed.NarrowerInstantial, t.concept) u.0
-
-  pub none_under : (headings : List Heading) (z : Symbol) (ks : List ℕ) → is_typed_symbol z ≡ true → ks ≡ []
-      → AreTermPlaces headings (IsUnder s tag n z) ks
-  none_under headings z ks e f = subst (AreTermPlaces headings (IsUnder s tag n z)) (sym f) (record {
-    bound = λ k c. absurd (among_from k [] c);
-    listing = listing_none term_cmp _ [] refl (no_under z e);
-  })
+-- The places of linked concepts are within the headings.
+pub places_bound : (s : State) (tag : List ℕ) (index : HeadingIndex) → IsHeadingIndex s tag index → (z : Symbol)
+    (xs ks : List ℕ) → (n : ℕ) × AreLinkedUnder s.links n z xs → AreSortedPlaces (rank_at index.places.items) xs ks
+    → (k : ℕ) → Contains ks k → k < length index.headings.items
+places_bound s tag index is z xs ks linked are = (places_are s tag index is linked.0 z xs ks linked.1 are).bound

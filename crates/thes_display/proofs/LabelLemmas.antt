@@ -1,87 +1,119 @@
--- Proves that selecting from a concept's labels of a kind by language lists its labels of the kind in that language.
-use Rattle.std.proofs.lemmas.Grind.{common_steps}
-use Rattle.std.proofs.Common.{◌≡◌, ◌∙◌, ◌≤◌, ◌+◌, refl, sym, ap, subst, ℕ, List, [], ◌∷◌, ◌++◌, take, take_all, arith}
-use Rattle.std.proofs.Common.{length, Ordering, Less, Equal, ⊎_elim, inl, inr, IsPermutation, IsSorted}
-use Rattle.std.specs.Ordering.{nat_cmp}
-use Rattle.std.specs.Cmp.{IsTotalOrder}
-use Rattle.std.specs.Cmp.Lexicographic.{slice_cmp}
+-- Proves that selecting from a concept's labels by kind and language lists their texts, and that the terms with these
+-- texts, sorted, are those of the labels.
+use Rattle.std.proofs.Common.{◌≡◌, ◌∙◌, ◌≤◌, ◌&&◌, refl, sym, ap, subst, ℕ, List, Bool, true, false, [], ◌∷◌, map}
+use Rattle.std.proofs.Common.{filter, length, arith, eqb-true, true≢false, Ordering, Less, Equal, Contains}
+use Rattle.std.proofs.lemmas.Bool.{eq-eqb}
+use Rattle.std.specs.Borrow.{Bor}
+use Rattle.std.specs.Prelude.{nat_eq}
+use Rattle.std.specs.Ordering.{nat_cmp, ordering_then}
+use Rattle.std.specs.Cmp.{IsTotalOrder, nat_cmp_total, tied_itself}
+use Rattle.std.specs.Cmp.Lexicographic.{pointwise, slice_cmp, bytes_decides}
 use Rattle.std.specs.List.Sorted.{IsStrictlySortedBy}
 use Rattle.std.proofs.lemmas.Cmp.{on_total, nat_list_cmp_total}
+use Rattle.std.proofs.lemmas.List.Kept.{IsStrictlySortedBy-filter}
+use Rattle.std.proofs.lemmas.Simd.{map-map}
 use Rattle.thes_base.specs.declared.data.LabelKind.{LabelKind}
-use Rattle.thes_base.specs.Labels.{Labels, HasLabel}
+use Rattle.thes_base.specs.Data.{LabelData}
+use Rattle.thes_base.specs.Labels.{Labels, HasLabel, label_kind_no}
 use Rattle.thes_base.specs.Listing.{IsListing}
-use Rattle.thes_base.specs.Views.{TaggedText, tagged_text_cmp}
+use Rattle.thes_base.proofs.LabelSetLemmas.{same_kind}
+use Rattle.thes_base.proofs.ListMemberLemmas.{Contains-filter, Contains-from_filter}
+use Rattle.thes_vocab.specs.OwnLabels.{AreLabelsOf, data_cmp, own_label}
+use Rattle.thes_core.proofs.LabelListLemmas.{own_contains, contains_own}
+use Rattle.thes_core.specs.LabelLists.{is_of_kind}
 use Rattle.thes_display.specs.EntryTerms.{IsLabelTerm}
+use Rattle.thes_display.specs.LabelTexts.{AreSortedTexts, is_label_in, label_texts, term_with, text_cmp}
 use Rattle.thes_display.specs.Order.{Term, term_cmp}
 use Rattle.thes_display.proofs.OrderLemmas.{term_total}
-use Rattle.thes_display.proofs.TermLemmas.{second_ties, same_term}
-use Rattle.thes_display.proofs.HeadingLemmas.{first_ties}
+use Rattle.thes_display.proofs.TermLemmas.{first_ties, second_ties, same_term}
 use Rattle.thes_display.proofs.SortLemmas.{listing_in_order}
-use Rattle.thes_display.proofs.WalkLemmas.{IsOneOf, among_from, contains_of, among_append, among_left, among_right}
-use Rattle.thes_display.proofs.ListingLemmas.{listing_as, listing_none, listing_more, before_taken}
+use Rattle.thes_display.proofs.ListingLemmas.{listing_mapped}
 
-abbrev pub by_text : Term → Term → Ordering
-by_text x y = slice_cmp nat_cmp x.text y.text
+both_parts : (a b : Bool) → (a && b) ≡ true → (a ≡ true) × (b ≡ true)
+both_parts true b e = (refl, e)
+both_parts false b e = absurd (true≢false (sym e))
+
+both_true : (a b : Bool) → a ≡ true → b ≡ true → (a && b) ≡ true
+both_true a b e f = ap (λ x. x && b) e ∙ f
+
+later_less : (a b c : Ordering) → a ≡ Equal → b ≡ Equal → ordering_then (ordering_then a b) c ≡ Less → c ≡ Less
+later_less a b c e f l = sym (ap (λ o. ordering_then (ordering_then o b) c) e ∙ ap (λ o. ordering_then o c) f) ∙ l
+
+module _ (kind : LabelKind) (tag : List ℕ) where
+  kind_of : (l : LabelData) → is_label_in kind tag l ≡ true → label_kind_no l.kind ≡ label_kind_no kind
+  kind_of l e = eqb-true _ _ (both_parts (is_of_kind kind l) (pointwise nat_eq l.tag tag) e).0
+
+  tag_of : (l : LabelData) → is_label_in kind tag l ≡ true → l.tag ≡ tag
+  tag_of l e = (bytes_decides l.tag tag).0 (both_parts (is_of_kind kind l) (pointwise nat_eq l.tag tag) e).1
+
+  -- Labels of one kind and language are ordered by their texts.
+  text_less : (x y : LabelData) → is_label_in kind tag x ≡ true → is_label_in kind tag y ≡ true → data_cmp x y ≡ Less
+      → text_cmp x.text y.text ≡ Less
+  text_less x y e f l =
+      later_less _ _ _ (ap (λ n. nat_cmp n (label_kind_no y.kind)) (kind_of x e ∙ sym (kind_of y f))
+      ∙ tied_itself nat_cmp_total (label_kind_no y.kind))
+      (ap (λ t. slice_cmp nat_cmp t y.tag) (tag_of x e ∙ sym (tag_of y f)) ∙ tied_itself nat_list_cmp_total y.tag) l
+
+  is_in : (text : List ℕ) → is_label_in kind tag (own_label kind tag text) ≡ true
+  is_in text = both_true _ _ (eq-eqb _ _ refl) ((bytes_decides tag tag).1 refl)
+
+  -- The label is among the owner's, of the kind and in the language.
+  abbrev IsSelected : List LabelData → LabelData → Type 0
+  IsSelected own l = Contains own l × (is_label_in kind tag l ≡ true)
+
+  selected_held : (labels : Labels) (n : ℕ) (own : List LabelData) → AreLabelsOf labels n own → (l : LabelData)
+      → IsSelected own l → HasLabel labels n kind tag l.text
+  selected_held labels n own are l p =
+      subst (λ (q : LabelKind × List ℕ). HasLabel labels n q.0 q.1 l.text)
+      (λ i. (same_kind l.kind kind (kind_of l p.1) i, tag_of l p.1 i)) (sym (are.each l) ∙ contains_own own l p.0)
+
+  -- The texts of the labels that are selected from an owner's are a listing.
+  pub texts_listed : (labels : Labels) (n : ℕ) (own : List LabelData) (found : List (Bor LabelData))
+      → AreLabelsOf labels n own → map (λ l. l.now) found ≡ filter (is_label_in kind tag) own
+      → IsListing text_cmp (HasLabel labels n kind tag) (label_texts found)
+  texts_listed labels n own found are e =
+      subst (IsListing text_cmp (HasLabel labels n kind tag)) (sym (ap (map (λ l. l.text)) e)
+      ∙ map-map (λ l. l.text) (λ (b : Bor LabelData). b.now) found)
+      (listing_mapped (λ (l : LabelData). l.text) data_cmp text_cmp (IsSelected own) (HasLabel labels n kind tag)
+      (filter (is_label_in kind tag) own)
+      (record {
+        rises = IsStrictlySortedBy-filter data_cmp (is_label_in kind tag) own are.ordered;
+        sound = λ l c. Contains-from_filter (is_label_in kind tag) own l c;
+        complete = λ l p. Contains-filter (is_label_in kind tag) own l p.0 p.1;
+      })
+      (λ x y p q l. text_less x y p.1 q.1 l) (λ l p. selected_held labels n own are l p)
+      (λ text h. (own_label kind tag text, (own_contains own _ (are.each _ ∙ h), is_in text), refl)))
+
+abbrev by_text : Term → Term → Ordering
+by_text x y = text_cmp x.text y.text
 
 by_text_total : IsTotalOrder by_text
 by_text_total = on_total (λ (t : Term). t.text) nat_list_cmp_total
 
-text_less : (x y : TaggedText) → x.tag ≡ y.tag → tagged_text_cmp x y ≡ Less → slice_cmp nat_cmp x.text y.text ≡ Less
-text_less x y e l = grind (arith, common_steps, nat_list_cmp_total)
+pub text_ties : (x y : Term) → term_cmp x y ≡ Equal → text_cmp x.text y.text ≡ Equal
+text_ties x y e = first_ties (by_text x y) (nat_cmp x.concept y.concept) (second_ties _ _ e)
 
-module _ (n : ℕ) (tag : List ℕ) (all : List TaggedText) where
-  -- The term is one of these labels, in the language.
-  abbrev pub IsOne : List TaggedText → Term → Type 0
-  IsOne seen t = (t.concept ≡ n) × ((x : TaggedText) × IsOneOf x seen × (x.tag ≡ tag) × (x.text ≡ t.text))
+few_rise : (n : ℕ) (texts : List (List ℕ)) → length texts ≤ 1 → IsStrictlySortedBy term_cmp (map (term_with n) texts)
+unfolding IsStrictlySortedBy
+few_rise n [] l = tt
+few_rise n (t ∷ []) l = (tt, tt)
+few_rise n (t ∷ u ∷ texts) l = absurd (omega (arith, l))
 
-  pub labels_none : (terms : List Term) → terms ≡ [] → IsListing by_text (IsOne []) terms
-  labels_none terms e = listing_none by_text _ terms e (λ t p. p.1.1)
+module _ (labels : Labels) (n : ℕ) (kind : LabelKind) (tag : List ℕ) (texts : List (List ℕ))
+    (listed : IsListing text_cmp (HasLabel labels n kind tag) texts) where
+  terms_by_text : IsListing by_text (IsLabelTerm labels n kind tag) (map (term_with n) texts)
+  terms_by_text = listing_mapped (term_with n) text_cmp by_text (HasLabel labels n kind tag) _ texts listed
+      (λ x y p q l. l) (λ text h. (refl, h)) (λ t p. (t.text, p.1, same_term t (term_with n t.text) refl p.0))
 
-  later : (i : ℕ) (x : TaggedText) (t : Term) → take (i + 1) all ≡ take i all ++ x ∷ [] → IsOne (take i all) t
-      → IsOne (take (i + 1) all) t
-  later i x t e (c, (y, a, f, g)) = (c, (y, subst (IsOneOf y) (sym e) (among_left y (take i all) (x ∷ []) a), f, g))
+  pub terms_sorted : (terms : List Term) → AreSortedTexts n texts terms
+      → IsListing term_cmp (IsLabelTerm labels n kind tag) terms
+  terms_sorted terms are = listing_in_order by_text term_cmp by_text_total term_total text_ties _
+      (map (term_with n) texts) terms terms_by_text are.same are.order
 
-  pub labels_more : (i : ℕ) (x : TaggedText) (t : Term) (terms new : List Term) → IsStrictlySortedBy tagged_text_cmp
-      all → take (i + 1) all ≡ take i all ++ x ∷ [] → x.tag ≡ tag → t.text ≡ x.text → t.concept ≡ n
-      → IsListing by_text (IsOne (take i all)) terms → new ≡ terms ++ t ∷ []
-      → IsListing by_text (IsOne (take (i + 1) all)) new
-  labels_more i x t terms new rises e f g h l k =
-      listing_more by_text _ _ terms new t l k
-      (λ w p. ap (λ u. slice_cmp nat_cmp u t.text) (sym p.1.3) ∙ ap (slice_cmp nat_cmp p.1.0.text) g
-      ∙ text_less p.1.0 x (p.1.2 ∙ sym f) (before_taken tagged_text_cmp all i x p.1.0 rises e p.1.1))
-      (λ z p. ⊎_elim (λ old. inl (p.0, (p.1.0, old, p.1.2, p.1.3)))
-      (λ last.
-      ⊎_elim (λ same. inr (same_term z t (sym p.1.3 ∙ ap (λ (y : TaggedText). y.text) same ∙ sym g)
-      (p.0 ∙ sym h))) (λ no. absurd no) last)
-      (among_append p.1.0 (take i all) (x ∷ []) (subst (IsOneOf p.1.0) e p.1.1)))
-      (λ z p. later i x z e p)
-      (h, (x, subst (IsOneOf x) (sym e) (among_right x (take i all) (x ∷ []) (inl refl)), f, sym g))
-
-  pub labels_skip : (i : ℕ) (x : TaggedText) (terms new : List Term) → take (i + 1) all ≡ take i all ++ x ∷ []
-      → (x.tag ≡ tag → ⊥) → IsListing by_text (IsOne (take i all)) terms → new ≡ terms
-      → IsListing by_text (IsOne (take (i + 1) all)) new
-  labels_skip i x terms new e other l k =
-      subst (IsListing by_text (IsOne (take (i + 1) all))) (sym k)
-      (listing_as by_text _ _ terms (λ z p. later i x z e p)
-      (λ z p. ⊎_elim (λ old. (p.0, (p.1.0, old, p.1.2, p.1.3)))
-      (λ last. ⊎_elim (λ same. absurd (other (ap (λ (y : TaggedText). y.tag) (sym same) ∙ p.1.2)))
-      (λ no. absurd no) last) (among_append p.1.0 (take i all) (x ∷ []) (subst (IsOneOf p.1.0) e p.1.1))) l)
-
-  text_ties : (x y : Term) → term_cmp x y ≡ Equal → by_text x y ≡ Equal
-  text_ties x y e = first_ties (by_text x y) (nat_cmp x.concept y.concept) (second_ties _ _ e)
-
-  pub labels_whole : (labels : Labels) (kind : LabelKind) (i : ℕ) (terms sorted : List Term)
-      → IsListing tagged_text_cmp (λ t. HasLabel labels n kind t.tag t.text) all → length all ≤ i
-      → IsListing by_text (IsOne (take i all)) terms
-      → IsPermutation terms sorted → IsSorted term_cmp sorted → IsListing term_cmp (IsLabelTerm labels n kind tag)
-      sorted
-  labels_whole labels kind i terms sorted listed long l p q =
-      listing_as term_cmp (IsOne all) _ sorted
-      (λ t r. (
-        r.0,
-        subst (λ u. HasLabel labels n kind u t.text) r.1.2
-            (subst (HasLabel labels n kind r.1.0.tag) r.1.3 (listed.sound r.1.0 (contains_of r.1.0 all r.1.1))),
-      ))
-      (λ t r. (r.0, (record { tag = tag; text = t.text }, among_from _ all (listed.complete _ r.1), refl, refl)))
-      (listing_in_order by_text term_cmp by_text_total term_total text_ties (IsOne all) terms sorted
-      (subst (λ ts. IsListing by_text (IsOne ts) terms) (take_all i all long) l) p q)
+  -- At most one term needs no sorting.
+  pub few_terms : length texts ≤ 1 → IsListing term_cmp (IsLabelTerm labels n kind tag) (map (term_with n) texts)
+  few_terms few = record {
+    rises = few_rise n texts few;
+    sound = terms_by_text.sound;
+    complete = terms_by_text.complete;
+  }

@@ -1,12 +1,12 @@
--- Proves that extending a listing, concatenating two and selecting from one give listings again.
+-- Proves that extending a listing, concatenating two, selecting from one and mapping one give listings again.
 use Rattle.std.proofs.lemmas.Grind.{common_steps}
-use Rattle.std.proofs.Common.{◌≡◌, ◌∙◌, ◌⊎◌, ◌≤◌, ◌+◌, refl, sym, ap, subst, ℕ, zero, suc, List, [], ◌∷◌, ◌++◌, take}
-use Rattle.std.proofs.Common.{take_all, length, Ordering, Less, ⊎_elim, inl, inr, arith}
+use Rattle.std.proofs.Common.{◌≡◌, ◌∙◌, ◌⊎◌, ◌≤◌, ◌+◌, refl, sym, ap, subst, ℕ, zero, suc, List, [], ◌∷◌, ◌++◌, map}
+use Rattle.std.proofs.Common.{take, take_all, length, Ordering, Less, ⊎_elim, inl, inr, arith}
 use Rattle.std.specs.List.{AllByRecursion}
 use Rattle.std.specs.List.Sorted.{IsStrictlySortedBy}
 use Rattle.thes_base.specs.Listing.{IsListing}
 use Rattle.thes_display.proofs.WalkLemmas.{IsOneOf, among_from, contains_of, among_append, among_left, among_right}
-use Rattle.thes_display.proofs.WalkLemmas.{each_of, rises_none, rises_more, rises_append}
+use Rattle.thes_display.proofs.WalkLemmas.{all_of, among_map, each_of, map_among, rises_none, rises_more, rises_append}
 
 -- A listing of one property is a listing of an equivalent one.
 pub listing_as : {X : Type 0} (cmp : X → X → Ordering) (P Q : X → Type 0) (xs : List X) → ((x : X) → P x → Q x)
@@ -44,6 +44,34 @@ listing_joined cmp P R Q xs ys new l m e less split keep come = subst (IsListing
   complete = λ x q. contains_of x (xs ++ ys) (⊎_elim (λ p. among_left x xs ys (among_from x xs (l.complete x p)))
       (λ r. among_right x xs ys (among_from x ys (m.complete x r))) (split x q));
 })
+
+rises_mapped : {X Y : Type 0} (f : X → Y) (cmp : X → X → Ordering) (order : Y → Y → Ordering) (xs : List X)
+    → ((x y : X) → IsOneOf x xs → IsOneOf y xs → cmp x y ≡ Less → order (f x) (f y) ≡ Less)
+    → IsStrictlySortedBy cmp xs → IsStrictlySortedBy order (map f xs)
+unfolding IsStrictlySortedBy
+rises_mapped f cmp order [] less s = tt
+rises_mapped f cmp order (x ∷ xs) less s = (
+  all_of _ (map f xs) (λ z a.
+      let y = among_map f z xs a in
+      subst (λ w. order (f x) w ≡ Less) (sym y.2)
+      (less x y.0 (inl refl) (inr y.1) (each_of _ xs y.0 s.0 y.1))),
+  rises_mapped f cmp order xs (λ y z a b. less y z (inr a) (inr b)) s.1,
+)
+
+-- The values of a function at the elements of a listing are a listing, if the function keeps the order.
+pub listing_mapped : {X Y : Type 0} (f : X → Y) (cmp : X → X → Ordering) (order : Y → Y → Ordering) (P : X → Type 0)
+    (Q : Y → Type 0) (xs : List X) → IsListing cmp P xs
+    → ((x y : X) → P x → P y → cmp x y ≡ Less → order (f x) (f y) ≡ Less) → ((x : X) → P x → Q (f x))
+    → ((y : Y) → Q y → (x : X) × P x × (y ≡ f x)) → IsListing order Q (map f xs)
+listing_mapped f cmp order P Q xs l less to from = record {
+  rises = rises_mapped f cmp order xs (λ x y a b e. less x y (l.sound x (contains_of x xs a))
+      (l.sound y (contains_of y xs b)) e) l.rises;
+  sound = λ y c. let x = among_map f y xs (among_from y (map f xs) c) in
+      subst Q (sym x.2) (to x.0 (l.sound x.0 (contains_of x.0 xs x.1)));
+  complete = λ y q. let x = from y q in
+      contains_of y (map f xs) (subst (λ z. IsOneOf z (map f xs)) (sym x.2)
+      (map_among f x.0 xs (among_from x.0 xs (l.complete x.0 x.1))));
+}
 
 -- Each element of a sorted list is less than each one after it.
 pub before_rest : {X : Type 0} (cmp : X → X → Ordering) (xs rest : List X) (z w : X) → IsStrictlySortedBy cmp

@@ -5,7 +5,7 @@ use Rattle.std.specs.Cmp.{IsTotalOrder}
 use Rattle.std.proofs.lemmas.Cmp.{on_total, nat_list_cmp_total}
 use Rattle.thes_base.specs.Listing.{IsListing}
 use Rattle.thes_base.specs.State.{State}
-use Rattle.thes_display.specs.declared.entry.Heading.{Heading}
+use Rattle.thes_display.specs.declared.heading.Heading.{Heading}
 use Rattle.thes_display.specs.declared.symbol.Symbol.{Symbol}
 use Rattle.thes_display.specs.Alphabetical.{AreLinesOf, AreTexts, IsEntry, IsEntryOf, HasOneAlphabetical, entry_line}
 use Rattle.thes_display.specs.Alphabetical.{symbol_text, symbols}

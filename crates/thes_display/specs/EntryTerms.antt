@@ -1,7 +1,8 @@
 -- The terms in the entry of a concept, below its own term.
-use Rattle.std.specs.Prelude.{◌≡◌, ◌⊎◌, ℕ, List, Bool, false, true}
+use Rattle.std.specs.Prelude.{◌≡◌, ◌⊎◌, ℕ, List, false}
 use Rattle.std.specs.Ordering.{nat_cmp}
 use Rattle.thes_base.specs.declared.data.LabelKind.{LabelKind}
+use Rattle.thes_base.specs.declared.data.LabelKind.TheVariants as label
 use Rattle.thes_base.specs.declared.data.LinkKind.{LinkKind}
 use Rattle.thes_base.specs.Labels.{Labels, HasLabel}
 use Rattle.thes_base.specs.Links.{Links}
@@ -13,7 +14,7 @@ use Rattle.thes_display.specs.declared.entry_terms.Side.{Side}
 use Rattle.thes_display.specs.declared.entry_terms.Side.TheVariants.{Broader, Narrower}
 use Rattle.thes_display.specs.declared.entry_terms.Sides.{Sides}
 use Rattle.thes_display.specs.Alphabetical.{hierarchy_kind}
-use Rattle.thes_display.specs.declared.symbol.Hierarchy.TheVariants.{Untyped}
+use Rattle.thes_display.specs.declared.symbol.Hierarchy.{Hierarchy}
 use Rattle.thes_display.specs.declared.symbol.Symbol.{Symbol}
 use Rattle.thes_display.specs.declared.symbol.Symbol.TheVariants as symbol
 use Rattle.thes_base.specs.declared.data.LinkKind.TheVariants as kinds
@@ -46,10 +47,13 @@ concepts_on sides Narrower = sides.narrower.items
 abbrev pub HasNoTypedLink : Links → ℕ → Type 0
 HasNoTypedLink links n = (t : TypedKind × ℕ) → IsTypedLink links n t → ⊥
 
--- The record lists the concepts on both sides of its concept, and says that no link to them has a type only if none
--- has.
+-- The record lists the concepts on both sides of its concept, and those related to it, and says that no hierarchical
+-- link has a type only if none has.
 pub record AreSides (links : Links) (sides : Sides) : Type 0 where
   pub each_side : (side : Side) → IsListing nat_cmp (IsOnSide links side sides.concept) (concepts_on sides side)
+  pub each_associate : IsListing nat_cmp
+      (λ m. HasLink links kinds.Related sides.concept m ⊎ HasLink links kinds.Related m sides.concept)
+      sides.associates.items
   pub no_typed_link : sides.is_typed ≡ false → HasNoTypedLink links sides.concept
 
 -- The symbol is for linked concepts, and the list has those of concept `n`.
@@ -61,10 +65,13 @@ AreLinkedUnder links n (symbol.Narrower type) ms = IsListing nat_cmp (λ m. HasL
 AreLinkedUnder links n symbol.Related ms = IsListing nat_cmp
     (λ m. HasLink links kinds.Related n m ⊎ HasLink links kinds.Related m n) ms
 
--- The symbol is for hierarchical links with a type.
-abbrev pub is_typed_symbol : Symbol → Bool
-is_typed_symbol (symbol.Broader Untyped) = false
-is_typed_symbol (symbol.Narrower Untyped) = false
-is_typed_symbol (symbol.Broader _) = true
-is_typed_symbol (symbol.Narrower _) = true
-is_typed_symbol _ = false
+-- The symbol for links of this type on a side.
+abbrev pub symbol_on : Side → Hierarchy → Symbol
+symbol_on Broader type = symbol.Broader type
+symbol_on Narrower type = symbol.Narrower type
+
+-- The symbol is for labels of this kind.
+abbrev pub IsForLabels : Symbol → LabelKind → Type 0
+IsForLabels symbol.ScopeNote kind = kind ≡ label.Scope
+IsForLabels symbol.UsedFor kind = kind ≡ label.Alt
+IsForLabels _ kind = ⊥

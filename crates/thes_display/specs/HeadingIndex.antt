@@ -10,17 +10,17 @@ use Rattle.thes_base.specs.State.{State}
 use Rattle.thes_display.specs.Alphabetical.{IsHeadedBy, heading_cmp}
 use Rattle.thes_display.specs.HierarchyParts.{rank_at}
 use Rattle.thes_display.specs.Order.{Term, term_cmp}
-use Rattle.thes_display.specs.declared.entry.Heading.{Heading}
+use Rattle.thes_display.specs.declared.heading.Heading.{Heading}
 use Rattle.thes_display.specs.declared.heading_index.HeadingIndex.{HeadingIndex}
 
--- The heading at this place is the concept's own.
+-- The heading at the place `k` is the own one of the concept `n`.
 pub record IsOwnAt (headings : List Heading) (n k : ℕ) : Type 0 where
   pub heading : Heading
   pub heading_at : slice_get headings k ≡ Some heading
   pub own : heading.lead_in ≡ false
   pub concept : heading.term.concept ≡ n
 
--- Each place is that of the concept's own heading.
+-- If a concept has a place, that is the place of the concept's own heading.
 abbrev pub ArePlaces : List Heading → (ℕ → Option ℕ) → Type 0
 ArePlaces headings place = (n k : ℕ) → place n ≡ Some k → IsOwnAt headings n k
 

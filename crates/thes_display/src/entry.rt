@@ -1,106 +1,32 @@
-//! The alphabetical display: its headings, in order, with an entry for each.
-ghost use Rattle.std.specs.Prelude.{[], ◌≡◌, ◌<◌, ◌++◌, ℕ, false, Contains, IfOk, OnOk, IsPermutation, IsSorted, cond, flat_map, length};
-ghost use Rattle.thes_base.specs.Listing.{IsListing};
+//! The alphabetical display: an entry for each of its headings.
+ghost use Rattle.std.specs.Prelude.{[], ◌≡◌, ◌<◌, ◌++◌, ℕ, false, codes, Contains, IfOk, OnOk, flat_map, length};
+ghost use Rattle.thes_base.specs.Labels.{HasLabel};
 ghost use Rattle.thes_base.specs.State.{State};
 ghost use Rattle.thes_core.specs.CoreView.{IsViewOf, with_histories};
+ghost use Rattle.thes_core.specs.Terms.{term_text};
 ghost use Rattle.thes_display.specs.TextAppends.{AppendsText};
-ghost use Rattle.thes_display.specs.Alphabetical.{AreTexts, IsAlphabetical, IsEntry, IsHeading, heading_cmp, entry_line, symbol_text, symbols};
-ghost use Rattle.thes_display.specs.EntryTerms.{AreSides};
+ghost use Rattle.thes_display.specs.Alphabetical.{AreTexts, IsAlphabetical, IsEntry, entry_line, symbol_text, symbols};
+ghost use Rattle.thes_display.specs.EntryTerms.{AreLinkedUnder, AreSides, IsForLabels, symbol_on};
 ghost use Rattle.thes_display.specs.EntrySource.{AreSourceLines, IsEntrySource};
 ghost use Rattle.thes_display.specs.HeadingIndex.{term_at};
-ghost use Rattle.thes_display.specs.Headings.{heading_key, IsHeadingAt};
+ghost use Rattle.thes_display.specs.LabelTexts.{label_lines, term_lines};
 
-use crate::entry_terms::{Sides, labels_in, sides_of, terms_under};
-use crate::heading_index::{HeadingIndex, index_of, places_under};
-use crate::symbol::Symbol;
+use crate::entry_terms::{
+    Side, Sides, labels_in, linked_concepts, sides_of, sorted_labels, sorted_terms_of,
+};
+use crate::heading::{Heading, headings_of};
+use crate::heading_index::{HeadingIndex, index_of, sorted_places};
+use crate::ranks::rank_of;
+use crate::symbol::{Hierarchy, Symbol};
 use crate::term::Term;
 use std::alloc::{AllocError, Global};
-use std::cmp::Ordering;
-use thes_base::data::LabelKind;
+use thes_base::data::{Label, LabelKind};
 use thes_base::number::ResNo;
 use thes_base::text::Tag;
 use thes_core::Core;
 
-/// The heading of an entry: a concept's term or, as a lead-in term, one of its alternative labels.
-#[derive(Drop)]
-pub struct Heading {
-    pub term: Term,
-    pub lead_in: bool,
-}
-
-impl Heading {
-    // Returns 0 for a concept's term and 1 for a lead-in term, so that the term comes first among
-    // equal texts.
-    fn rank(&self) -> u8
-        ensures { result ≡ cond self.now.lead_in 1 0 }
-    {
-        if self.lead_in { 1 } else { 0 }
-    }
-
-    // Compares two headings: alphabetically by text, then by concept, then the term before lead-in
-    // terms.
-    fn order(&self, other: &Heading) -> Ordering
-        ensures { result ≡ heading_cmp self.now other.now }
-    {
-        match self.term.order(&other.term) {
-            Ordering::Equal => self.rank().cmp(&other.rank()),
-            unequal => unequal,
-        }
-    }
-}
-
-// Returns the headings of one concept: its term, and then its alternative labels in alphabetical
-// order.
-fn headings_at(alloc: Global, core: &Core, n: ResNo, tag: &Tag) -> Result<Vec<Heading>, AllocError>
-    requires { core.now.spent ≡ false }
-    ensures { let is_heading = IsHeadingAt (with_histories [] core.now) tag.now n in
-        IfOk result (λ headings. IsListing heading_key is_heading headings.items) }
-{
-    let mut headings = Vec::new(alloc);
-    let text = core.term(alloc, n, tag)?;
-    headings.push(Heading {
-        term: Term::new(alloc, text, n)?,
-        lead_in: false,
-    })?;
-    for term in labels_in(alloc, core, n, LabelKind::Alt, tag)? {
-        headings.push(Heading {
-            term,
-            lead_in: true,
-        })?;
-    }
-    Ok(headings)
-}
-
-// Sorts headings in the order of the display.
-fn sort_headings(headings: &mut Vec<Heading>) -> Result<(), AllocError>
-    ensures same { IsPermutation headings.old.items headings.new.items }
-    ensures sorted { OnOk result (IsSorted heading_cmp headings.new.items) }
-{
-    headings.sort_by(|a, b| a.order(b))?;
-    Ok(())
-}
-
-// Returns the headings of all live concepts of a scheme, in the order of the display.
-fn headings_of(
-    alloc: Global,
-    core: &Core,
-    scheme: ResNo,
-    tag: &Tag,
-) -> Result<Vec<Heading>, AllocError>
-    requires { core.now.spent ≡ false }
-    ensures { let is_heading = IsHeading (with_histories [] core.now) tag.now scheme in
-        IfOk result (λ headings. IsListing heading_cmp is_heading headings.items) }
-{
-    let mut headings = Vec::new(alloc);
-    for concept in core.live_of(scheme) {
-        let mut more = headings_at(alloc, core, *concept, tag)?;
-        headings.append(&mut more)?;
-    }
-    sort_headings(&mut headings)?;
-    Ok(headings)
-}
-
-// Appends a line of an entry: two spaces, the symbol, a space, the text and a line feed.
+// Appends a line of an entry to a display: two spaces, the symbol, a space, the text and a line
+// feed.
 fn push_entry_line(text: &mut Vec<u8>, symbol: &[u8], shown: &[u8]) -> Result<(), AllocError>
     ensures { OnOk result (text.new.items ≡ text.old.items ++ entry_line symbol.now shown.now) }
 {
@@ -121,26 +47,49 @@ struct EntrySource<'a> {
     index: &'a HeadingIndex,
 }
 
-// Appends the lines of one symbol, with terms made for it.
-fn write_terms(
-    source: &EntrySource<'_>,
-    text: &mut Vec<u8>,
-    sides: &Sides,
-    symbol: Symbol,
-) -> Result<(), AllocError>
-    requires unspent { source.now.core.now.spent ≡ false }
-    requires sides { AreSides source.now.core.now.links sides.now }
-    ensures { let are_lines = AreSourceLines source.now sides.now.concept symbol in
-        OnOk result (AppendsText are_lines text.old.items text.new.items) }
+// Appends the lines of one symbol for these terms.
+fn write_terms(text: &mut Vec<u8>, terms: &[Term], symbol: Symbol) -> Result<(), AllocError>
+    ensures { OnOk result (text.new.items ≡ text.old.items ++ term_lines symbol terms.now) }
 {
-    let terms = terms_under(source.alloc, source.core, sides, source.tag, symbol)?;
-    for term in &terms {
+    for term in terms {
         push_entry_line(text, symbol.text().as_bytes(), term.text())?;
     }
     Ok(())
 }
 
-// Returns the text of the heading at this place.
+// Appends the lines of one symbol for these labels.
+fn write_texts(text: &mut Vec<u8>, labels: &[&Label], symbol: Symbol) -> Result<(), AllocError>
+    ensures { OnOk result (text.new.items ≡ text.old.items ++ label_lines symbol labels.now) }
+{
+    for label in labels {
+        push_entry_line(text, symbol.text().as_bytes(), label.text().as_bytes())?;
+    }
+    Ok(())
+}
+
+// Appends the lines of one symbol for a concept's labels of a kind. A single label needs no sort
+// key.
+fn write_labels(
+    source: &EntrySource<'_>,
+    text: &mut Vec<u8>,
+    n: ResNo,
+    kind: LabelKind,
+    symbol: Symbol,
+) -> Result<(), AllocError>
+    requires source { IsEntrySource source.now }
+    requires kind { IsForLabels symbol kind }
+    ensures { let are_lines = AreSourceLines source.now n symbol in
+        OnOk result (AppendsText are_lines text.old.items text.new.items) }
+{
+    let labels = labels_in(source.alloc, source.core, n, kind, source.tag)?;
+    if labels.len() <= 1 {
+        return write_texts(text, labels.as_slice(), symbol);
+    }
+    let terms = sorted_labels(source.alloc, labels.as_slice(), n)?;
+    write_terms(text, terms.as_slice(), symbol)
+}
+
+// Returns the text of the heading at this place, in UTF-8.
 #[tactic(auto, using(crate::proofs::HeadingPlaceLemmas::term_read))]
 fn text_of(headings: &[Heading], place: usize) -> &[u8]
     requires { place < length headings.now }
@@ -166,7 +115,57 @@ fn write_places(
     Ok(())
 }
 
-// Appends the lines of one symbol, in alphabetical order.
+// Appends the lines of one symbol for these concepts, with the terms of their headings, or, if one
+// has no heading, with terms made for them.
+fn write_concepts(
+    source: &EntrySource<'_>,
+    text: &mut Vec<u8>,
+    concepts: &[ResNo],
+    symbol: Symbol,
+) -> Result<(), AllocError>
+    requires source { IsEntrySource source.now }
+    requires linked { (n : ℕ) × AreLinkedUnder source.now.core.now.links n symbol concepts.now }
+    ensures { (n : ℕ) → AreLinkedUnder source.now.core.now.links n symbol concepts.now →
+        let are_lines = AreSourceLines source.now n symbol in
+        OnOk result (AppendsText are_lines text.old.items text.new.items) }
+{
+    let index = source.index;
+    match sorted_places(source.alloc, index.places.as_slice(), concepts)? {
+        Some(places) => write_places(text, index.headings.as_slice(), places.as_slice(), symbol),
+        None => {
+            let terms = sorted_terms_of(source.alloc, source.core, concepts, source.tag)?;
+            write_terms(text, terms.as_slice(), symbol)
+        }
+    }
+}
+
+// Appends the lines of the symbol for links of this type on a side. Without typed links all
+// concepts on the side are linked by untyped ones.
+fn write_side(
+    source: &EntrySource<'_>,
+    text: &mut Vec<u8>,
+    sides: &Sides,
+    side: Side,
+    hierarchy: Hierarchy,
+) -> Result<(), AllocError>
+    requires source { IsEntrySource source.now }
+    requires sides { AreSides source.now.core.now.links sides.now }
+    ensures { let are_lines = AreSourceLines source.now sides.now.concept (symbol_on side hierarchy)
+        in OnOk result (AppendsText are_lines text.old.items text.new.items) }
+{
+    let symbol = side.symbol(hierarchy);
+    if sides.is_typed {
+        let kind = hierarchy.kind();
+        let found = linked_concepts(source.alloc, source.core, sides, side, kind)?;
+        return write_concepts(source, text, found.as_slice(), symbol);
+    }
+    match hierarchy {
+        Hierarchy::Untyped => write_concepts(source, text, sides.concepts(side), symbol),
+        _ => Ok(()),
+    }
+}
+
+// Appends the lines of one symbol in the entry of a concept, in alphabetical order.
 fn write_symbol(
     source: &EntrySource<'_>,
     text: &mut Vec<u8>,
@@ -178,18 +177,17 @@ fn write_symbol(
     ensures { let are_lines = AreSourceLines source.now sides.now.concept symbol in
         OnOk result (AppendsText are_lines text.old.items text.new.items) }
 {
-    match places_under(source.alloc, source.core, source.index, sides, symbol)? {
-        Some(places) => write_places(
-            text,
-            source.index.headings.as_slice(),
-            places.as_slice(),
-            symbol,
-        ),
-        None => write_terms(source, text, sides, symbol),
+    let n = sides.concept;
+    match symbol {
+        Symbol::ScopeNote => write_labels(source, text, n, LabelKind::Scope, symbol),
+        Symbol::UsedFor => write_labels(source, text, n, LabelKind::Alt, symbol),
+        Symbol::Broader(hierarchy) => write_side(source, text, sides, Side::Broader, hierarchy),
+        Symbol::Narrower(hierarchy) => write_side(source, text, sides, Side::Narrower, hierarchy),
+        Symbol::Related => write_concepts(source, text, sides.associates.as_slice(), symbol),
     }
 }
 
-// Appends the lines of all symbols, in the order of `Symbol::all`.
+// Appends the lines of all symbols in the entry of a concept, in the order of `Symbol::all`.
 fn write_symbols(
     source: &EntrySource<'_>,
     text: &mut Vec<u8>,
@@ -207,7 +205,23 @@ fn write_symbols(
     Ok(())
 }
 
-// Appends an entry: a term with its lines, or a lead-in term with the term to use (USE).
+// Appends the line of a lead-in term of a concept: the term to use (USE).
+fn write_use(source: &EntrySource<'_>, text: &mut Vec<u8>, n: ResNo) -> Result<(), AllocError>
+    requires { IsEntrySource source.now }
+    ensures { let used = term_text source.now.core.now.labels source.now.tag.now n in
+        OnOk result (text.new.items ≡ text.old.items ++ entry_line (codes "USE") used) }
+{
+    let index = source.index;
+    match rank_of(index.places.as_slice(), n.get() as usize) {
+        Some(place) => push_entry_line(text, b"USE", text_of(index.headings.as_slice(), place)),
+        None => {
+            let term = source.core.term(source.alloc, n, source.tag)?;
+            push_entry_line(text, b"USE", term.as_bytes())
+        }
+    }
+}
+
+// Appends an entry: a term with its lines, or a lead-in term with the term to use.
 fn write_entry(
     source: &EntrySource<'_>,
     text: &mut Vec<u8>,
@@ -222,8 +236,7 @@ fn write_entry(
     text.extend_from_slice(heading.term.text())?;
     text.push(b'\n')?;
     if heading.lead_in {
-        let preferred = source.core.term(source.alloc, n, source.tag)?;
-        push_entry_line(text, b"USE", preferred.as_bytes())?;
+        write_use(source, text, n)?;
     } else {
         let sides = sides_of(source.alloc, source.core, n)?;
         write_symbols(source, text, &sides)?;

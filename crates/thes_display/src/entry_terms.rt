@@ -1,19 +1,19 @@
-//! The labels and linked concepts in an entry, as sorted terms.
-ghost use Rattle.std.specs.Prelude.{[], ◌≡◌, ◌↔◌, false, IfOk, Contains, IsTrue};
+//! The labels and the linked concepts in an entry.
+ghost use Rattle.std.specs.Prelude.{◌≡◌, ◌↔◌, false, IfOk, Contains, IsTrue, filter, map};
 ghost use Rattle.std.specs.List.Sorted.{IsStrictlySortedBy};
 ghost use Rattle.std.specs.Ordering.{nat_cmp};
+ghost use Rattle.thes_base.specs.Labels.{HasLabel};
 ghost use Rattle.thes_base.specs.Links.{IsHierarchical};
 ghost use Rattle.thes_base.specs.Listing.{IsListing};
 ghost use Rattle.thes_base.specs.Views.{HasLink};
-ghost use Rattle.thes_core.specs.CoreView.{with_histories};
-ghost use Rattle.thes_display.specs.Alphabetical.{IsUnder};
-ghost use Rattle.thes_display.specs.EntryTerms.{AreSides, HasNoTypedLink, IsOnSide, IsLabelTerm, IsLinkedOnSide, IsTermOf, concepts_on};
+ghost use Rattle.thes_display.specs.EntryTerms.{AreSides, HasNoTypedLink, IsOnSide, IsLinkedOnSide, IsTermOf, concepts_on, symbol_on};
+ghost use Rattle.thes_display.specs.LabelTexts.{AreSortedTexts, is_label_in, label_texts, text_cmp};
 ghost use Rattle.thes_display.specs.Order.{term_cmp};
 
-use crate::symbol::Symbol;
+use crate::symbol::{Hierarchy, Symbol};
 use crate::term::{Term, sort_terms};
 use std::alloc::{AllocError, Global};
-use thes_base::data::{LabelKind, Link, LinkKind};
+use thes_base::data::{Label, LabelKind, Link, LinkKind};
 use thes_base::number::ResNo;
 use thes_base::text::Tag;
 use thes_core::Core;
@@ -48,25 +48,60 @@ pub(crate) fn sorted_terms_of(
     Ok(terms)
 }
 
-// Returns the labels of a concept that are of this kind and in the language, in alphabetical order.
-pub(crate) fn labels_in(
+// Checks whether the label is of this kind and in this language.
+fn is_label_in(label: &Label, kind: LabelKind, tag: &Tag) -> bool
+    ensures { result ≡ is_label_in kind tag.now label.now }
+{
+    label.kind() == kind && label.tag == *tag
+}
+
+// Selects the labels that are of this kind and in this language, in their order.
+fn select_labels<'a>(
     alloc: Global,
-    core: &Core,
+    labels: &'a [Label],
+    kind: LabelKind,
+    tag: &Tag,
+) -> Result<Vec<&'a Label>, AllocError>
+    ensures { IfOk result (λ found. map (λ l. l.now) found.items
+        ≡ filter (is_label_in kind tag.now) labels.now) }
+{
+    let mut found = Vec::new(alloc);
+    for label in labels {
+        if is_label_in(label, kind, tag) {
+            found.push(label)?;
+        }
+    }
+    Ok(found)
+}
+
+/// Returns the labels of a concept that are of this kind and in the language, sorted by text.
+pub(crate) fn labels_in<'a>(
+    alloc: Global,
+    core: &'a Core,
     n: ResNo,
     kind: LabelKind,
     tag: &Tag,
-) -> Result<Vec<Term>, AllocError>
+) -> Result<Vec<&'a Label>, AllocError>
     requires unspent { core.now.spent ≡ false }
-    ensures { let is_label = IsLabelTerm core.now.labels n kind tag.now in
-        IfOk result (λ terms. IsListing term_cmp is_label terms.items) }
+    ensures { let is_label = HasLabel core.now.labels n kind tag.now in
+        IfOk result (λ found. IsListing text_cmp is_label (label_texts found.items)) }
 {
-    let found = core.labels_of_kind(alloc, n, kind)?;
+    let found = select_labels(alloc, core.labels_of(n), kind, tag)?;
+    Ok(found)
+}
+
+/// Returns the terms of a concept with the texts of these labels, in alphabetical order.
+pub(crate) fn sorted_labels(
+    alloc: Global,
+    labels: &[&Label],
+    n: ResNo,
+) -> Result<Vec<Term>, AllocError>
+    ensures { IfOk result (λ terms. AreSortedTexts n (label_texts labels.now) terms.items) }
+{
     let mut terms = Vec::new(alloc);
-    for label in &found {
-        if label.tag.as_str() == tag.as_str() {
-            let text = String::from_str(alloc, label.text())?;
-            terms.push(Term::new(alloc, text, n)?)?;
-        }
+    for label in labels {
+        let text = String::from_str(alloc, label.text())?;
+        terms.push(Term::new(alloc, text, n)?)?;
     }
     sort_terms(&mut terms)?;
     Ok(terms)
@@ -81,13 +116,26 @@ pub(crate) enum Side {
     Narrower,
 }
 
-/// The concepts that hierarchical links of any kind join to one, in ascending order on each side,
-/// and whether one of these links has a type.
+impl Side {
+    /// Returns the symbol for links of this type on the side.
+    pub(crate) fn symbol(self, hierarchy: Hierarchy) -> Symbol
+        ensures { result ≡ symbol_on self hierarchy }
+    {
+        match self {
+            Side::Broader => Symbol::Broader(hierarchy),
+            Side::Narrower => Symbol::Narrower(hierarchy),
+        }
+    }
+}
+
+/// The concepts that hierarchical links of any kind join to one, on each side, and those related to
+/// it, all in ascending order, and whether one of the hierarchical links has a type.
 #[derive(Drop)]
 pub struct Sides {
     pub concept: ResNo,
     pub broader: Vec<ResNo>,
     pub narrower: Vec<ResNo>,
+    pub associates: Vec<ResNo>,
     pub is_typed: bool,
 }
 
@@ -100,7 +148,8 @@ pub(crate) fn has_typed_link(alloc: Global, core: &Core, n: ResNo) -> Result<boo
     Ok(!typed.is_empty())
 }
 
-/// Returns the concepts on both sides of a concept.
+/// Returns the broader, narrower and related concepts of a concept, and whether it has a typed
+/// hierarchical link.
 pub fn sides_of(alloc: Global, core: &Core, n: ResNo) -> Result<Sides, AllocError>
     requires { core.now.spent ≡ false }
     ensures concept { IfOk result (λ sides. sides.concept ≡ n) }
@@ -110,13 +159,14 @@ pub fn sides_of(alloc: Global, core: &Core, n: ResNo) -> Result<Sides, AllocErro
         concept: n,
         broader: core.broader_of(alloc, n)?,
         narrower: core.narrower_of(alloc, n)?,
+        associates: core.related_of(alloc, n)?,
         is_typed: has_typed_link(alloc, core, n)?,
     })
 }
 
 impl Sides {
-    // Returns the concepts on this side.
-    fn concepts(&self, side: Side) -> &[ResNo]
+    // Returns the broader or the narrower concepts, in ascending order.
+    pub(crate) fn concepts(&self, side: Side) -> &[ResNo]
         ensures { result.now ≡ concepts_on self.now side }
     {
         match side {
@@ -165,35 +215,4 @@ pub(crate) fn linked_concepts(
         }
     }
     Ok(found)
-}
-
-/// Returns the terms for one symbol in the entry of a concept, in alphabetical order.
-pub fn terms_under(
-    alloc: Global,
-    core: &Core,
-    sides: &Sides,
-    tag: &Tag,
-    symbol: Symbol,
-) -> Result<Vec<Term>, AllocError>
-    requires unspent { core.now.spent ≡ false }
-    requires sides { AreSides core.now.links sides.now }
-    ensures { let is_under = IsUnder (with_histories [] core.now) tag.now sides.now.concept symbol
-        in IfOk result (λ terms. IsListing term_cmp is_under terms.items) }
-{
-    match symbol {
-        Symbol::ScopeNote => labels_in(alloc, core, sides.concept, LabelKind::Scope, tag),
-        Symbol::UsedFor => labels_in(alloc, core, sides.concept, LabelKind::Alt, tag),
-        Symbol::Broader(hierarchy) => {
-            let broader = linked_concepts(alloc, core, sides, Side::Broader, hierarchy.kind())?;
-            Ok(sorted_terms_of(alloc, core, broader.as_slice(), tag)?)
-        }
-        Symbol::Narrower(hierarchy) => {
-            let narrower = linked_concepts(alloc, core, sides, Side::Narrower, hierarchy.kind())?;
-            Ok(sorted_terms_of(alloc, core, narrower.as_slice(), tag)?)
-        }
-        Symbol::Related => {
-            let related = core.related_of(alloc, sides.concept)?;
-            Ok(sorted_terms_of(alloc, core, related.as_slice(), tag)?)
-        }
-    }
 }

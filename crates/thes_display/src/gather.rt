@@ -33,7 +33,7 @@ fn terms_of(alloc: Global, core: &Core, scheme: ResNo, tag: &Tag) -> Result<Vec<
     Ok(terms)
 }
 
-// Checks whether the list has no home of a concept.
+// Checks whether the list has no home of the concept with the rank `child`.
 fn is_homeless(homes: &[Option<usize>], child: usize) -> bool
     ensures none { result ≡ true → rank_at homes.now child ≡ None }
     ensures some { result ≡ false → (home : ℕ) × (rank_at homes.now child ≡ Some home) }
@@ -64,7 +64,8 @@ fn untyped() -> Types
     }
 }
 
-// Returns the types of the links from a concept to a broader one, both given by rank.
+// Returns the types of the links from the concept with the rank `child` to the broader one with the
+// rank `rank`, which has no typed link if `is_typed` is false.
 #[tactic(auto, using(crate::proofs::RankLemmas::rank_of_term, crate::proofs::SideLemmas::no_type))]
 fn types_at(core: &Core, terms: &[Term], is_typed: bool, child: usize, rank: usize) -> Types
     requires unspent { core.now.spent ≡ false }
@@ -84,16 +85,16 @@ fn types_at(core: &Core, terms: &[Term], is_typed: bool, child: usize, rank: usi
     }
 }
 
-// The terms of a scheme's concepts, sorted, and the rank of each concept, which is its term's
-// place.
+// The terms of a scheme's concepts, sorted, and, at the number of each concept, its rank: the index
+// of its term.
 #[derive(Clone, Copy)]
 struct RankedTerms<'a> {
     terms: &'a [Term],
     ranks: &'a [Option<usize>],
 }
 
-// Returns the children of a concept, sorted by rank: its narrower concepts that have a rank. It is
-// the home of those that have none among the concepts before it.
+// Returns the children of the concept with this rank, sorted by rank: its narrower concepts that
+// have a rank. The children without a home in `homes` are at home here.
 fn children_of(
     alloc: Global,
     core: &Core,
@@ -127,7 +128,7 @@ fn children_of(
     Ok(children)
 }
 
-// Makes a concept the home of those of its children that are at home.
+// Sets the concept with this rank as the home of those of its children that are at home.
 fn set_homes(
     homes: &mut Vec<Option<usize>>,
     children: &[Child],
@@ -143,7 +144,8 @@ fn set_homes(
     Ok(())
 }
 
-// Returns the children of all concepts, in the order of their ranks, and lists the homes.
+// Returns the children of each concept, in the order of the concepts' ranks, and lists all homes in
+// `homes`.
 fn below_of(
     alloc: Global,
     core: &Core,

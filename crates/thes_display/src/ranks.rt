@@ -7,7 +7,8 @@ use crate::term::Term;
 use std::alloc::{AllocError, Global};
 use thes_base::number::ResNo;
 
-/// Sets the rank at this place, and extends the list if it ends before it.
+/// Sets the rank at this place of a list of ranks, and extends the list if it ends before the
+/// place.
 pub fn set_rank(ranks: &mut Vec<Option<usize>>, place: usize, rank: usize) -> Result<(), AllocError>
     ensures here { OnOk result (rank_at ranks.new.items place ≡ Some rank) }
     ensures other { OnOk result
@@ -33,7 +34,8 @@ pub fn ranks_of(alloc: Global, terms: &[Term]) -> Result<Vec<Option<usize>>, All
     Ok(ranks)
 }
 
-/// Returns the rank at this place; None past the end.
+/// Returns the rank at this place of a list of ranks; None if no rank is set there, or past the
+/// end.
 pub fn rank_of(ranks: &[Option<usize>], place: usize) -> Option<usize>
     ensures { result ≡ rank_at ranks.now place }
 {
@@ -43,7 +45,8 @@ pub fn rank_of(ranks: &[Option<usize>], place: usize) -> Option<usize>
     }
 }
 
-/// Returns the ranks of the concepts, in their order, without those that have no rank.
+/// Returns the ranks of the concepts, in the order of the concepts, leaving out those without a
+/// rank.
 pub fn ranks_at(
     alloc: Global,
     ranks: &[Option<usize>],

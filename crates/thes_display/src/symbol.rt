@@ -2,7 +2,6 @@
 ghost use Rattle.std.specs.Prelude.{◌≡◌};
 ghost use Rattle.thes_display.specs.Alphabetical.{hierarchy_kind, symbol_text, symbols};
 ghost use Rattle.thes_base.specs.Links.{IsHierarchical};
-ghost use Rattle.thes_display.specs.EntryTerms.{is_typed_symbol};
 
 use thes_base::data::LinkKind;
 
@@ -67,17 +66,6 @@ impl Symbol {
             Symbol::Narrower(Hierarchy::Instantial),
             Symbol::Related,
         ]
-    }
-
-    /// Checks whether the symbol is for hierarchical links with a type.
-    pub fn is_typed(self) -> bool
-        ensures { result ≡ is_typed_symbol self }
-    {
-        match self {
-            Symbol::Broader(Hierarchy::Untyped) | Symbol::Narrower(Hierarchy::Untyped) => false,
-            Symbol::Broader(_) | Symbol::Narrower(_) => true,
-            _ => false,
-        }
     }
 
     /// Returns the letters of the symbol, such as `BTG`.

@@ -43,7 +43,7 @@ fn indent(text: &mut Vec<u8>, depth: usize) -> Result<(), AllocError>
     Ok(())
 }
 
-// Appends the bytes if `wanted`.
+// Appends the bytes to a line if `wanted` is true.
 fn write_if(text: &mut Vec<u8>, wanted: bool, bytes: &[u8]) -> Result<(), AllocError>
     ensures { OnOk result (text.new.items ≡ text.old.items ++ (if wanted then bytes.now else [])) }
 {
@@ -108,7 +108,7 @@ fn push_below(
     Ok(())
 }
 
-// Removes and returns the children of a concept, which are written only once.
+// Removes and returns the children of the concept with this rank, which are written only once.
 fn take_below(alloc: Global, below: &mut Vec<Vec<Child>>, rank: usize) -> Vec<Child>
     requires { rank < length (lists below.old.items) }
     ensures taken { result.items ≡ children_at (lists below.old.items) rank }

@@ -61,8 +61,8 @@ pub fn display_text(
     }
 }
 
-/// Writes a display, or returns the refusal of the scheme's number. All memory is allocated before
-/// the first byte is written.
+/// Writes a display, or refuses a number that isn't a scheme's. All memory is allocated before the
+/// first byte is written.
 pub fn write_display<W: Write>(
     alloc: Global,
     core: &Core,
@@ -83,7 +83,7 @@ pub fn write_display<W: Write>(
     Ok(DisplayOutcome::Written)
 }
 
-/// Writes the hierarchical display of a scheme in a language, or returns the refusal of its number.
+/// Writes a scheme's hierarchical display in a language, or refuses a number that isn't a scheme's.
 pub fn hierarchical<W: Write>(
     alloc: Global,
     core: &Core,
@@ -104,7 +104,7 @@ pub fn hierarchical<W: Write>(
     write_display(alloc, core, &wanted, writer)
 }
 
-/// Writes the alphabetical display of a scheme in a language, or returns the refusal of its number.
+/// Writes a scheme's alphabetical display in a language, or refuses a number that isn't a scheme's.
 pub fn alphabetical<W: Write>(
     alloc: Global,
     core: &Core,

@@ -1,6 +1,6 @@
 -- Proves which rows of a block were performed, by the answers to their requests.
 use Rattle.std.proofs.Common.{◌≡◌, ◌∙◌, ◌+◌, ◌<◌, ◌≤◌, ◌++◌, [], ℕ, List, refl, sym, ap, subst, length, map}
-use Rattle.std.proofs.Common.{append-nil, append_assoc, arith, length-append}
+use Rattle.std.proofs.Common.{◌^◌, append-nil, append_assoc, arith, length-append, true}
 use Rattle.std.specs.Prelude.{Option, Result, Ok, Err}
 use Rattle.std.specs.List.{AllByRecursion, AllZip}
 use Rattle.thes_base.specs.declared.data.Limits.{Limits}
@@ -15,18 +15,32 @@ use Rattle.thes_store.specs.Storage.{StorageView}
 use Rattle.thes_office.specs.Office.{ChangesNothing, CompleteRun, OfficeView, PartialRun, RunResult, TablesAfterRun}
 use Rattle.thes_office.specs.TablesOfState.{TablesOfState}
 use Rattle.thes_office.proofs.OfficeViewLemmas.{empty_run}
-use Rattle.thes_import.specs.Imports.{ImportsBlock, PerformsRows, PerformsWith, ReportsBlock, StopsInBlock}
+use Rattle.thes_import.specs.Imports.{CountsRowsRead, ImportsBlock, PerformsRows, PerformsWith, ReportsBlock}
+use Rattle.thes_import.specs.Imports.{StopsInBlock}
 use Rattle.thes_posting_files.specs.Outcomes.{AddsOutcomes, IsOutcome, answers_of, fault_of_row, outcomes_of}
-use Rattle.thes_posting_files.specs.Outcomes.{posts_of}
+use Rattle.thes_posting_files.specs.Outcomes.{posts_of, row_count}
 use Rattle.thes_posting_files.specs.PostingFile.{IsPostingFile}
 use Rattle.thes_posting_files.specs.RowReading.{HasReadRows}
 use Rattle.thes_posting_files.specs.declared.csv_row.CsvRow.{CsvRow}
 use Rattle.thes_posting_files.specs.declared.outcome.Outcome.{Outcome}
 use Rattle.thes_posting_files.specs.declared.reading.RowReader.{RowReader}
+use Rattle.thes_posting_files.specs.declared.report.Counts.{Counts}
 use Rattle.thes_posting_files.specs.declared.report.Report.{Report}
 use Rattle.thes_posting_files.proofs.AnsweredRowLemmas.{rows_answered, some_left}
 use Rattle.thes_posting_files.proofs.ReportLemmas.{adds_none}
-use Rattle.thes_posting_files.proofs.RowReadingLemmas.{others_left}
+use Rattle.thes_posting_files.proofs.RowReadingLemmas.{rows_left}
+
+-- The rows of a block can be counted.
+pub block_fits : (reader reader' : RowReader) (counts : Counts) (rows : List CsvRow) → CountsRowsRead reader counts
+    → ((bytes : List ℕ) (all first : List CsvRow) → HasReadRows bytes all first reader
+    → HasReadRows bytes all (first ++ rows) reader') → row_count counts + length rows < 2 ^ 64
+block_fits reader reader' counts rows c reads =
+    let h = reads c.file c.rows c.first c.reads in
+    let o = rows_left c.file c.rows (c.first ++ rows) reader' h in
+    let all = ap (λ (l : List CsvRow). length l) o.all in
+    let both = length-append (c.first ++ rows) o.others in
+    let parts = length-append c.first rows in
+    omega (arith, all, both, parts, c.count_is, h.fits)
 
 performs_none : (limits : Limits) (raw : Raw) (base : List ℕ) (s : State) → TablesOfState raw base s
     → IsConsistentState base s → PerformsRows limits raw [] [] raw
@@ -133,14 +147,14 @@ module _ {K : Type 0} (view : K → StorageView) where
   -- If the rows of a block were read, performed and reported, so was the block.
   pub block_reported : (old new : OfficeView K) (reader reader' : RowReader) (report report' : Report)
       (rows : List CsvRow) → ((bytes : List ℕ) (all first : List CsvRow) → HasReadRows bytes all first reader
-      → HasReadRows bytes all (first ++ rows) reader') → reader'.unread + length rows ≡ reader.unread → 0 < length rows
-      → length rows ≤ 1000 → ReportsRows old rows report (let x : Result (Unit {0}) Fault = Ok tt in x)
+      → HasReadRows bytes all (first ++ rows) reader') → 0 < length rows → length rows ≤ 1000
+      → ReportsRows old rows report (let x : Result (Unit {0}) Fault = Ok tt in x)
       report' new → ReportsBlock view old reader report report' reader' new
-  block_reported old new reader reader' report report' rows reads unread some few reports = record {
+  block_reported old new reader reader' report report' rows reads some few reports = record {
     rows = rows;
     outcomes = reports.0;
     reads = reads;
-    fewer = omega (arith, unread, some);
+    some = some;
     few = few;
     performs = reports.1;
     reports = reports.2;
@@ -159,14 +173,14 @@ module _ {K : Type 0} (view : K → StorageView) where
         rows = part.first_rows;
         outcomes = reports.0;
         leaves = λ bytes all first h.
-            let o = others_left bytes all (first ++ rows) reader' (reads bytes all first h) in
-            let whole : (first ++ rows) ++ o.0 ≡ (first ++ part.first_rows) ++ (part.other_rows ++ o.0) =
-            ap (λ (l : List CsvRow). (first ++ l) ++ o.0) part.all
-            ∙ ap (λ (l : List CsvRow). l ++ o.0) (sym (append_assoc first part.first_rows part.other_rows))
-            ∙ append_assoc (first ++ part.first_rows) part.other_rows o.0 in
-            let n = length-append part.other_rows o.0 in (
-              part.other_rows ++ o.0,
-              subst (IsPostingFile bytes) whole o.1,
+            let o = rows_left bytes all (first ++ rows) reader' (reads bytes all first h) in
+            let whole : all ≡ (first ++ part.first_rows) ++ (part.other_rows ++ o.others) =
+            o.all ∙ ap (λ (l : List CsvRow). (first ++ l) ++ o.others) part.all
+            ∙ ap (λ (l : List CsvRow). l ++ o.others) (sym (append_assoc first part.first_rows part.other_rows))
+            ∙ append_assoc (first ++ part.first_rows) part.other_rows o.others in
+            let n = length-append part.other_rows o.others in (
+              part.other_rows ++ o.others,
+              subst (IsPostingFile bytes) whole h.file,
               omega (arith, n, part.some),
             );
         few = omega (arith, size, few);
@@ -176,8 +190,8 @@ module _ {K : Type 0} (view : K → StorageView) where
 
   -- If memory for a block runs out, the import ends before the first row of the block.
   pub block_unread : (office : OfficeView K) (reader reader' : RowReader) (report report' : Report)
-      (result : Result (Unit {0}) Fault) (fault : Fault) → result ≡ Err fault → ShowsState office → 0 < reader.unread
-      → report'.text.items ≡ report.text.items → report'.counts ≡ report.counts
+      (result : Result (Unit {0}) Fault) (fault : Fault) → result ≡ Err fault → ShowsState office
+      → reader.has_more ≡ true → report'.text.items ≡ report.text.items → report'.counts ≡ report.counts
       → ImportsBlock view office reader report result report' reader' office
   block_unread office reader reader' report report' result fault is shows some text counts = subst
       (λ (r : Result (Unit {0}) Fault). ImportsBlock view office reader report r report' reader' office) (sym is)
@@ -185,10 +199,11 @@ module _ {K : Type 0} (view : K → StorageView) where
         rows = [];
         outcomes = [];
         leaves = λ bytes all first h.
-            let o = others_left bytes all first reader h in (
-              o.0,
-              subst (λ (l : List CsvRow). IsPostingFile bytes (l ++ o.0)) (sym (append-nil first)) o.1,
-              omega (arith, o.2, some),
+            let o = rows_left bytes all first reader h in (
+              o.others,
+              subst (IsPostingFile bytes) (o.all ∙ ap (λ (l : List CsvRow). l ++ o.others) (sym (append-nil first)))
+                  h.file,
+              o.some some,
             );
         few = omega arith;
         performs = performs_nothing office shows;
@@ -199,10 +214,10 @@ module _ {K : Type 0} (view : K → StorageView) where
   pub block_result : (old new : OfficeView K) (reader reader' : RowReader) (report report' : Report)
       (rows : List CsvRow) (result : Result (Unit {0}) Fault) → ((bytes : List ℕ) (all first : List CsvRow)
       → HasReadRows bytes all first reader → HasReadRows bytes all (first ++ rows) reader')
-      → reader'.unread + length rows ≡ reader.unread → 0 < length rows → length rows ≤ 1000
+      → 0 < length rows → length rows ≤ 1000
       → ReportsRows old rows report result report' new
       → ImportsBlock view old reader report result report' reader' new
-  block_result old new reader reader' report report' rows (Ok done) reads unread some few reports =
-      block_reported old new reader reader' report report' rows reads unread some few reports
-  block_result old new reader reader' report report' rows (Err fault) reads unread some few reports =
+  block_result old new reader reader' report report' rows (Ok done) reads some few reports =
+      block_reported old new reader reader' report report' rows reads some few reports
+  block_result old new reader reader' report report' rows (Err fault) reads some few reports =
       block_stopped old new reader reader' report report' rows fault reads few reports

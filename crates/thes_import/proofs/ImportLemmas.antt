@@ -1,6 +1,6 @@
 -- Proves the invariant of an import: the rows performed so far are a run of the machine, with the outcomes reported.
-use Rattle.std.proofs.Common.{◌≡◌, ◌∙◌, ◌+◌, ◌<◌, ◌≤◌, ◌^◌, ◌++◌, ◌∷◌, [], ℕ, List, refl, sym, ap, subst, length}
-use Rattle.std.proofs.Common.{append-nil, arith}
+use Rattle.std.proofs.Common.{◌≡◌, ◌∙◌, ◌+◌, ◌<◌, ◌^◌, ◌++◌, ◌∷◌, [], ℕ, List, refl, sym, ap, subst, length}
+use Rattle.std.proofs.Common.{◌-◌, append-nil, arith, false, length-append}
 use Rattle.std.specs.Prelude.{Result, Ok, Err}
 use Rattle.std.specs.List.{AllByRecursion, AllZip}
 use Rattle.std.proofs.lemmas.List.Elements.{filter_map-append}
@@ -13,7 +13,7 @@ use Rattle.thes_tables.specs.Cells.{Raw}
 use Rattle.thes_store.specs.Storage.{StorageView}
 use Rattle.thes_office.specs.Office.{ChangesNothing, FaultBehaviour, OfficeView, TablesAfterRun}
 use Rattle.thes_office.proofs.OfficeViewLemmas.{all_parts, run_of_more}
-use Rattle.thes_import.specs.Imports.{PerformsRows, PerformsWith, ReportsBlock, StopsInBlock}
+use Rattle.thes_import.specs.Imports.{CountsRowsRead, PerformsRows, PerformsWith, ReportsBlock, StopsInBlock}
 use Rattle.thes_posting_files.specs.Outcomes.{AddsOutcomes, IsOutcome, answer_in, answers_of, counts_of, outcome_lines}
 use Rattle.thes_posting_files.specs.Outcomes.{outcomes_text, post_in, posts_of, row_count}
 use Rattle.thes_posting_files.specs.PostingFile.{IsPostingFile}
@@ -23,9 +23,9 @@ use Rattle.thes_posting_files.specs.declared.outcome.Outcome.{Outcome}
 use Rattle.thes_posting_files.specs.declared.reading.RowReader.{RowReader}
 use Rattle.thes_posting_files.specs.declared.report.Counts.{Counts}
 use Rattle.thes_posting_files.specs.declared.report.Report.{Report}
-use Rattle.thes_import.proofs.BlockLemmas.{ShowsState, performs_nothing}
+use Rattle.thes_import.proofs.BlockLemmas.{ShowsState, block_fits, performs_nothing}
 use Rattle.thes_posting_files.proofs.ReportLemmas.{row_count_all, text_of_more}
-use Rattle.thes_posting_files.proofs.RowReadingLemmas.{others_left}
+use Rattle.thes_posting_files.proofs.RowReadingLemmas.{rows_left}
 
 zip_joined : (rows more : List CsvRow) (os qs : List Outcome) → AllZip IsOutcome rows os → AllZip IsOutcome more qs
     → AllZip IsOutcome (rows ++ more) (os ++ qs)
@@ -141,24 +141,44 @@ module _ {K : Type 0} (view : K → StorageView) where
 
   -- If no row is left, the rows performed are all rows of the file.
   pub all_read : (old now : OfficeView K) (file : List ℕ) (reader : RowReader) (counts : Counts)
-      (so_far : ImportInvariant old now file reader counts) → reader.unread ≤ 0 → IsPostingFile file so_far.first
+      (so_far : ImportInvariant old now file reader counts) → reader.has_more ≡ false
+      → IsPostingFile file so_far.first
   all_read old now file reader counts so_far none =
-      let o = others_left file so_far.rows so_far.first reader so_far.reads in
-      subst (IsPostingFile file) (ap (λ (l : List CsvRow). so_far.first ++ l) (no_others o.0 o.2)
-      ∙ append-nil so_far.first) o.1
-    where
-      no_others : (l : List CsvRow) → length l ≡ reader.unread → l ≡ []
-      no_others [] n = refl
-      no_others (x ∷ l) n = absurd (omega (arith, n, none))
+      let o = rows_left file so_far.rows so_far.first reader so_far.reads in
+      subst (IsPostingFile file) (o.all ∙ ap (λ (l : List CsvRow). so_far.first ++ l) (o.none none)
+      ∙ append-nil so_far.first) so_far.reads.file
 
-  -- The number of rows counted and the number of rows left fit into 64 bits together.
-  pub counts_fit : (old now : OfficeView K) (file : List ℕ) (reader : RowReader) (counts : Counts)
-      → ImportInvariant old now file reader counts → row_count counts + reader.unread < 2 ^ 64
-  counts_fit old now file reader counts so_far =
+  -- The rows counted are those that were read.
+  pub counts_read : (old now : OfficeView K) (file : List ℕ) (reader : RowReader) (counts : Counts)
+      → ImportInvariant old now file reader counts → CountsRowsRead reader counts
+  counts_read old now file reader counts so_far =
       let a = ap row_count so_far.counts in
       let b = row_count_all so_far.outcomes in
       let c = AllZip-long IsOutcome so_far.first so_far.outcomes so_far.performs.each in
-      omega (arith, a, b, c, so_far.reads.unread, so_far.reads.fits)
+      record {
+        file = file;
+        rows = so_far.rows;
+        first = so_far.first;
+        reads = so_far.reads;
+        count_is = omega (arith, a, b, c);
+      }
+
+  -- One more block leaves fewer rows that can be counted.
+  pub fewer_left : (old mid new : OfficeView K) (file : List ℕ) (reader reader' : RowReader) (report report' : Report)
+      (so_far : ImportInvariant old mid file reader report.counts)
+      → ReportsBlock view mid reader report report' reader' new
+      → 2 ^ 64 - row_count report'.counts < 2 ^ 64 - row_count report.counts
+  fewer_left old mid new file reader reader' report report' so_far block =
+      let before = counts_read old mid file reader report.counts so_far in
+      let small = block_fits reader reader' report.counts block.rows before block.reads in
+      let both = block.reports so_far.outcomes so_far.counts in
+      let now = ap row_count both.0 in
+      let all = row_count_all (so_far.outcomes ++ block.outcomes) in
+      let parts = length-append so_far.outcomes block.outcomes in
+      let as_many = AllZip-long IsOutcome block.rows block.outcomes block.performs.each in
+      let was = ap row_count so_far.counts in
+      let first = row_count_all so_far.outcomes in
+      omega (arith, small, now, all, parts, as_many, was, first, block.some)
 
   -- After one more block, the report has the text of all outcomes so far.
   pub text_after : (old mid : OfficeView K) (file : List ℕ) (reader : RowReader) (report report' : Report)

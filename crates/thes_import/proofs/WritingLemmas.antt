@@ -19,6 +19,7 @@ use Rattle.thes_import.specs.ImportEngine.{IsReportCut, IsWriterFault, PerformsF
 use Rattle.thes_import.specs.ImportEngine.{WritesWhole}
 use Rattle.thes_import.specs.Imports.{ImportsBlock, PerformsWith}
 use Rattle.thes_posting_files.specs.Outcomes.{IsOutcome, counts_of, outcome_lines, outcomes_text}
+use Rattle.thes_posting_files.specs.PostingFile.{IsPostingFile}
 use Rattle.thes_posting_files.specs.declared.csv_row.CsvRow.{CsvRow}
 use Rattle.thes_import.specs.declared.import.ImportStop.{ImportStop}
 use Rattle.thes_posting_files.specs.declared.outcome.Outcome.{Outcome}
@@ -26,7 +27,7 @@ use Rattle.thes_posting_files.specs.declared.reading.RowReader.{RowReader}
 use Rattle.thes_posting_files.specs.declared.report.Report.{Report}
 use Rattle.thes_import.proofs.ImportLemmas.{ImportInvariant, halted_in, importing_more}
 use Rattle.thes_posting_files.proofs.ReportLemmas.{text_of_more}
-use Rattle.thes_posting_files.proofs.RowReadingLemmas.{others_left}
+use Rattle.thes_posting_files.proofs.RowReadingLemmas.{rows_left}
 
 module _ {W : Type 0} (contents : W → Option (List ℕ)) where
   -- A prefix of the heading is part of the text of no outcomes.
@@ -160,17 +161,17 @@ module _ {W : Type 0} (contents : W → Option (List ℕ)) where
     stopped_in_block w0 w1 w2 old mid new file reader reader' report report' (Ok done) stopped so_far cleared
         appends_text fb block e cause =
         let more = importing_more view old mid new file reader reader' report report' so_far fb block in
-        let o = others_left file more.rows more.first reader' more.reads in
+        let o = rows_left file more.rows more.first reader' more.reads in
         let adds = block.reports so_far.outcomes so_far.counts in
         let lines : report'.text.items ≡ outcome_lines (1 + length so_far.outcomes) block.outcomes =
         adds.1 ∙ ap (λ (l : List ℕ). l ++ outcome_lines (1 + length so_far.outcomes) block.outcomes) cleared in (
           so_far.outcomes ++ block.outcomes,
           e.0 ∙ adds.0,
-          stopped_by_writer w0 w2 old new file (so_far.outcomes ++ block.outcomes) o.0 (Ok done) stopped.fault
+          stopped_by_writer w0 w2 old new file (so_far.outcomes ++ block.outcomes) o.others (Ok done) stopped.fault
               tt
               (record {
                 rows = more.first;
-                is_file = o.1;
+                is_file = subst (IsPostingFile file) o.all more.reads.file;
                 performs = more.performs;
                 fault_behaviour = faults_of_last old mid new (Ok done) so_far.limits so_far.was so_far.count fb;
               }) cause

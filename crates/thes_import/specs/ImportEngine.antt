@@ -22,7 +22,7 @@ use Rattle.thes_posting_files.specs.declared.outcome.Outcome.{Outcome}
 use Rattle.thes_posting_files.specs.declared.report.Counts.{Counts}
 use Rattle.thes_posting_files.specs.declared.report.Report.{Report}
 
--- The greatest size of a file, in bytes: 16 MiB.
+-- The greatest size of a posting file, in bytes: 16 MiB.
 abbrev pub file_limit : ℕ
 file_limit = 16777216
 

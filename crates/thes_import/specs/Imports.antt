@@ -10,9 +10,11 @@ use Rattle.thes_posting_files.specs.PostingFile.{HasNoHeader, IsPostingFile}
 use Rattle.thes_posting_files.specs.declared.csv_row.CsvRow.{CsvRow}
 use Rattle.thes_office.specs.Office.{ChangesNothing, TablesAfterRun, OfficeView}
 use Rattle.thes_posting_files.specs.Outcomes.{AddsOutcomes, IsBlankReport, IsOutcome, ReportsOutcomes, answers_of, posts_of}
+use Rattle.thes_posting_files.specs.Outcomes.{row_count}
 use Rattle.thes_posting_files.specs.declared.outcome.Outcome.{Outcome}
 use Rattle.thes_posting_files.specs.RowReading.{HasReadRows}
 use Rattle.thes_posting_files.specs.declared.reading.RowReader.{RowReader}
+use Rattle.thes_posting_files.specs.declared.report.Counts.{Counts}
 use Rattle.thes_posting_files.specs.declared.report.Report.{Report}
 
 -- A run of the machine over the requests of the rows has the answers in these outcomes, and leads
@@ -21,6 +23,14 @@ pub record PerformsRows (limits : Limits) (old : Raw) (rows : List CsvRow) (outc
     (new : Raw) : Type 0 where
   pub goes_on : TablesAfterRun limits old (posts_of rows) (answers_of outcomes) new
   pub same : AllByRecursion ChangesNothing (answers_of outcomes) → new ≡ old
+
+-- The counts are of as many rows as were read of some file.
+pub record CountsRowsRead (reader : RowReader) (counts : Counts) : Type 0 where
+  pub file : List ℕ
+  pub rows : List CsvRow
+  pub first : List CsvRow
+  pub reads : HasReadRows file rows first reader
+  pub count_is : row_count counts ≡ length first
 
 module _ {K : Type 0} (view : K → StorageView) where
   -- These rows were performed, with these outcomes.
@@ -37,7 +47,7 @@ module _ {K : Type 0} (view : K → StorageView) where
     pub outcomes : List Outcome
     pub reads : (bytes : List ℕ) (all first : List CsvRow) → HasReadRows bytes all first reader
         → HasReadRows bytes all (first ++ rows) reader'
-    pub fewer : reader'.unread < reader.unread
+    pub some : 0 < length rows
     pub few : length rows ≤ 1000
     pub performs : PerformsWith old rows outcomes new
     pub reports : AddsOutcomes outcomes report report'

@@ -32,7 +32,7 @@ pub struct ImportStop {
 }
 
 impl ImportStop {
-    // Returns the stop for a fault before the first row, with all counts 0.
+    // Returns the stop of an import by a fault before its first row, with all counts 0.
     fn at_start(fault: PipeFault) -> ImportStop
         ensures fault { result.fault ≡ fault }
         ensures counts { result.counts ≡ no_counts }
@@ -44,10 +44,10 @@ impl ImportStop {
     }
 }
 
-// The greatest size of a file, in bytes: 16 MiB.
+// The greatest size of a posting file, in bytes: 16 MiB.
 const FILE_LIMIT: usize = 16_777_216;
 
-// Writes the text of a report, and clears the text once it is written.
+// Writes the text of an import's report, and clears the text once it is written.
 fn write_report<W: Write>(
     writer: &mut Pipe<W>,
     budget: &mut Budget,
@@ -70,7 +70,8 @@ fn write_report<W: Write>(
     }
 }
 
-// Performs the rows of a file, and writes the outcomes of each block before it reads the next.
+// Performs the rows of a posting file, and writes the outcomes of each block before it reads the
+// next.
 fn import_bytes<W: Write, K: Keeper>(
     alloc: Global,
     file: &[u8],
@@ -96,11 +97,11 @@ fn import_bytes<W: Write, K: Keeper>(
         return Err(ImportStop::at_start(PipeFault::Fault(Fault::OutOfMemory)));
     };
     write_report(writer, budget, &mut report)?;
-    while reader.unread > 0 {
+    while reader.has_more {
         let done = import_block(alloc, office, &mut reader, &mut report);
         // Before the next block, so that a killed import has reported all but one (DECISIONS.md,
-        // Posting files); and before the fault of the office, whose report may be cut short (The
-        // office).
+        // Posting files); and before a fault of the office is returned, since one of the writer
+        // comes first (The office).
         write_report(writer, budget, &mut report)?;
         if let Err(fault) = done {
             return Err(ImportStop {

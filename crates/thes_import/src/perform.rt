@@ -1,13 +1,11 @@
 //! Performs the rows of a posting file, block by block.
-ghost use Rattle.std.specs.Prelude.{◌<◌, ◌+◌, ◌^◌};
-ghost use Rattle.thes_posting_files.specs.Outcomes.{row_count};
+ghost use Rattle.std.specs.Prelude.{◌≡◌, true};
 ghost use Rattle.thes_office.specs.Office.{FaultBehaviour};
-ghost use Rattle.thes_import.specs.Imports.{ImportsBlock};
+ghost use Rattle.thes_import.specs.Imports.{CountsRowsRead, ImportsBlock};
 
 use std::alloc::Global;
 use thes_base::fault::Fault;
 use thes_office::Office;
-use thes_posting_files::block::block_of;
 use thes_posting_files::reading::{RowReader, read_block};
 use thes_posting_files::report::Report;
 use thes_store::keeper::Keeper;
@@ -20,16 +18,15 @@ pub(crate) fn import_block<K: Keeper>(
     reader: &mut RowReader<'_>,
     report: &mut Report,
 ) -> Result<(), Fault>
-    requires some { 0 < reader.old.unread }
-    requires fits { row_count report.old.counts + reader.old.unread < 2 ^ 64 }
+    requires some { reader.old.has_more ≡ true }
+    requires counts { CountsRowsRead reader.old report.old.counts }
     ensures fault_behaviour { FaultBehaviour K.view office.old office.new result }
     ensures imports { ImportsBlock K.view office.old reader.old report.old result report.new
         reader.new office.new }
 {
     // No effect; states for the proof that the tables encode a state.
     let _ = office.is_stale();
-    let rows = read_block(alloc, reader)?;
-    let block = block_of(alloc, rows)?;
+    let block = read_block(alloc, reader)?;
     // Room for the lines before the posts: none is performed without its line.
     report.make_room(block.faults.len())?;
     let mut answers = Vec::new(alloc);

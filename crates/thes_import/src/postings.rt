@@ -37,7 +37,7 @@ pub fn import_postings<K: Keeper>(
     let Ok(mut report) = Report::new(alloc) else {
         return Err((Fault::OutOfMemory, Report::blank(alloc)));
     };
-    while reader.unread > 0 {
+    while reader.has_more {
         if let Err(fault) = import_block(alloc, office, &mut reader, &mut report) {
             return Err((fault, report));
         }

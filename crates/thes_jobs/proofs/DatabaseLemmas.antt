@@ -2,7 +2,7 @@
 use Rattle.std.proofs.Common.{arith, ◌≡◌, ◌∙◌, length, sym, ap, subst}
 use Rattle.std.specs.Prelude.{Result, Ok, Err, Some, IfOk, false}
 use Rattle.sqlite.specs.Effect.{Database}
-use Rattle.sqlite.specs.Files.{file_state}
+use Rattle.sqlite.specs.Files.{file_state, over_files}
 use Rattle.sqlite.specs.Held.{Held}
 use Rattle.sqlite.specs.Schema.{Schema}
 use Rattle.sqlite.specs.State.{State, HasCleanDisk}
@@ -22,11 +22,12 @@ use Rattle.thes_jobs.specs.Databases.{ClosesStore, HoldTables, KeepsTables, Open
 pub opened_from : {D X E : Type 0} {g : disk.Ghosts D} (image : Image) (opened : Result (Held (FileStore D g)) X)
     (result : Result (Held (FileStore D g)) E) → IfOk result (λ conn. opened ≡ Ok conn)
     → IfOk opened (λ conn. HasCleanDisk (file_state conn) → OpensFiles image (file_state conn))
-    → IfOk opened (λ conn. conn.in_transaction ≡ false) → IfOk result (OpensFrom image)
+    → IfOk opened (λ conn. conn.in_transaction ≡ false) → IfOk result (OpensFrom over_files image)
 opened_from image opened (Ok conn) is opens idle =
     let opens_it = subst (λ r. IfOk r (λ c. HasCleanDisk (file_state c) → OpensFiles image (file_state c))) is opens in
     record {
       idle = subst (λ r. IfOk r (λ c. c.in_transaction ≡ false)) is idle;
+      is_settled = λ up. let here = opens_it up.0 in here.settled;
       serves = λ up schema t store. let here = opens_it up.0 in (here.settled, here.serves schema t store);
       empty = λ up new. let here = opens_it up.0 in here.empty new;
     }

@@ -1,3 +1,4 @@
 pub mod DatabaseLemmas
 pub mod PassingLemmas
+pub mod PreparedLemmas
 pub mod StartingLemmas

@@ -1,5 +1,5 @@
 -- The databases of stores from opening to closing, and what their files hold afterwards.
-use Rattle.std.specs.Prelude.{◌≡◌, Option, Some, None, false}
+use Rattle.std.specs.Prelude.{◌≡◌, ℕ, List, IfSome, IsSomeAnd, MatchOption, Option, Some, None, false}
 use Rattle.sqlite.specs.Files.{file_state, image_of}
 use Rattle.sqlite.specs.Held.{Held, state}
 use Rattle.sqlite.specs.Schema.{Schema}
@@ -14,7 +14,7 @@ use Rattle.sqlite_wal.specs.Recovery.{Image}
 use Rattle.thes_tables.specs.Tables.{Tables}
 use Rattle.thes_sql.specs.Schema.{empty_schema}
 use Rattle.thes_sql.specs.StoredRows.{KeepsIn}
-use Rattle.thes_sqlite.specs.DatabaseFiles.{HoldsStore, IsNewFile}
+use Rattle.thes_sqlite.specs.DatabaseFiles.{IsInitialStore, HoldsStore, IsNewFile}
 use Rattle.thes_sqlite.specs.KeeperView.{IsUp, ServesTables}
 
 -- A call leaves the tables of a store as they are: if the database was this store before, and nothing in it was
@@ -24,40 +24,42 @@ KeepsTables old new = IsUp new → (schema : Schema) (t : Tables)
     → (IsUp old → (old.now ≡ old.committed) × KeepsIn schema old.now t)
     → (new.now ≡ new.committed) × KeepsIn schema new.now t
 
+-- If a call leaves the database up, the database was up before, and nothing in it is uncommitted if nothing was before.
+pub record Settles (old new : State) : Type 0 where
+  pub was : IsUp new → IsUp old
+  pub is_settled : IsUp new → old.now ≡ old.committed → new.now ≡ new.committed
+
 -- A database was closed that was up. If it was a store with a schema and some tables, and nothing in it was
--- uncommitted,
--- `holds` is true of these.
+-- uncommitted, `holds` is true of these.
 pub record ClosesStore (holds : Schema → Tables → Type 0) (s : State) : Type 0 where
   pub was_up : IsUp s
   pub leaves : s.now ≡ s.committed → (schema : Schema) (t : Tables) → KeepsIn schema s.now t → holds schema t
 
--- A connection is ready for work: it is in no transaction, and if its files held a store, its database is this store.
-pub record IsReadyConnection {S : Type 0} (g : Ghosts S) (held : Schema → Tables → Type 0) (conn : Held S) : Type 0 where
-  pub idle : conn.in_transaction ≡ false
-  pub serves : ServesTables held (state g conn)
+-- The database of a connection was closed, if there is one, and its files are left. If they are clean, they hold its
+-- store.
+abbrev pub ClosesIfOpen : {S C : Type 0} → Ghosts S → (C → Type 0) → (C → Schema → Tables → Type 0) → Option (Held S)
+    → Option C → Type 0
+ClosesIfOpen g is_clean holds conn files = MatchOption conn (files ≡ None) (λ conn. IsSomeAnd files (λ files.
+    is_clean files → ClosesStore (holds files) (state g conn)))
 
--- A connection was opened in files with these contents, which may be anything: it is in no transaction. If they held a
--- store, its database is this store; in a new file it has no tables.
-pub record OpensFrom {D : Type 0} {g : disk.Ghosts D} (image : Image) (conn : Held (FileStore D g)) : Type 0 where
-  pub idle : conn.in_transaction ≡ false
-  pub serves : ServesTables (HoldsStore image) (file_state conn)
-  pub empty : IsUp (file_state conn) → IsNewFile image → (file_state conn).now.schema ≡ empty_schema
+module _ {S : Type 0} (g : Ghosts S) (image : Image) where
+  -- A connection was opened in files with these contents, which may be anything: it is in no transaction, and nothing
+  -- in its database is uncommitted. If they held a store, its database is this store; in a new file it has no tables.
+  pub record OpensFrom (conn : Held S) : Type 0 where
+    pub idle : conn.in_transaction ≡ false
+    pub is_settled : IsUp (state g conn) → (state g conn).now ≡ (state g conn).committed
+    pub serves : ServesTables (HoldsStore image) (state g conn)
+    pub empty : IsUp (state g conn) → IsNewFile image → (state g conn).now.schema ≡ empty_schema
 
--- A way to open databases gives connections that are ready for work.
-abbrev pub OpensStores : {S : Type 0} → Ghosts S → (Schema → Tables → Type 0) → (Held S → Type 0) → Type 0
-OpensStores {S} g held opens = (conn : Held S) → opens conn → IsReadyConnection g held conn
+  -- A connection is ready for work with this base: it is in no transaction, and its database is the store with which
+  -- the work begins.
+  pub record IsReadyConnection (base : List ℕ) (conn : Held S) : Type 0 where
+    pub idle : conn.in_transaction ≡ false
+    pub serves : ServesTables (IsInitialStore image base) (state g conn)
 
--- A way to close databases leaves the stores in their files.
-abbrev pub ClosesStores : {S L : Type 0} → Ghosts S → (Held S → L → Type 0) → (L → Type 0)
-    → (L → Schema → Tables → Type 0) → Type 0
-ClosesStores {S} {L} g closes is_clean holds = (conn : Held S) (left : L) → closes conn left → is_clean left
-    → ClosesStore (holds left) (state g conn)
-
--- A way to open and to close databases keeps the stores of their files.
-pub record KeepsStores {S L : Type 0} (g : Ghosts S) (held : Schema → Tables → Type 0) (opens : Held S → Type 0)
-    (closes : Held S → L → Type 0) (is_clean : L → Type 0) (holds : L → Schema → Tables → Type 0) : Type 0 where
-  pub opening : OpensStores g held opens
-  pub closing : ClosesStores g closes is_clean holds
+  -- The database of a connection, if there is one, is the store that its files held, if they held one.
+  abbrev pub ServesIfOpen : Option (Held S) → Type 0
+  ServesIfOpen left = IfSome left (λ conn. ServesTables (HoldsStore image) (state g conn))
 
 -- The files were closed, and the disk has returned what was written.
 abbrev pub AreCleanFiles : {D : Type 0} → disk.Ghosts D → Option (Files D) → Type 0

@@ -1,10 +1,12 @@
 -- The making of a store's tables, if its database was opened for a new store and has none.
-use Rattle.std.specs.Prelude.{◌≡◌, ◌↔◌, IsTrue, Bool, List, ℕ, Result, Ok, Err}
+use Rattle.std.specs.Prelude.{◌≡◌, ◌↔◌, IsTrue, Bool, true, false, List, ℕ, Result, Ok, Err}
 use Rattle.sqlite.specs.Held.{Held, state}
 use Rattle.sqlite.specs.State.{HasCleanDisk}
 use Rattle.sqlite.specs.declared.error.Error.{Error}
 use Rattle.sqlite_trees.specs.declared.store.Store.{Ghosts}
 use Rattle.thes_base.specs.declared.fault.Fault.{Fault}
+use Rattle.thes_base.specs.declared.fault.Fault.TheVariants.{BadStore}
+use Rattle.thes_base.specs.declared.fault.Table.TheVariants as table
 use Rattle.thes_tables.specs.Tables.{empty_tables}
 use Rattle.thes_sql.specs.TransactionEffects.{IsEmpty}
 use Rattle.thes_sql.specs.Schema.{empty_schema, store_schema}
@@ -18,8 +20,14 @@ use Rattle.thes_command_line.specs.declared.opening.Opening.{Opening}
 use Rattle.thes_command_line.specs.declared.opening.Preparation.{Preparation}
 use Rattle.thes_command_line.specs.declared.opening.Preparation.TheVariants.{MakeTables, RemoveMark, Nothing}
 use Rattle.thes_command_line.specs.declared.trouble.StoreTrouble.{StoreTrouble}
-use Rattle.thes_command_line.specs.declared.trouble.StoreTrouble.TheVariants.{Unwritable}
+use Rattle.thes_command_line.specs.declared.trouble.StoreTrouble.TheVariants.{Unreadable, Unwritable}
 use Rattle.thes_jobs.specs.Trouble.{trouble_of}
+
+-- The verdict on a database in which no tables are to be made; the Boolean says that it has none, and so lacks table
+-- meta.
+abbrev pub verdict_of_blank : Bool → Result (Unit {0}) (StoreTrouble × Fault)
+verdict_of_blank true = Err (Unreadable, BadStore table.Meta)
+verdict_of_blank false = Ok tt
 
 module _ {S : Type 0} (store : Ghosts S) where
   -- The tables couldn't be made: the fault and its reason are those of an error, and a database that is up is
@@ -30,7 +38,8 @@ module _ {S : Type 0} (store : Ghosts S) where
     pub fault_is : fault ≡ error_fault error
     pub leaves : IsUp (state store new) → IsUnwritten (state store old) (state store new)
 
-  -- The tables of a new store were made in an empty database, or an error left it unchanged.
+  -- The tables of a new store with this base were made in an empty database, if the disk hasn't failed silently; or an
+  -- error left a database that is up unchanged.
   abbrev pub MakesStore : List ℕ → Held S → Result (Unit {0}) (StoreTrouble × Fault) → Held S → Type 0
   MakesStore base old (Ok done) new =
       HasCleanDisk (state store new) → IsEmpty empty_schema (state store old).now
@@ -38,15 +47,15 @@ module _ {S : Type 0} (store : Ghosts S) where
       × KeepsIn store_schema (state store new).now (empty_tables base)
   MakesStore base old (Err reported) new = IsUnmade old reported.0 reported.1 new
 
-  -- The tables of a new store are made; every other preparation leaves the database as it is.
-  abbrev pub Prepares : Preparation → List ℕ → Held S → Result (Unit {0}) (StoreTrouble × Fault) → Held S → Type 0
-  Prepares MakeTables base old result new = MakesStore base old result new
-  Prepares RemoveMark base old result new = (result ≡ Ok tt) × (new ≡ old)
-  Prepares Nothing base old result new = (result ≡ Ok tt) × (new ≡ old)
+  -- The tables of a new store are made; every other preparation leaves the database as it is, and refuses a blank one.
+  abbrev pub Prepares : Preparation → Bool → List ℕ → Held S → Result (Unit {0}) (StoreTrouble × Fault) → Held S → Type 0
+  Prepares MakeTables is_blank base old result new = MakesStore base old result new
+  Prepares RemoveMark is_blank base old result new = (result ≡ verdict_of_blank is_blank) × (new ≡ old)
+  Prepares Nothing is_blank base old result new = (result ≡ verdict_of_blank is_blank) × (new ≡ old)
 
   -- The preparation of a database is that for how it was opened, and for whether it has tables.
   pub record PreparesStore (opening : Opening) (reads_only : Bool) (base : List ℕ) (old : Held S)
       (result : Result (Unit {0}) (StoreTrouble × Fault)) (new : Held S) : Type 0 where
     pub is_blank : Bool
     pub blank : IsTrue is_blank ↔ ((state store old).now.schema ≡ empty_schema)
-    pub prepares : Prepares (preparation_of opening is_blank reads_only) base old result new
+    pub prepares : Prepares (preparation_of opening is_blank reads_only) is_blank base old result new

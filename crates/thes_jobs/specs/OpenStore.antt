@@ -35,7 +35,7 @@ pub data IsUnopenedStore (task : Task) (reported : StoreTrouble × Fault) : Type
   unopened : (found : FileState) → (opening : Opening) → ChoosesOpening task found (Ok opening)
       → IsUnopenedDatabase reported → IsUnopenedStore task reported
 
--- The database of a store was opened in the way for the state of its file, and is in no transaction.
+-- The database of a store was opened in the way for the task and for some state of its file, and is in no transaction.
 pub record IsOpenedFor {S : Type 0} (task : Task) (store : StoreDatabase S) : Type 0 where
   pub state : FileState
   pub chooses : ChoosesOpening task state (Ok store.opening)

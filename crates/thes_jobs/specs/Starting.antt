@@ -5,10 +5,9 @@ use Rattle.std.specs.declared.fs.File.{File}
 use Rattle.std.specs.declared.net.tcp.TcpListener.{TcpListener}
 use Rattle.std.specs.declared.string.String.{String}
 use Rattle.sqlite.specs.Held.{Held}
-use Rattle.sqlite.specs.Schema.{Schema}
 use Rattle.sqlite_trees.specs.declared.store.Store.{Ghosts}
+use Rattle.sqlite_wal.specs.Recovery.{Image}
 use Rattle.thes_base.specs.declared.fault.Fault.{Fault}
-use Rattle.thes_tables.specs.Tables.{Tables}
 use Rattle.thes_command_line.specs.Opening.{is_import, only_reads}
 use Rattle.thes_command_line.specs.declared.arguments.EarlyExit.{EarlyExit}
 use Rattle.thes_command_line.specs.declared.arguments.Job.{Job}
@@ -19,49 +18,53 @@ use Rattle.thes_command_line.specs.declared.start_failure.StartFailure.{StartFai
 use Rattle.thes_command_line.specs.declared.start_failure.StartFailure.TheVariants as failures
 use Rattle.thes_command_line.specs.declared.trouble.StoreTrouble.{StoreTrouble}
 use Rattle.thes_command_line.specs.declared.trouble.StoreTrouble.TheVariants.{Unreadable}
-use Rattle.thes_jobs.specs.Databases.{IsReadyConnection}
+use Rattle.thes_jobs.specs.Databases.{IsReadyConnection, OpensFrom}
 use Rattle.thes_jobs.specs.NewStore.{PreparesStore}
 use Rattle.thes_jobs.specs.OpenStore.{IsOpenedFor, IsUnopenedStore}
 use Rattle.thes_jobs.specs.PlannedWork.{OpensPlanned, planned_work}
 use Rattle.thes_jobs.specs.declared.screen.Screen.{Screen}
+use Rattle.thes_jobs.specs.declared.starting.FailedStart.{FailedStart}
 use Rattle.thes_jobs.specs.declared.starting.OpenJob.{OpenJob}
 use Rattle.thes_jobs.specs.declared.starting.OpenJob.TheVariants.{InFile, InMemory, Migration, Version}
 use Rattle.thes_jobs.specs.declared.starting.StoreDatabase.{StoreDatabase}
 use Rattle.thes_jobs.specs.declared.work.DatabaseWork.{DatabaseWork}
 use Rattle.thes_jobs.specs.declared.work.MemoryWork.{MemoryWork}
 
--- The connection of work over a store in a file is ready for it, and that of a migration is in no transaction.
-abbrev pub IsReadyJob : {S O : Type 0} → Ghosts S → (Schema → Tables → Type 0) → OpenJob S O → Type 0
-IsReadyJob g held (InFile work) = IsReadyConnection g held work.conn
-IsReadyJob g held (InMemory work) = Unit {0}
-IsReadyJob g held (Migration file conn) = conn.in_transaction ≡ false
-IsReadyJob g held Version = Unit {0}
+-- The connection of work over a store in files with these contents is ready for it, and that of a migration is in no
+-- transaction.
+abbrev pub IsReadyJob : {S O : Type 0} → Ghosts S → Image → OpenJob S O → Type 0
+IsReadyJob g image (InFile work) = IsReadyConnection g image work.setting.base work.conn
+IsReadyJob g image (InMemory work) = Unit {0}
+IsReadyJob g image (Migration file conn) = conn.in_transaction ≡ false
+IsReadyJob g image Version = Unit {0}
 
 -- A listener for progress, if there is one, reports the rows of an import exactly when the task is one.
 abbrev pub ListensTo : {R : Type 0} → Task → Option (Screen R) → Type 0
 ListensTo task progress = IfSome progress (λ screen. screen.is_import ≡ is_import task)
 
--- The job of a task over the store in a file, and over a new store in memory.
+-- The job of a task over the store in a file.
 abbrev pub job_in_file : Task → String Global → StoreSetting → Job
 job_in_file task file setting = record { task = task; file = Some file; setting = setting }
 
+-- The job of a task over a new store in memory.
 abbrev pub job_in_memory : Task → StoreSetting → Job
 job_in_memory task setting = record { task = task; file = None; setting = setting }
 
-module _ {S : Type 0} (store : Ghosts S) (opens : Held S → Type 0) where
+module _ {S : Type 0} (store : Ghosts S) (image : Image) where
   -- The connection is that of a database that was opened for the task, and in which nothing was done but that the
-  -- tables of a new store were made, with this base, if it was to have them.
+  -- tables of a new store were made, with this base, if it was to have them. It is ready for the task.
   pub record IsPreparedFor (task : Task) (base : List ℕ) (conn : Held S) : Type 0 where
     pub database : StoreDatabase S
     pub opens_it : IsOpenedFor task database
-    pub is_opened : opens database.conn
+    pub is_opened : OpensFrom store image database.conn
     pub prepares : PreparesStore store database.opening (only_reads task) base database.conn (Ok tt) conn
+    pub ready : IsReadyConnection store image base conn
 
   -- The work over the store in the file of a job.
   pub record IsDatabaseWork {O R F L : Type 0} (job : Job) (work : DatabaseWork S O (Option (Screen R)) F L) : Type 0 where
     pub does : OpensPlanned (planned_work job.task) (is_some work.progress) (Ok (Some work.work))
     pub file : job.file ≡ Some work.file
-    pub limits : work.limits ≡ job.setting.limits
+    pub setting : work.setting ≡ job.setting
     pub connects : IsPreparedFor job.task job.setting.base work.conn
     pub listens : ListensTo job.task work.progress
 
@@ -69,8 +72,7 @@ module _ {S : Type 0} (store : Ghosts S) (opens : Held S → Type 0) where
   pub record IsMemoryWork {R F L : Type 0} (job : Job) (work : MemoryWork (Option (Screen R)) F L) : Type 0 where
     pub does : OpensPlanned (planned_work job.task) (is_some work.progress) (Ok (Some work.work))
     pub file : job.file ≡ None
-    pub base : work.base ≡ job.setting.base
-    pub limits : work.limits ≡ job.setting.limits
+    pub setting : work.setting ≡ job.setting
     pub listens : ListensTo job.task work.progress
 
   -- The job that was planned is the one that is open.
@@ -82,28 +84,40 @@ module _ {S : Type 0} (store : Ghosts S) (opens : Held S → Type 0) where
   IsOpenJob job Version = (job.task ≡ Migrate) × (job.file ≡ None)
 
   -- The trouble and the fault of a store that couldn't be opened, or not prepared, for a task, or whose file's full
-  -- path wasn't found.
-  pub data IsUnpreparedStore (task : Task) (base : List ℕ) (reported : StoreTrouble × Fault) : Type 0 where
-    unopened : IsUnopenedStore task reported → IsUnpreparedStore task base reported
-    unprepared : (database : StoreDatabase S) → IsOpenedFor task database → opens database.conn → (back : Held S)
+  -- path wasn't found; and the connection to its database, if that was opened.
+  pub data IsUnpreparedStore (task : Task) (base : List ℕ) (reported : StoreTrouble × Fault) (left : Option (Held S))
+      : Type 0 where
+    unopened : IsUnopenedStore task reported → left ≡ None → IsUnpreparedStore task base reported left
+    unprepared : (database : StoreDatabase S) → IsOpenedFor task database → OpensFrom store image database.conn
+        → (back : Held S) → left ≡ Some back
         → PreparesStore store database.opening (only_reads task) base database.conn (Err reported) back
-        → IsUnpreparedStore task base reported
-    lost : reported.0 ≡ Unreadable → IsUnpreparedStore task base reported
+        → IsUnpreparedStore task base reported left
+    lost : reported.0 ≡ Unreadable → (conn : Held S) → left ≡ Some conn → IsPreparedFor task base conn
+        → IsUnpreparedStore task base reported left
 
-  -- The reason why a job couldn't be opened: its posting file or socket, or its store.
-  abbrev pub IsOpenFailure : Job → StartFailure → Type 0
-  IsOpenFailure job (failures.EarlyExit early_exit) = ⊥
-  IsOpenFailure job (failures.Unopened failure) =
-      (prints_it : Bool) × OpensPlanned {F = File} {L = TcpListener} (planned_work job.task) prints_it (Err failure)
-  IsOpenFailure job (failures.InStore file trouble fault) =
-      (job.file ≡ Some file) × IsUnpreparedStore job.task job.setting.base (trouble, fault)
+  -- The connection is that of a database that was opened for the task, and in which nothing was done; there is none if
+  -- the store isn't in a file.
+  abbrev pub LeavesUnused : Option (String Global) → Task → Option (Held S) → Type 0
+  LeavesUnused None task left = left ≡ None
+  LeavesUnused (Some file) task left = (database : StoreDatabase S) × IsOpenedFor task database
+      × OpensFrom store image database.conn × (left ≡ Some database.conn)
+
+  -- The reason why a job couldn't be opened: its posting file or socket, or its store; and the connection to its
+  -- database.
+  abbrev pub IsOpenFailure : Job → StartFailure → Option (Held S) → Type 0
+  IsOpenFailure job (failures.EarlyExit early_exit) left = ⊥
+  IsOpenFailure job (failures.Unopened failure) left =
+      ((prints_it : Bool) × OpensPlanned {F = File} {L = TcpListener} (planned_work job.task) prints_it (Err failure))
+      × LeavesUnused job.file job.task left
+  IsOpenFailure job (failures.InStore file trouble fault) left =
+      (job.file ≡ Some file) × IsUnpreparedStore job.task job.setting.base (trouble, fault) left
 
   -- The job is opened, or the reason says why not.
-  abbrev pub OpensJob : {O : Type 0} → Job → Result (OpenJob S O) StartFailure → Type 0
+  abbrev pub OpensJob : {O : Type 0} → Job → Result (OpenJob S O) (FailedStart S) → Type 0
   OpensJob job (Ok it) = IsOpenJob job it
-  OpensJob job (Err failure) = IsOpenFailure job failure
+  OpensJob job (Err failed) = IsOpenFailure job failed.failure failed.conn
 
   -- The job of a command line is opened, if it has one.
-  abbrev pub OpensPlan : {O : Type 0} → Result Job EarlyExit → Result (OpenJob S O) StartFailure → Type 0
+  abbrev pub OpensPlan : {O : Type 0} → Result Job EarlyExit → Result (OpenJob S O) (FailedStart S) → Type 0
   OpensPlan (Ok job) opened = OpensJob job opened
-  OpensPlan (Err early_exit) opened = opened ≡ Err (failures.EarlyExit early_exit)
+  OpensPlan (Err early_exit) opened = opened ≡ Err (record { failure = failures.EarlyExit early_exit; conn = None })

@@ -2,48 +2,54 @@
 ghost use Rattle.std.specs.Prelude.{IfOk};
 ghost use Rattle.sqlite.specs.Schema.{Schema};
 ghost use Rattle.thes_tables.specs.Tables.{Tables};
+ghost use Rattle.thes_jobs.specs.Databases.{ClosesIfOpen, OpensFrom};
 
 use crate::store_files::{ReopenedImage, StoreFiles, close_database_files, open_database_files};
-use sqlite::{Connection, FileFrom, FileStore, Start};
+use sqlite::{Alter, Connection, FileFrom, FileStore, Start};
 use sqlite_disk::{Disk, Files};
 use std::marker::PhantomData;
 use thes_base::fault::Fault;
 use thes_sqlite::cause::Cause;
+use thes_sqlite::reopening::{HeldTables, Reopen};
 
-/// A way to open the databases of stores by the names of their files, with connections of the type
-/// `C`, and to close them. A value of the type `O` opens a database again, and one of the type `L`
-/// is what closing leaves.
+/// A way to open the databases of stores by the names of their files, and to close them.
 ///
 /// What opens a store and works over it is generic over this, since a proof about a connection to a
 /// file goes through all its parts.
-pub trait Databases<C, O, L> {
+pub trait Databases {
+    /// What the connections keep their tables in.
+    type Engine: Alter + Drop;
+
+    /// What opens a database again. In contracts it names the contents of the files before they are
+    /// opened.
+    type Opener: Reopen<Connection<Self::Engine>> + HeldTables + Drop;
+
+    /// What closing a database leaves.
+    type Left: Drop;
+
     /// What files hold before they are opened, as a value for contracts: code can't read it.
     type Image: Drop;
 
-    // What holds for a connection that was opened.
-    ghost opens: { C → Type 0 };
-
-    // What holds for a connection and what closing it leaves.
-    ghost closes: { C → L → Type 0 };
-
     // The files were closed, and the disk has returned what was written.
-    ghost is_clean: { L → Type 0 };
+    ghost is_clean: { Self.Left → Type 0 };
 
     // The files hold a store with this schema and these tables, as they read now and whatever a
     // crash leaves of them.
-    ghost holds: { L → Schema → Tables → Type 0 };
+    ghost holds: { Self.Left → Schema → Tables → Type 0 };
 
     /// Opens the database in a file; if there is no such file, makes it. The image of what the
     /// files held is consumed, so that one opening alone is of them.
-    fn open(&self, image: Self::Image, file: &str) -> Result<C, Cause>
-        ensures { IfOk result Self.opens };
+    fn open(&self, image: Self::Image, file: &str) -> Result<Connection<Self::Engine>, Cause>
+        ensures { IfOk result (OpensFrom Self.Engine.Store Self.Opener.image) };
 
     /// Returns what opens the database in a file again. The file must be open.
-    fn reopener(&self, file: &str) -> Result<O, Fault>;
+    fn reopener(&self, file: &str) -> Result<Self::Opener, Fault>;
 
-    /// Closes a connection, and returns what is left of the files.
-    fn close(&self, conn: C) -> L
-        ensures { Self.closes conn result };
+    /// Takes a connection, if there is one, closes it, and returns what is left of its files, which
+    /// hold its store. (by reference, since Rattle proves no `impl` of a method that takes a
+    /// connection to an associated type by value)
+    fn close(&self, conn: &mut Option<Connection<Self::Engine>>) -> Option<Self::Left>
+        ensures { ClosesIfOpen Self.Engine.Store is_clean holds conn.old result };
 }
 
 /// The databases in files of this system, whose contents before they are opened are those of `S`.
@@ -63,19 +69,17 @@ impl<'r, S> FileDatabases<'r, S> {
     }
 }
 
-impl<'r, S: Start + ReopenedImage> Databases<
-    Connection<FileStore<FileFrom<S>>>,
-    StoreFiles<'r, S>,
-    Option<Files<FileFrom<S>>>,
-> for FileDatabases<'r, S> {
+/// Closing leaves the two files of the database, or None after an error.
+impl<'r, S: Start + ReopenedImage> Databases for FileDatabases<'r, S> {
+    type Engine = FileStore<FileFrom<S>>;
+
+    type Opener = StoreFiles<'r, S>;
+
+    type Left = Option<Files<FileFrom<S>>>;
+
     type Image = S;
 
-    ghost use Rattle.sqlite_wal.specs.Files.{image_at};
-    ghost use Rattle.thes_jobs.specs.Databases.{AreCleanFiles, ClosesFrom, HoldTables, OpensFrom};
-
-    ghost opens = { OpensFrom (image_at S.Start) };
-
-    ghost closes = { ClosesFrom ⟦<FileFrom<S> as Disk>⟧ };
+    ghost use Rattle.thes_jobs.specs.Databases.{AreCleanFiles, HoldTables};
 
     ghost is_clean = { AreCleanFiles ⟦<FileFrom<S> as Disk>⟧ };
 
@@ -89,7 +93,13 @@ impl<'r, S: Start + ReopenedImage> Databases<
         StoreFiles::new(self.rt, file)
     }
 
-    fn close(&self, conn: Connection<FileStore<FileFrom<S>>>) -> Option<Files<FileFrom<S>>> {
-        close_database_files(conn)
+    fn close(
+        &self,
+        conn: &mut Option<Connection<FileStore<FileFrom<S>>>>,
+    ) -> Option<Option<Files<FileFrom<S>>>> {
+        match conn.take() {
+            Some(conn) => Some(close_database_files(conn)),
+            None => None,
+        }
     }
 }

@@ -7,7 +7,7 @@ use std::fs::File;
 use thes_base::fault::Fault;
 use thes_command_line::opening::{FileState, file_state};
 
-/// The mark of the store in a file.
+/// The mark of the store in a file: an empty file next to it, while the store is being made.
 #[derive(Drop)]
 pub struct MakingMark<'r> {
     rt: &'r HostRuntime,

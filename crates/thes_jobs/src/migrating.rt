@@ -13,7 +13,8 @@ use thes_command_line::trouble::StoreTrouble;
 use thes_sqlite::cause::FaultCause;
 use thes_sqlite::keeper::SqlKeeper;
 
-/// Prints the line of version 2, and returns the exit status: 0, or 3 if it can't be written.
+/// Prints the version of a store after `migrate`, as the line `version 2`, and returns the exit
+/// status: 0, or 3 if the line can't be written.
 pub fn print_version<W: Write, E: Write>(output: &mut Pipe<W>, errors: &mut Pipe<E>) -> u8
     requires { AreFreshOutputs output.old errors.old }
     ensures { PrintsText W.contents E.contents output.old output.new errors.old errors.new

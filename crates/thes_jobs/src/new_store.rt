@@ -2,12 +2,12 @@
 ghost use Rattle.std.specs.Prelude.{◌≡◌, ◌↔◌, false, IsTrue};
 ghost use Rattle.sqlite.specs.Held.{state};
 ghost use Rattle.thes_sql.specs.Schema.{empty_schema};
-ghost use Rattle.thes_jobs.specs.Databases.{KeepsTables};
-ghost use Rattle.thes_jobs.specs.NewStore.{MakesStore};
+ghost use Rattle.thes_jobs.specs.Databases.{KeepsTables, Settles};
+ghost use Rattle.thes_jobs.specs.NewStore.{MakesStore, verdict_of_blank};
 
 use crate::trouble::trouble_of;
 use sqlite::{Alter, Connection};
-use thes_base::fault::Fault;
+use thes_base::fault::{Fault, Table};
 use thes_base::text::Base;
 use thes_command_line::trouble::StoreTrouble;
 use thes_sql::create::create_tables;
@@ -22,6 +22,17 @@ pub fn is_blank<S: Alter>(conn: &Connection<S>) -> bool
     schema.tables.is_empty() && schema.indexes.is_empty() && schema.views.is_empty()
 }
 
+/// Refuses a database without tables, in which none are to be made, as one without table meta.
+pub fn check_blank(is_blank: bool) -> Result<(), (StoreTrouble, Fault)>
+    ensures { result ≡ verdict_of_blank is_blank }
+{
+    if is_blank {
+        Err((StoreTrouble::Unreadable, Fault::BadStore(Table::Meta)))
+    } else {
+        Ok(())
+    }
+}
+
 /// Makes the tables of a new store with this base in a database without tables, atomically. An
 /// error is the fault with its reason. A mark beside the file says that they are being made, as the
 /// file can't be renamed together with its log (DECISIONS.md, The tables).
@@ -34,6 +45,8 @@ pub fn make_store<S: Alter>(
     ensures idle { conn.new.in_transaction ≡ false }
     ensures keeps { (state S.Store conn.old).now.schema ≡ empty_schema
         → KeepsTables (state S.Store conn.old) (state S.Store conn.new) }
+    ensures settles { (state S.Store conn.old).now.schema ≡ empty_schema
+        → Settles (state S.Store conn.old) (state S.Store conn.new) }
 {
     match create_tables(conn, base) {
         Ok(_) => Ok(()),

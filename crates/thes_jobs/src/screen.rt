@@ -30,7 +30,8 @@ fn is_due(last: Instant, now: Instant) -> bool
 }
 
 impl<'a, R: Clock + Eprint> Screen<'a, R> {
-    /// Returns a listener for work that begins now, or `None` if the clock fails.
+    /// Returns a listener for work that begins now, which prints the rows done if `is_import`, or
+    /// `None` if the clock fails.
     pub fn new(rt: &'a R, is_import: bool) -> Option<Screen<'a, R>>
         ensures { IfSome result (λ screen. screen.is_import ≡ is_import) }
     {
@@ -63,6 +64,7 @@ impl<'a, R: Clock + Eprint> Screen<'a, R> {
     }
 }
 
+/// Prints the number of rows read for every task, and the number of rows done for an import alone.
 impl<R: Clock + Eprint> Progress for Screen<'_, R> {
     fn report_rows(&mut self, rows: u64) {
         if rows % STRIDE == 0 && self.takes_turn() {

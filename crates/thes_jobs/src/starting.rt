@@ -3,8 +3,7 @@ ghost use Rattle.std.specs.Prelude.{◌≡◌, false, IfErr, IfOk, Some, is_some
 ghost use Rattle.std.specs.Result.{result_map_both};
 ghost use Rattle.sqlite.specs.Held.{state};
 ghost use Rattle.thes_sql.specs.Schema.{empty_schema};
-ghost use Rattle.thes_sqlite.specs.KeeperView.{ServesTables};
-ghost use Rattle.thes_jobs.specs.Databases.{IsReadyConnection, KeepsTables, OpensStores};
+ghost use Rattle.thes_jobs.specs.Databases.{KeepsTables, OpensFrom, ServesIfOpen, Settles};
 ghost use Rattle.thes_jobs.specs.NewStore.{MakesStore, PreparesStore};
 ghost use Rattle.thes_jobs.specs.OpenStore.{ChoosesOpening, IsOpenedFor, IsUnopenedDatabase, OpensStore};
 ghost use Rattle.thes_jobs.specs.PlannedWork as work;
@@ -13,7 +12,7 @@ ghost use Rattle.thes_jobs.specs.Starting.{IsReadyJob, ListensTo, OpensJob, Open
 
 use crate::databases::Databases;
 use crate::making::MakingMark;
-use crate::new_store::{is_blank, make_store};
+use crate::new_store::{check_blank, is_blank, make_store};
 use crate::screen::Screen;
 use crate::store_files::has_long_name;
 use crate::trouble::trouble_of;
@@ -36,7 +35,6 @@ use thes_command_line::printing::OpenFailure;
 use thes_command_line::start_failure::StartFailure;
 use thes_command_line::trouble::{StoreTrouble, name_trouble};
 use thes_sqlite::cause::Cause;
-use thes_sqlite::reopening::HeldTables;
 use thes_sqlite::unread::unread_object;
 
 /// A job whose store, and whose file or socket if it has one, are open.
@@ -51,6 +49,13 @@ pub enum OpenJob<'r, S: Alter, O> {
     Version,
 }
 
+/// The reason why a job isn't opened, with the connection to the database of its store if that was
+/// opened.
+pub struct FailedStart<S: Alter> {
+    pub failure: StartFailure,
+    pub conn: Option<Connection<S>>,
+}
+
 // Prints the name of what keeps the schema of a database from being read, if it is found.
 fn report_unread(rt: &HostRuntime, file: &str) {
     if let Some(name) = unread_object(rt, file) {
@@ -59,24 +64,18 @@ fn report_unread(rt: &HostRuntime, file: &str) {
     }
 }
 
-// Opens the database in a file, which it marks first if a store is to be made in it. An error is
-// the fault with its reason.
-fn open_database<S: Alter + Drop, O: HeldTables, L, D: Databases<Connection<S>, O, L>>(
+// Opens the database in a file. If that leaves no database there, and no other program has the file
+// open, removes the mark of the unfinished store. An error is the fault with its reason.
+fn open_database<D: Databases>(
     rt: &HostRuntime,
     databases: &D,
     image: D::Image,
-    opening: Opening,
     mark: &MakingMark<'_>,
     file: &str,
-) -> Result<Connection<S>, (StoreTrouble, Fault)>
-    requires { OpensStores S.Store O.held D.opens }
-    ensures opened { IfOk result D.opens }
-    ensures ready { IfOk result (IsReadyConnection S.Store O.held) }
+) -> Result<Connection<D::Engine>, (StoreTrouble, Fault)>
+    ensures opened { IfOk result (OpensFrom D.Engine.Store D.Opener.image) }
     ensures err { IfErr result IsUnopenedDatabase }
 {
-    if opening == Opening::New {
-        mark.make();
-    }
     match databases.open(image, file) {
         Ok(conn) => Ok(conn),
         Err(cause) => {
@@ -111,7 +110,8 @@ fn opening_for(
     }
 }
 
-// The open database of a store, with the mark of a store that is unfinished.
+// The open database of a store, with the mark of an unfinished store, and whether it was opened as
+// a new one.
 #[derive(Drop)]
 struct StoreDatabase<'r, S: Alter> {
     conn: Connection<S>,
@@ -119,18 +119,30 @@ struct StoreDatabase<'r, S: Alter> {
     opening: Opening,
 }
 
+impl<S: Alter> StoreDatabase<'_, S> {
+    // Returns the connection, without the mark.
+    fn into_connection(self) -> Connection<S>
+        ensures { result ≡ self.entry.conn }
+    {
+        let StoreDatabase {
+            conn,
+            mark: _,
+            opening: _,
+        } = self;
+        conn
+    }
+}
+
 // Opens the database of the store in a file for a task. An error is the fault with its reason.
-fn open_store<'r, S: Alter + Drop, O: HeldTables, L, D: Databases<Connection<S>, O, L>>(
+fn open_store<'r, D: Databases>(
     rt: &'r HostRuntime,
     databases: &D,
     image: D::Image,
     task: &Task,
     file: &str,
-) -> Result<StoreDatabase<'r, S>, (StoreTrouble, Fault)>
-    requires { OpensStores S.Store O.held D.opens }
+) -> Result<StoreDatabase<'r, D::Engine>, (StoreTrouble, Fault)>
     ensures opens { OpensStore task.now result }
-    ensures opened { IfOk result (λ store. D.opens store.conn) }
-    ensures serves { IfOk result (λ store. ServesTables O.held (state S.Store store.conn)) }
+    ensures opened { IfOk result (λ store. OpensFrom D.Engine.Store D.Opener.image store.conn) }
 {
     let mark = match MakingMark::new(rt, file) {
         Ok(mark) => mark,
@@ -138,7 +150,10 @@ fn open_store<'r, S: Alter + Drop, O: HeldTables, L, D: Databases<Connection<S>,
     };
     let found = file_state(&fs::metadata(rt, file));
     let opening = opening_for(rt, task, found, &mark, file)?;
-    let conn = open_database(rt, databases, image, opening, &mark, file)?;
+    if opening == Opening::New {
+        mark.make();
+    }
+    let conn = open_database(rt, databases, image, &mark, file)?;
     Ok(StoreDatabase {
         conn,
         mark,
@@ -159,6 +174,8 @@ fn make_marked_store<S: Alter>(
     ensures idle { store.new.conn.in_transaction ≡ false }
     ensures keeps { (state S.Store store.old.conn).now.schema ≡ empty_schema
         → KeepsTables (state S.Store store.old.conn) (state S.Store store.new.conn) }
+    ensures settles { (state S.Store store.old.conn).now.schema ≡ empty_schema
+        → Settles (state S.Store store.old.conn) (state S.Store store.new.conn) }
 {
     make_store(&mut store.conn, base)?;
     store.mark.remove();
@@ -168,8 +185,9 @@ fn make_marked_store<S: Alter>(
     Ok(())
 }
 
-// Makes the store in an open database if it is a new one, and else removes its mark, but not for a
-// task that only reads. An error is the fault with its reason.
+// Makes the tables in a database that was opened for a new store and has none. Any other store
+// loses its mark, unless the task only reads, and is refused if its database has no tables. An
+// error is the fault with its reason.
 fn prepare_store<S: Alter>(
     store: &mut StoreDatabase<'_, S>,
     reads_only: bool,
@@ -182,14 +200,16 @@ fn prepare_store<S: Alter>(
         result store.new.conn }
     ensures idle { store.new.conn.in_transaction ≡ false }
     ensures keeps { KeepsTables (state S.Store store.old.conn) (state S.Store store.new.conn) }
+    ensures settles { Settles (state S.Store store.old.conn) (state S.Store store.new.conn) }
 {
-    match preparation_of(store.opening, is_blank(&store.conn), reads_only) {
+    let blank = is_blank(&store.conn);
+    match preparation_of(store.opening, blank, reads_only) {
         Preparation::MakeTables => make_marked_store(store, screen, file, base),
         Preparation::RemoveMark => {
             store.mark.remove();
-            Ok(())
+            check_blank(blank)
         }
-        Preparation::Nothing => Ok(()),
+        Preparation::Nothing => check_blank(blank),
     }
 }
 
@@ -224,7 +244,7 @@ fn open_socket(rt: &HostRuntime, port: u16) -> Result<TcpListener, OpenFailure>
     }
 }
 
-// Returns the value as an option that has one, or the error.
+// Returns the opened work of a job, in `Some` since the job isn't a migration, or the error.
 fn with_some<T, E>(given: Result<T, E>) -> Result<Option<T>, E>
     ensures { result ≡ result_map_both Some (λ error. error) given }
 {
@@ -255,49 +275,71 @@ fn open_work(
     }
 }
 
-// Prepares the store in an open database for its task, and opens the task's file or socket. An
-// error is the fault of either.
-fn open_over<'r, S: Alter + Drop, O: HeldTables + Drop, L, D: Databases<Connection<S>, O, L>>(
-    rt: &'r HostRuntime,
-    databases: &D,
+// A job over the store in a file.
+#[derive(Drop)]
+struct FileJob {
     task: Task,
-    mut store: StoreDatabase<'r, S>,
     file: String,
     setting: StoreSetting,
-) -> Result<OpenJob<'r, S, O>, StartFailure>
-    requires opens { IsOpenedFor task store }
-    requires opened { D.opens store.conn }
-    requires serves { ServesTables O.held (state S.Store store.conn) }
-    ensures opens { OpensJob S.Store D.opens (job_in_file task file setting) result }
-    ensures ready { IfOk result (IsReadyJob S.Store O.held) }
+}
+
+// Returns the reason why a job isn't opened, with the connection to the database of its store.
+fn failed_over<S: Alter>(failure: StartFailure, store: StoreDatabase<'_, S>) -> FailedStart<S>
+    ensures { result ≡ record { failure = failure; conn = Some store.entry.conn } }
 {
-    let StoreSetting { base, limits } = setting;
+    FailedStart {
+        failure,
+        conn: Some(store.into_connection()),
+    }
+}
+
+// Opens the file or socket of a job over an open database, and prepares its store. An error is the
+// fault of either, with the connection.
+fn open_over<'r, D: Databases>(
+    rt: &'r HostRuntime,
+    databases: &D,
+    mut store: StoreDatabase<'r, D::Engine>,
+    job: FileJob,
+) -> Result<OpenJob<'r, D::Engine, D::Opener>, FailedStart<D::Engine>>
+    requires opens { IsOpenedFor job.task store }
+    requires opened { OpensFrom D.Engine.Store D.Opener.image store.conn }
+    ensures opens { OpensJob D.Engine.Store D.Opener.image
+        (job_in_file job.task job.file job.setting) result }
+    ensures ready { IfOk result (IsReadyJob D.Engine.Store D.Opener.image) }
+    ensures serves { IfErr result (λ failed.
+        ServesIfOpen D.Engine.Store D.Opener.image failed.conn) }
+{
+    let FileJob {
+        task,
+        file,
+        setting,
+    } = job;
     let progress = screen_of(rt, &task);
     let reads_only = only_reads(&task);
     let work = match open_work(rt, task, &progress) {
         Ok(work) => work,
-        Err(unopened) => return Err(StartFailure::Unopened(unopened)),
+        Err(unopened) => return Err(failed_over(StartFailure::Unopened(unopened), store)),
     };
-    match prepare_store(&mut store, reads_only, progress, file.as_str(), &base) {
+    let base = &setting.base;
+    match prepare_store(&mut store, reads_only, progress, file.as_str(), base) {
         Ok(()) => {}
-        Err((trouble, fault)) => return Err(StartFailure::InStore(file, trouble, fault)),
+        Err((trouble, fault)) => {
+            return Err(failed_over(StartFailure::InStore(file, trouble, fault), store));
+        }
     }
     let opener = match databases.reopener(file.as_str()) {
         Ok(opener) => opener,
         Err(fault) => {
-            return Err(StartFailure::InStore(file, StoreTrouble::Unreadable, fault));
+            let failure = StartFailure::InStore(file, StoreTrouble::Unreadable, fault);
+            return Err(failed_over(failure, store));
         }
     };
-    let StoreDatabase {
-        conn,
-        mark: _,
-        opening: _,
-    } = store;
+    let conn = store.into_connection();
     match work {
         Some(work) => Ok(OpenJob::InFile(DatabaseWork {
             work,
             file,
-            limits,
+            setting,
             conn,
             opener,
             progress,
@@ -307,59 +349,74 @@ fn open_over<'r, S: Alter + Drop, O: HeldTables + Drop, L, D: Databases<Connecti
 }
 
 // Opens the job of a task over the store in a file. If the file is absent or empty, or making its
-// store was cut short, every task makes the store that doesn't only read.
-fn open_in_file<'r, S: Alter + Drop, O: HeldTables + Drop, L, D: Databases<Connection<S>, O, L>>(
+// store was cut short, every task that doesn't only read makes the store.
+fn open_in_file<'r, D: Databases>(
     rt: &'r HostRuntime,
     databases: &D,
     image: D::Image,
-    task: Task,
-    file: String,
-    setting: StoreSetting,
-) -> Result<OpenJob<'r, S, O>, StartFailure>
-    requires { OpensStores S.Store O.held D.opens }
-    ensures opens { OpensJob S.Store D.opens (job_in_file task file setting) result }
-    ensures ready { IfOk result (IsReadyJob S.Store O.held) }
+    job: FileJob,
+) -> Result<OpenJob<'r, D::Engine, D::Opener>, FailedStart<D::Engine>>
+    ensures opens { OpensJob D.Engine.Store D.Opener.image
+        (job_in_file job.task job.file job.setting) result }
+    ensures ready { IfOk result (IsReadyJob D.Engine.Store D.Opener.image) }
+    ensures serves { IfErr result (λ failed.
+        ServesIfOpen D.Engine.Store D.Opener.image failed.conn) }
 {
-    match open_store(rt, databases, image, &task, file.as_str()) {
-        Ok(store) => open_over(rt, databases, task, store, file, setting),
-        Err((trouble, fault)) => Err(StartFailure::InStore(file, trouble, fault)),
+    match open_store(rt, databases, image, &job.task, job.file.as_str()) {
+        Ok(store) => open_over(rt, databases, store, job),
+        Err((trouble, fault)) => {
+            let FileJob {
+                task: _,
+                file,
+                setting: _,
+            } = job;
+            Err(FailedStart {
+                failure: StartFailure::InStore(file, trouble, fault),
+                conn: None,
+            })
+        }
     }
 }
 
 // Opens the job of a task over a new store in memory.
-fn open_in_memory<S: Alter, O: HeldTables, L, D: Databases<Connection<S>, O, L>>(
+fn open_in_memory<D: Databases>(
     rt: &HostRuntime,
     task: Task,
     setting: StoreSetting,
-) -> Result<OpenJob<'_, S, O>, StartFailure>
-    ensures opens { OpensJob S.Store D.opens (job_in_memory task setting) result }
-    ensures ready { IfOk result (IsReadyJob S.Store O.held) }
+) -> Result<OpenJob<'_, D::Engine, D::Opener>, FailedStart<D::Engine>>
+    ensures opens { OpensJob D.Engine.Store D.Opener.image (job_in_memory task setting) result }
+    ensures ready { IfOk result (IsReadyJob D.Engine.Store D.Opener.image) }
+    ensures serves { IfErr result (λ failed.
+        ServesIfOpen D.Engine.Store D.Opener.image failed.conn) }
 {
-    let StoreSetting { base, limits } = setting;
     let progress = screen_of(rt, &task);
     match open_work(rt, task, &progress) {
         Ok(Some(work)) => Ok(OpenJob::InMemory(MemoryWork {
             work,
-            base,
-            limits,
+            setting,
             progress,
         })),
         Ok(None) => Ok(OpenJob::Version),
-        Err(unopened) => Err(StartFailure::Unopened(unopened)),
+        Err(unopened) => Err(FailedStart {
+            failure: StartFailure::Unopened(unopened),
+            conn: None,
+        }),
     }
 }
 
-/// Opens the store that a job names, and the file or socket of its task. If the files of a store to
-/// work over held tables, its database serves them.
-pub fn open_job<'r, S: Alter + Drop, O: HeldTables + Drop, L, D: Databases<Connection<S>, O, L>>(
+/// Opens the store that a job names, and the file or socket of its task. If the files of a store
+/// held tables, its database serves them; in a new file it has those of an empty store. A failure
+/// comes with the connection to the store, if that was opened.
+pub fn open_job<'r, D: Databases>(
     rt: &'r HostRuntime,
     databases: &D,
     image: D::Image,
     planned: Result<Job, EarlyExit>,
-) -> Result<OpenJob<'r, S, O>, StartFailure>
-    requires { OpensStores S.Store O.held D.opens }
-    ensures opens { OpensPlan S.Store D.opens planned result }
-    ensures ready { IfOk result (IsReadyJob S.Store O.held) }
+) -> Result<OpenJob<'r, D::Engine, D::Opener>, FailedStart<D::Engine>>
+    ensures opens { OpensPlan D.Engine.Store D.Opener.image planned result }
+    ensures ready { IfOk result (IsReadyJob D.Engine.Store D.Opener.image) }
+    ensures serves { IfErr result (λ failed.
+        ServesIfOpen D.Engine.Store D.Opener.image failed.conn) }
 {
     match planned {
         Ok(
@@ -369,9 +426,19 @@ pub fn open_job<'r, S: Alter + Drop, O: HeldTables + Drop, L, D: Databases<Conne
                 setting,
             },
         ) => match file {
-            Some(file) => open_in_file(rt, databases, image, task, file, setting),
-            None => open_in_memory::<S, O, L, D>(rt, task, setting),
+            Some(file) => {
+                let job = FileJob {
+                    task,
+                    file,
+                    setting,
+                };
+                open_in_file(rt, databases, image, job)
+            }
+            None => open_in_memory::<D>(rt, task, setting),
         },
-        Err(early_exit) => Err(StartFailure::EarlyExit(early_exit)),
+        Err(early_exit) => Err(FailedStart {
+            failure: StartFailure::EarlyExit(early_exit),
+            conn: None,
+        }),
     }
 }

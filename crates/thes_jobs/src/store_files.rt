@@ -1,7 +1,7 @@
 //! The files of a store, which are opened and closed, and can be opened again by their names.
 ghost use Rattle.std.specs.Prelude.{◌≡◌, Ok, IfOk};
+ghost use Rattle.sqlite.specs.Files.{over_files};
 ghost use Rattle.sqlite_wal.specs.Files.{image_at};
-ghost use Rattle.thes_sqlite.specs.DatabaseFiles.{HoldsStore};
 ghost use Rattle.thes_jobs.specs.Databases.{ClosesFrom, OpensFrom};
 
 use sqlite::{Connection, FileFrom, FileStore, Start, Unknown};
@@ -15,7 +15,8 @@ use thes_sqlite::cause::Cause;
 use thes_sqlite::files::{close_files, open_files};
 use thes_sqlite::reopening::{HeldTables, Reopen};
 
-// Returns what was opened, or the cause of the failure without what came with it.
+// Returns the connection that was opened, or the cause of the failure without what is left of the
+// files.
 fn without_rest<T, L: Drop>(opened: Result<T, (Cause, L)>) -> Result<T, Cause>
     ensures { IfOk result (λ conn. opened ≡ Ok conn) }
 {
@@ -29,13 +30,14 @@ fn without_rest<T, L: Drop>(opened: Result<T, (Cause, L)>) -> Result<T, Cause>
 #[derive(Drop)]
 pub struct Reopening(());
 
-/// What files hold before they are opened again, as a value for contracts. Since it takes a sign,
-/// no one else makes a second image of what files held at first.
+/// What files hold before they are opened again, as a value for contracts. Making one takes a sign,
+/// so no one else makes a second image of what files held at first.
 pub trait ReopenedImage {
-    /// Creates a value.
+    /// Returns the image of files that are opened again.
     fn image_of_reopened(sign: Reopening) -> Self;
 }
 
+/// Nothing is known of files that are opened again.
 impl ReopenedImage for Unknown {
     fn image_of_reopened(_sign: Reopening) -> Unknown {
         Unknown
@@ -49,7 +51,7 @@ pub fn open_database_files<S: Start>(
     image: S,
     file: &str,
 ) -> Result<Connection<FileStore<FileFrom<S>>>, Cause>
-    ensures { IfOk result (OpensFrom (image_at S.Start)) }
+    ensures { IfOk result (OpensFrom over_files (image_at S.Start)) }
 {
     without_rest(open_files(rt, file, image))
 }
@@ -128,9 +130,10 @@ impl<'r, S> StoreFiles<'r, S> {
 }
 
 impl<S: Start> HeldTables for StoreFiles<'_, S> {
-    ghost held = { HoldsStore (image_at S.Start) };
+    ghost image = { image_at S.Start };
 }
 
+/// The files are opened again only while both names lead to those that were open.
 impl<S: Start + ReopenedImage> Reopen<Connection<FileStore<FileFrom<S>>>> for StoreFiles<'_, S> {
     fn is_in_place(&mut self) -> bool {
         self.open.0.is_some() && self.open == self.named_files()

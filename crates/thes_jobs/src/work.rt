@@ -4,9 +4,9 @@ ghost use Rattle.thes_jobs.specs.PlannedWork as work;
 
 use sqlite::{Alter, Connection};
 use std::io;
-use thes_base::data::Limits;
-use thes_base::text::Base;
-use thes_command_line::arguments::{DisplayOptions, ScriptOptions, ServeOptions, Task};
+use thes_command_line::arguments::{
+    DisplayOptions, ScriptOptions, ServeOptions, StoreSetting, Task,
+};
 use thes_command_line::printing::OpenFailure;
 use thes_requests::request::Display;
 
@@ -120,7 +120,7 @@ pub struct DatabaseWork<S: Alter, O, P, F, L> {
     pub work: Work<F, L>,
     /// The name of the database's file, for reports of faults.
     pub file: String,
-    pub limits: Limits,
+    pub setting: StoreSetting,
     pub conn: Connection<S>,
     pub opener: O,
     pub progress: P,
@@ -129,7 +129,6 @@ pub struct DatabaseWork<S: Alter, O, P, F, L> {
 /// Work over a new store in memory.
 pub struct MemoryWork<P, F, L> {
     pub work: Work<F, L>,
-    pub base: Base,
-    pub limits: Limits,
+    pub setting: StoreSetting,
     pub progress: P,
 }

@@ -1,7 +1,7 @@
 -- Proves that the facts queried from the storage are those of the histories of the state.
 use Rattle.std.proofs.lemmas.Grind.{common_steps}
 use Rattle.std.proofs.Common.{◌≡◌, ℕ, zero, suc, List, [], ◌∷◌, ◌++◌, refl, sym, ap, subst, ◌∙◌, inl, inr, map, arith}
-use Rattle.std.specs.Prelude.{Option, None, Some, Result, Ok, slice_get, option_map, filter}
+use Rattle.std.specs.Prelude.{Option, None, Some, Result, Ok, slice_get, filter}
 use Rattle.std.proofs.lemmas.List.{map-append}
 use Rattle.std.proofs.lemmas.Option.{same_Some}
 use Rattle.thes_base.specs.declared.data.History.{History}
@@ -48,13 +48,6 @@ found_key base s rows key (Some row) legal is f =
     let number : r.1.number ≡ suc r.0 = (legal.postings.sound (suc r.0) r.1 r.2).number in
     (r.1, (ap (entry_at s.histories) number ∙ r.2, ap (λ (x : PostingRow). x.key) (sym r.3) ∙ of_key), r.3)
 found_key base s rows key None legal is never = grind (arith, common_steps, row_in)
-
-pub numbered_map : {A B : Type 0} (f : A → B) (xs : List A) (n : ℕ) → entry_at (map f xs) n
-    ≡ option_map f (entry_at xs n)
-numbered_map f xs zero = refl
-numbered_map f [] (suc n) = refl
-numbered_map f (x ∷ xs) (suc zero) = refl
-numbered_map f (x ∷ xs) (suc (suc n)) = numbered_map f xs (suc n)
 
 -- The rows of the postings assigned to a concept are those of the histories assigned to it.
 pub assigned_rows : (concept : ℕ) (hs : List History) → assigned_posting_rows concept (map posting_row hs)

@@ -53,7 +53,8 @@ pub group_empty : (commands : List Command) → IsGroup (take 0 commands)
 group_empty commands i command at = absurd (cc)
 
 -- A place is marked once it is set, and other places stay marked.
-pub marked_here : (marks : List Bool) (i : ℕ) → i < length marks → slice_index_or (slice_set marks i true) i false ≡ true
+pub marked_here : (marks : List Bool) (i : ℕ) → i < length marks
+    → slice_index_or (slice_set marks i true) i false ≡ true
 marked_here marks i l = get_or-set_same marks i true false l
 
 pub still_marked : (marks : List Bool) (i j : ℕ) → i < length marks → slice_index_or marks j false ≡ true
@@ -138,8 +139,8 @@ facts_stay setting s t k r c answer key rec concept facts (inr (new, inr accepte
     } in after)
 
 -- A settled request changes neither the state nor the rows.
-abbrev pub decided_settled : (setting : Setting) (s : State) (command : Command) (answer : Answer) (changes : List Change)
-    (copy : CoreView) → Step setting s command answer s → IsViewOf copy s
+abbrev pub decided_settled : (setting : Setting) (s : State) (command : Command) (answer : Answer)
+    (changes : List Change) (copy : CoreView) → Step setting s command answer s → IsViewOf copy s
     → IsDecided setting s command answer changes changes copy
 decided_settled setting s command answer changes copy step holds = record {
   state_after = s;

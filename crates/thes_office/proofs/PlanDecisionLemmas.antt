@@ -126,7 +126,8 @@ module _ (raw : Raw) (setting : Setting) (done : List PlanRequest) (asked : Plan
     run = subst (λ (cs : List Command). Run setting g.decided.state_before cs (answers ++ answer ∷ [])
         d.decision.decided.state_after) (sym (resolved_push [] done answers asked answer g.decided.accepted.each))
         (run_push setting (resolved_commands [] done answers) answers g.decided.state_before g.decided.state_after
-        d.decision.decided.state_after (resolved_command answers asked) answer g.decided.accepted.run d.decision.decided.step);
+        d.decision.decided.state_after (resolved_command answers asked) answer g.decided.accepted.run
+        d.decision.decided.step);
     accepted = all_push IsNoRefusal answers answer g.decided.accepted.accepted fine;
   }
 
@@ -160,7 +161,8 @@ module _ (raw : Raw) (setting : Setting) (done : List PlanRequest) (asked : Plan
 
   -- A request of a plan is refused, and those before it are taken back.
   pub plan_refuses : (plan : List PlanRequest) (i place : ℕ) (refusal : Refusal) (back : CoreView)
-      → done ≡ take i plan → i ≡ length answers → slice_get plan i ≡ Some asked → place ≡ length next.decided.answers.items
+      → done ≡ take i plan → i ≡ length answers → slice_get plan i ≡ Some asked
+      → place ≡ length next.decided.answers.items
       → refusal_in answer ≡ Some refusal → copy'.setting ≡ setting
       → (back.spent ≡ false → IsTakenBack next.log copy' back) → PlanIsRefused raw setting plan place refusal back
   plan_refuses plan i place refusal back is count at placed refuses set taken =

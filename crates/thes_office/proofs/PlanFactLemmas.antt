@@ -15,7 +15,7 @@ use Rattle.thes_core.specs.Facts.{posting_row_at}
 use Rattle.thes_core.proofs.FactLemmas.{row_found}
 use Rattle.thes_plan_postings.specs.declared.plan_postings.PlanPostings.{PlanPostings}
 use Rattle.thes_plan_postings.specs.PlanPostings.{AreNumbered, InPlanRows}
-use Rattle.thes_office.proofs.FactLemmas.{numbered_map}
+use Rattle.thes_plan_postings.proofs.PlanPostingLemmas.{numbered_map}
 
 -- The rows of histories are the rows at their numbers.
 pub rows_of_histories : (hs : List History) (ns : List ℕ) → map (entry_at (map posting_row hs)) ns

@@ -26,7 +26,8 @@ use Rattle.thes_office.specs.QueryFrames.{InStateOfTables}
 use Rattle.thes_office.specs.AssignedPostings.{rows_assigned_to}
 use Rattle.thes_office.specs.Office.{IsCopy}
 use Rattle.thes_office.specs.TablesOfState.{TablesOfState}
-use Rattle.thes_office.proofs.FactLemmas.{numbered_map, assigned_rows}
+use Rattle.thes_plan_postings.proofs.PlanPostingLemmas.{numbered_map}
+use Rattle.thes_office.proofs.FactLemmas.{assigned_rows}
 use Rattle.thes_office.proofs.StateTableLemmas.{state_is_unique}
 
 -- The row of a posting with its moves determines its history.

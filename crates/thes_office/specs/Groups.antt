@@ -1,7 +1,6 @@
 -- Groups of posts with different keys, which are performed in one transaction.
 use Rattle.std.specs.Prelude.{◌≡◌, ◌++◌, ◌%◌, ℕ, Bool, false, true, List, [], Result, Ok, Err, Some, All, length, take}
 use Rattle.std.specs.Prelude.{slice_get, slice_index_or}
-use Rattle.std.specs.Hash.FoldHasher.{initial, write, finish}
 use Rattle.std.specs.List.{AllByRecursion}
 use Rattle.thes_base.specs.Types.{Key, Number, RecordName}
 use Rattle.thes_base.specs.declared.data.Limits.{Limits}
@@ -15,6 +14,7 @@ use Rattle.thes_base.specs.State.{State}
 use Rattle.thes_tables.specs.declared.change.Change.{Change}
 use Rattle.thes_tables.specs.Cells.{Raw}
 use Rattle.thes_tables.specs.ChangeLaw.{AreChangesBetween}
+use Rattle.thes_store.specs.Keys.{digest_of}
 use Rattle.thes_store.specs.Storage.{StorageView}
 use Rattle.thes_core.specs.declared.facts.Facts.{Facts}
 use Rattle.thes_core.specs.CoreView.{CoreView, IsViewOf}
@@ -43,7 +43,7 @@ IsGroup commands =
 
 -- The place of a key among 1,024 marks. Different keys may have the same place.
 unfoldable pub place_of_key : List ℕ → ℕ
-place_of_key key = finish (write initial key) % 1024
+place_of_key key = digest_of key % 1024
 
 -- The place of the key is marked.
 abbrev pub IsMarked : List Bool → List ℕ → Type 0
@@ -69,7 +69,7 @@ pub record IsDecided (setting : Setting) (s : State) (command : Command) (answer
   pub same : ChangesNothing answer → changes ≡ []
 
 -- Requests of a group are decided on the state that the tables encode: their answers, their changes of rows, and the
--- core, which holds the state after them. The tables have the facts about any new post that this state has.
+-- core, which holds the state after them. For a new post, the facts in the tables are those of that state.
 pub record GroupDecided (raw : Raw) (setting : Setting) (done : List Command) (answers : List Answer)
     (changes : List Change) (copy : CoreView) : Type 0 where
   pub state_before : State
@@ -88,13 +88,15 @@ pub record TablesAfterGroup (limits : Limits) (old : Raw) (commands : List Comma
   pub goes_on : TablesAfterRun limits old commands answers new
   pub same : AllByRecursion ChangesNothing answers → new ≡ old
 
--- The core may decide a group of requests over the storage: it is usable, and holds the state that the tables encode.
+-- The core may decide a group of posts over the storage: it is usable, and while the storage is up, it holds the state
+-- that the tables encode.
 pub record MayDecideGroup (storage : StorageView) (copy : CoreView) (commands : List Command) : Type 0 where
   pub unspent : copy.spent ≡ false
   pub copies : storage.is_up → IsCopy storage.rows copy.setting.limits copy
   pub group : IsGroup commands
 
--- The requests of a group are performed, each has an answer, and the core is usable and holds the state after them.
+-- Each request of a group has an answer, and the core is usable. If the storage is still up, the tables are those after
+-- the requests, and the core holds their state.
 pub record PerformsGroup (old new : StorageView) (limits : Limits) (commands : List Command) (answers : List Answer)
     (copy : CoreView) : Type 0 where
   pub performs : new.is_up → TablesAfterGroup limits old.rows commands answers new.rows
@@ -102,7 +104,8 @@ pub record PerformsGroup (old new : StorageView) (limits : Limits) (commands : L
   pub unspent : copy.spent ≡ false
   pub copies : new.is_up → IsCopy new.rows limits copy
 
--- All requests of a group are performed and answered, or none.
+-- All requests of a group are performed and answered; or, on a fault, none is answered, and the tables are unchanged if
+-- the storage is still up.
 abbrev pub GroupResult : {K : Type 0} → (K → StorageView) → OfficeView K → List Command → List Answer
     → List Answer → Result (Unit {0}) Fault → OfficeView K → Type 0
 GroupResult view old commands before after (Ok done) new = CompleteRun view old commands before after new

@@ -67,8 +67,8 @@ pub record FaultBehaviour {K T : Type 0} (view : K → StorageView)
 abbrev pub SameTables : {K : Type 0} → (K → StorageView) → OfficeView K → OfficeView K → Type 0
 SameTables view old new = (view new.keeper).is_up → (view new.keeper).rows ≡ (view old.keeper).rows
 
--- The effect of every query of an office: its faults are those of every call, the tables are unchanged, and after a
--- result the copy isn't stale.
+-- The effect of every query of an office: its faults are those of every call, the tables are unchanged if the storage
+-- is still up, and after a result the copy isn't stale.
 pub record OfficeQueryFrame {K T : Type 0} (view : K → StorageView)
     (old new : OfficeView K) (result : Result T Fault) : Type 0 where
   pub fault_behaviour : FaultBehaviour view old new result
@@ -107,14 +107,16 @@ pub record TablesAfterRun (limits : Limits) (old : Raw) (commands : List Command
   pub shows : TablesOfState new base state_after
   pub in_order : IsConsistentState base state_after
 
--- The answer and the tables are those of a step of the machine, or a fault leaves the tables unchanged.
+-- If the storage is still up, the answer and the tables are those of a step of the machine, or a fault leaves the
+-- tables unchanged.
 abbrev pub PerformResult : {K : Type 0} → (K → StorageView) → OfficeView K → Command → Result Answer Fault
     → OfficeView K → Type 0
 PerformResult view old command (Ok answer) new =
     (view new.keeper).is_up → TablesAfterStep old.limits (view old.keeper).rows command answer (view new.keeper).rows
 PerformResult view old command (Err fault) new = SameTables view old new
 
--- A run that a fault stopped: it has performed and answered a proper prefix of the requests.
+-- A run that a fault stopped: it has answered a proper prefix of the requests, and if the storage is still up, the
+-- tables are those after this prefix.
 pub record PartialRun {K : Type 0} (view : K → StorageView) (old : OfficeView K)
     (commands : List Command) (before after : List Answer) (new : OfficeView K) : Type 0 where
   pub commands_done : List Command
@@ -129,7 +131,7 @@ pub record PartialRun {K : Type 0} (view : K → StorageView) (old : OfficeView 
   pub same : (view new.keeper).is_up → AllByRecursion ChangesNothing answers → (view new.keeper).rows
       ≡ (view old.keeper).rows
 
--- A run that performed and answered every request.
+-- A run that answered every request; if the storage is still up, the tables are those after all of them.
 pub record CompleteRun {K : Type 0} (view : K → StorageView) (old : OfficeView K)
     (commands : List Command) (before after : List Answer) (new : OfficeView K) : Type 0 where
   pub answers : List Answer
@@ -140,20 +142,20 @@ pub record CompleteRun {K : Type 0} (view : K → StorageView) (old : OfficeView
   pub same : (view new.keeper).is_up → AllByRecursion ChangesNothing answers → (view new.keeper).rows
       ≡ (view old.keeper).rows
 
--- The answers and the tables are those of a run of the machine, over all requests, or over a proper prefix before a
--- fault.
+-- If the storage is still up, the answers and the tables are those of a run of the machine, over all requests, or over
+-- a proper prefix before a fault.
 abbrev pub RunResult : {K : Type 0} → (K → StorageView) → OfficeView K → List Command → List Answer
     → List Answer → Result (Unit {0}) Fault → OfficeView K → Type 0
 RunResult view old commands before after (Ok done) new = CompleteRun view old commands before after new
 RunResult view old commands before after (Err fault) new = PartialRun view old commands before after new
 
--- The core is usable, and holds the state that the tables encode.
+-- The core is usable, and while the storage is up, it holds the state that the tables encode.
 pub record IsCurrentCopy {K : Type 0} (view : K → StorageView) (new : OfficeView K)
     (copy : core.CoreView) : Type 0 where
   pub unspent : copy.spent ≡ false
   pub copies : (view new.keeper).is_up → IsCopy (view new.keeper).rows new.limits copy
 
--- The core returned holds the state of the tables, which are unchanged.
+-- If the storage is still up, the core returned holds the state of the tables, which are unchanged.
 pub record ReadyResult {K : Type 0} (view : K → StorageView)
     (old : OfficeView K) (result : Result (Bor core.CoreView) Fault) (new : OfficeView K) : Type 0 where
   pub fault_behaviour : FaultBehaviour view old new result

@@ -45,12 +45,6 @@ pub record IsDecidedInPlan (setting : Setting) (t now : Tables) (s : State) (com
   pub decision : IsDecidedAndLogged setting s command answer old new copy
   pub postings_are : ArePlanRows t.posting (tables_after_delta decision.decided.changes now).posting new.postings
 
--- One more command of a plan is decided in the state of the core.
-abbrev pub DecidesCommand : Raw → PlanProgress → PlanProgress → CoreView → CoreView → Command → Answer → Type 0
-DecidesCommand raw old new before after command answer = (t now : Tables) (s : State) → raw ≡ cells_of_tables t
-    → IsRowsOf before.setting.base s now → IsViewOf before s → ArePlanRows t.posting now.posting old.postings
-    → IsDecidedAndLogged before.setting s command answer old new after
-
 -- One more request of a plan is decided in the state of the core, and the postings that it changes are recorded.
 abbrev pub DecidesRequest : Raw → PlanProgress → PlanProgress → CoreView → CoreView → Command → Answer → Type 0
 DecidesRequest raw old new before after command answer = (t now : Tables) (s : State) → raw ≡ cells_of_tables t
@@ -87,7 +81,8 @@ pub record PlanIsRefused (raw : Raw) (setting : Setting) (asked : List PlanReque
   pub refused : PlanRefused setting state_before asked place refusal
   pub holds : copy.spent ≡ false → IsViewOf copy state_before
 
--- The decision on a plan is right.
+-- The decision on a plan is right: from the state that the tables encode, all requests are accepted, or the one at this
+-- place is refused.
 abbrev pub IsPlanDecision : Raw → Setting → List PlanRequest → PlanDecision → CoreView → Type 0
 IsPlanDecision raw setting asked (plan.Accepted answers changes) copy =
     PlanDecided raw setting asked answers.items changes copy
@@ -104,7 +99,8 @@ abbrev pub HasEachDecision : List PlanRequest → PlanDecision → Type 0
 HasEachDecision asked (plan.Accepted answers changes) = length answers.items ≡ length asked
 HasEachDecision asked (plan.Refused place refusal) = (0 < place) × (place ≤ length asked)
 
--- The core may decide a plan over the storage: it is usable, and holds the state that the tables encode.
+-- The core may decide a plan over the storage: it is usable, and while the storage is up, it holds the state that the
+-- tables encode.
 pub record MayDecidePlan (storage : StorageView) (copy : CoreView) : Type 0 where
   pub unspent : copy.spent ≡ false
   pub copies : storage.is_up → IsCopy storage.rows copy.setting.limits copy

@@ -1,4 +1,4 @@
--- Plans of requests, each of which is performed in one transaction, or not at all.
+-- Plans: lists of requests, all of which are performed in one transaction, or none.
 use Rattle.std.specs.Prelude.{◌≡◌, ℕ, List, Result, Ok, Err}
 use Rattle.std.specs.List.{AllByRecursion}
 use Rattle.thes_base.specs.declared.data.Limits.{Limits}
@@ -33,7 +33,7 @@ pub record TablesAfterPlan (limits : Limits) (old : Raw) (plan : List PlanReques
   pub in_order : IsConsistentState base state_after
   pub same : PlanChangesNothing outcome → new ≡ old
 
--- The outcome and the tables are those of the plan, or a fault leaves the tables unchanged.
+-- If the storage is still up, the outcome and the tables are those of the plan, or a fault leaves the tables unchanged.
 abbrev pub RunPlanResult : {K : Type 0} → (K → StorageView) → OfficeView K → List PlanRequest
     → Result PlanOutcome Fault → OfficeView K → Type 0
 RunPlanResult view old plan (Ok outcome) new = (view new.keeper).is_up

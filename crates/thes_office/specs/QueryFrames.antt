@@ -14,8 +14,8 @@ use Rattle.thes_store.specs.Causes.{max_failures}
 use Rattle.thes_store.specs.Storage.{StorageView}
 use Rattle.thes_office.specs.TablesOfState.{TablesOfState}
 
--- The effect of a load: the tables are unchanged, and a Store fault is counted as a failure of the
--- storage, unless the count is at its maximum; any other fault leaves the count unchanged.
+-- The effect of a load: the tables are unchanged if the storage is still up, and a Store fault is counted as a failure
+-- of the storage, unless the count is at its maximum; any other fault leaves the count unchanged.
 pub record LoadFrame {T : Type 0} (old new : StorageView) (result : Result T Fault) : Type 0 where
   pub same : new.is_up → new.rows ≡ old.rows
   pub was : new.is_up → old.is_up

@@ -62,7 +62,7 @@ pub fn named_facts(alloc: Global, named_postings: Vec<Option<PostingRow>>) -> Fa
     }
 }
 
-// Looks up the row of the posting with this key.
+// Looks up in the storage the row of the posting with this key; None if no posting has the key.
 fn posting_of_key<K: Keeper>(keeper: &mut K, key: &Key) -> Result<Option<PostingRow>, Fault>
     ensures in_tables { IfOk result (λ found. (K.view keeper.new).is_up
         → KeyInTables (K.view keeper.old).rows key.now found) }
@@ -71,7 +71,7 @@ fn posting_of_key<K: Keeper>(keeper: &mut K, key: &Key) -> Result<Option<Posting
     keeper.find(key)
 }
 
-// Looks up the row of the posting with this number.
+// Looks up in the storage the row of the posting with this number; None if no posting has it.
 fn posting_of_number<K: Keeper>(
     keeper: &mut K,
     posting: PostNo,

@@ -7,23 +7,23 @@ ghost use Rattle.thes_base.specs.State.{State};
 ghost use Rattle.thes_core.specs.CoreView.{IsViewOf};
 ghost use Rattle.thes_core.specs.Facts.{AreFacts};
 ghost use Rattle.thes_store.specs.Storage.{CommitFrame, DeltaFitsStorage, QueryFrame, RawAfterChanges};
-ghost use Rattle.thes_office.specs.Groups.{AreKeysMarked, GroupDecided, HasFactsOf, IsDecided, IsGroup, IsMarked};
+ghost use Rattle.thes_office.specs.Groups.{AreKeysMarked, GroupDecided, IsDecided, IsGroup, IsMarked};
 ghost use Rattle.thes_office.specs.Groups.{IsNewPost, IsPostOf, MayDecideGroup, PerformsGroup, place_of_key};
 
 use crate::facts::facts_of;
 use std::alloc::{AllocError, Global};
-use std::hash::{FoldHasher, Hasher};
 use thes_base::fault::Fault;
 use thes_base::request::{Answer, Command};
 use thes_base::text::Key;
 use thes_core::{Core, Facts, Verdict};
+use thes_store::digest_of;
 use thes_store::keeper::Keeper;
 use thes_tables::delta::Delta;
 
 // The greatest number of posts in a group.
 const GROUP_LIMIT: usize = 128;
 
-// The number of places at which the keys of a group are marked.
+// The number of places at which the keys of a group's posts are marked.
 const PLACES: usize = 1_024;
 
 /// The answers to the requests of a group or a plan that are decided so far, and their changes of
@@ -35,7 +35,7 @@ pub struct Decided {
 }
 
 impl Decided {
-    /// Appends an answer and its changes.
+    /// Appends the answer to one more request and the changes of rows that the request makes.
     pub fn append(&mut self, answer: Answer, delta: Delta) -> Result<(), AllocError>
         ensures answers { OnOk result
             (self.new.answers.items ≡ self.old.answers.items ++ answer ∷ []) }
@@ -57,18 +57,16 @@ fn is_post_of(key: &Key, command: &Command) -> bool
     }
 }
 
-// Returns the place of a key among the marks. Different keys may have the same place.
+// Returns the place of a posting's key among the marks. Different keys may have the same place.
 #[tactic(auto, unfolding(crate::specs::Groups::place_of_key))]
 fn place_of_key(key: &Key) -> usize
     ensures place { result ≡ place_of_key key.now }
     ensures within { result < PLACES }
 {
-    let mut hasher = FoldHasher::default();
-    hasher.write(key.as_str().as_bytes());
-    (hasher.finish() % 1_024) as usize
+    (digest_of(key) % 1_024) as usize
 }
 
-// Marks the place of a key, and returns whether it was marked.
+// Marks the place of a posting's key, and returns whether the place was marked before.
 #[tactic(auto, using(crate::proofs::GroupLemmas::still_marked, crate::proofs::GroupLemmas::marked_here))]
 fn mark(marks: &mut [bool], key: &Key) -> bool
     requires size { length marks.old ≡ PLACES }
@@ -84,7 +82,7 @@ fn mark(marks: &mut [bool], key: &Key) -> bool
 }
 
 // Checks whether a request is a Post, and none of the earlier requests is a Post with its key;
-// marks its key. It is compared with the others only if its place was marked.
+// marks its key. The key is compared with theirs only if its place was marked before.
 #[tactic(auto, using(crate::proofs::GroupLemmas::unmarked_is_new, crate::proofs::GroupLemmas::marked_more))]
 fn is_new_post(earlier: &[Command], marks: &mut [bool], command: &Command) -> bool
     requires size { length marks.old ≡ PLACES }
@@ -102,15 +100,16 @@ fn is_new_post(earlier: &[Command], marks: &mut [bool], command: &Command) -> bo
     earlier.iter().all(|other| !is_post_of(key, other))
 }
 
-// Checks whether the first `count` requests, which are a group, and the next one are a group.
+// Checks whether the first `count` requests, which are a group, and the next one are a group; marks
+// the key of the next one if it is a Post.
 #[tactic(auto, using(crate::proofs::GroupLemmas::group_grows, std::proofs::lemmas::Option::slice_get_read))]
 fn may_grow(commands: &[Command], marks: &mut [bool], count: usize) -> bool
     requires within { count ≤ length commands.now }
     requires size { length marks.old ≡ PLACES }
     requires marked { AreKeysMarked marks.old (take count commands.now) }
     ensures size { length marks.new ≡ PLACES }
-    ensures grows { IsTrue result → (count < length commands.now) × (IsGroup (take count commands.now)
-        → IsGroup (take (count + 1) commands.now)) }
+    ensures grows { IsTrue result → (count < length commands.now)
+        × (IsGroup (take count commands.now) → IsGroup (take (count + 1) commands.now)) }
     ensures marked { IsTrue result → AreKeysMarked marks.new (take (count + 1) commands.now) }
 {
     let Some(command) = commands.get(count) else {
@@ -139,7 +138,7 @@ pub fn group_length(commands: &[Command]) -> usize
     count
 }
 
-// Appends changes to others.
+// Appends the changes of rows of one more request to those of the requests before it.
 #[tactic(auto, using(std::proofs::Common::append_assoc))]
 fn append_changes(delta: &mut Delta, more: Delta) -> Result<(), AllocError>
     ensures { OnOk result (delta.new ≡ delta.old ++ more) }
@@ -150,8 +149,9 @@ fn append_changes(delta: &mut Delta, more: Delta) -> Result<(), AllocError>
     Ok(())
 }
 
-// Decides one more request on the facts that it needs, and applies it to the core, which holds the
-// state after the requests before it. If memory runs out, the core may be ahead of the tables.
+// Decides one more request on the facts that it needs, and applies it, if it is accepted, to the
+// core, which holds the state after the requests before it. If memory runs out, the core may be
+// ahead of the tables.
 fn decide_with_facts(
     core: &mut Core,
     command: &Command,
@@ -181,35 +181,8 @@ fn decide_with_facts(
     }
 }
 
-// Queries the storage for the facts that one more request of a group needs, and decides it on them.
-// On a fault the core may be ahead of the tables.
-fn decide_next<K: Keeper>(
-    alloc: Global,
-    keeper: &mut K,
-    core: &mut Core,
-    command: &Command,
-    decided: &mut Decided,
-) -> Result<(), Fault>
-    requires { core.old.spent ≡ false }
-    ensures decides { OnOk result ((answer : Answer)
-        × (decided.new.answers.items ≡ decided.old.answers.items ++ answer ∷ [])
-        × ((K.view keeper.new).is_up → (s : State) → IsViewOf core.old s
-        → HasFactsOf (K.view keeper.old).rows command.now s
-        → IsDecided core.old.setting s command.now
-        answer decided.old.delta decided.new.delta core.new)) }
-    ensures usable { OnOk result ((core.new.spent ≡ false)
-        × (core.new.setting ≡ core.old.setting)) }
-    ensures asks { QueryFrame (K.view keeper.old) (K.view keeper.new) result }
-{
-    let facts = match facts_of(alloc, keeper, command) {
-        Ok(facts) => facts,
-        Err(fault) => return Err(fault),
-    };
-    decide_with_facts(core, command, &facts, decided)?;
-    Ok(())
-}
-
-// Decides the requests of a group in order, and applies them to the core.
+// Decides the requests of a group in order, each on the facts that the storage has about it, and
+// applies them to the core. On a fault the core may be ahead of the tables.
 fn decide_group<K: Keeper>(
     alloc: Global,
     keeper: &mut K,
@@ -229,15 +202,16 @@ fn decide_group<K: Keeper>(
         delta: Delta::new(alloc),
     };
     for command in group {
-        match decide_next(alloc, keeper, core, command, &mut decided) {
-            Ok(()) => {}
+        let facts = match facts_of(alloc, keeper, command) {
+            Ok(facts) => facts,
             Err(fault) => return Err(fault),
-        }
+        };
+        decide_with_facts(core, command, &facts, &mut decided)?;
     }
     Ok(decided)
 }
 
-/// Commits changes, if there are any.
+/// Commits changes of rows to the storage in one transaction, if there are any.
 pub fn commit_changes<K: Keeper>(keeper: &mut K, delta: Delta) -> Result<(), Fault>
     requires { DeltaFitsStorage delta (K.view keeper.old) }
     ensures ok { OnOk result ((K.view keeper.new).is_up
@@ -253,7 +227,8 @@ pub fn commit_changes<K: Keeper>(keeper: &mut K, delta: Delta) -> Result<(), Fau
 
 /// Performs the requests of a group, and returns their answers: each is decided in the state that
 /// the core holds after those before it, and the changes of all are committed in one transaction.
-/// On a fault none is performed, and the core is unusable until reloaded.
+/// On a fault the core is unusable until reloaded, and the tables are unchanged, if the storage is
+/// still up.
 pub fn perform_group<K: Keeper>(
     alloc: Global,
     keeper: &mut K,

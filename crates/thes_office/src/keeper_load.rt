@@ -1,4 +1,5 @@
-//! Has the storage yield the rows of its tables to a loader, and returns the core that it builds.
+//! Has the storage yield the rows of its tables to a loader, and returns the core that the loader
+//! builds.
 ghost use Rattle.std.specs.Prelude.{◌≡◌, ◌≢◌, IfOk, IfErr};
 ghost use Rattle.thes_office.specs.Opening.{LoadsCore, LoadsNone};
 ghost use Rattle.thes_office.specs.QueryFrames.{LoadFrame};
@@ -30,8 +31,8 @@ pub fn load<K: Keeper>(alloc: Global, keeper: &mut K, limits: Limits) -> Result<
     }
 }
 
-// Returns a loader's fault unchanged. It is never Store, which only the storage reports and which
-// would become BadStore of meta.
+// Returns a loader's fault unchanged. A loader never reports Store, which only the storage does; it
+// would become BadStore of table meta.
 fn verdict(fault: Fault) -> Fault
     ensures same { fault ≢ Fault.Store → result ≡ fault }
     ensures never { result ≢ Fault.Store }

@@ -106,6 +106,7 @@ impl Loader {
     }
 }
 
+/// Adds each row to the load. A faulty row stops the load, and `finish` returns its fault.
 impl RowSink for Loader {
     ghost gives = { FeedResult };
 

@@ -50,8 +50,8 @@ impl<K: Keeper> Office<K> {
     ghost use Rattle.std.specs.Io.BufRead.{Rests};
     ghost use Rattle.thes_office.specs.Office.{ReadyResult};
 
-    /// Loads the tables of a storage and opens an office over it. A fault comes with the storage:
-    /// OutOfMemory, Store, or what is wrong with the rows.
+    /// Loads the tables of a storage and opens an office over it. A fault is returned with the
+    /// storage: OutOfMemory, Store, or what is wrong with the rows.
     pub fn start(alloc: Global, mut keeper: K, limits: Limits) -> Result<Office<K>, (Fault, K)>
         ensures opened { MatchResult result (IsOpened K.view limits keeper)
             (λ e. IsUnopened K.view keeper e.0 e.1) }
@@ -71,8 +71,8 @@ impl<K: Keeper> Office<K> {
         }
     }
 
-    /// Returns whether the copy may differ from the tables, so that the next call reloads it. The
-    /// tables are consistent either way.
+    /// Returns whether the copy may differ from the tables, so that the next call reloads it. While
+    /// the storage is up, the tables are consistent either way.
     pub fn is_stale(&self) -> bool
         ensures value { result ≡ self.now.stale }
         ensures shows { (K.view self.now.keeper).is_up
@@ -129,8 +129,8 @@ impl<K: Keeper> Office<K> {
     }
 
     /// Performs a request and returns its answer: a refusal if the request breaks a rule. On a
-    /// fault the tables are unchanged. A committed request is always answered, even if memory for
-    /// the copy runs out, which makes the copy stale.
+    /// fault the tables are unchanged, if the storage is still up. If memory runs out after the
+    /// commit, the answer is returned, and the copy is stale.
     pub fn perform(&mut self, command: &Command) -> Result<Answer, Fault>
         ensures fault_behaviour { FaultBehaviour K.view self.old self.new result }
         ensures performed { PerformResult K.view self.old command.now result self.new }
@@ -171,7 +171,8 @@ impl<K: Keeper> Office<K> {
     }
 
     // Performs the requests of a group in one transaction, with a copy that isn't stale, and
-    // appends their answers. A fault makes the copy stale.
+    // appends their answers. A fault makes the copy stale, unless no memory could be reserved for
+    // the answers.
     fn run_group(&mut self, group: &[Command], answers: &mut Vec<Answer>) -> Result<(), Fault>
         requires fresh { self.old.stale ≡ false }
         requires group { IsGroup group.now }
@@ -211,11 +212,11 @@ impl<K: Keeper> Office<K> {
     }
 
     /// Performs requests in order, and appends their answers. Up to 128 posts in a row with
-    /// different keys are performed in one transaction: all of them, or none. A fault stops the
-    /// run; the requests answered before it stay performed. The tables after the run are
-    /// consistent. Each posting accepted and not withdrawn is assigned to exactly one live concept,
-    /// to which its moves lead from its first concept. The counts of live concepts add up to the
-    /// number of such postings. The triples meet the conditions of SKOS.
+    /// different keys are performed in one transaction: all or none. A fault stops the run; the
+    /// requests answered before it stay performed. If the storage is still up, the tables after the
+    /// run are consistent. Each posting accepted and not withdrawn is assigned to exactly one live
+    /// concept, to which its moves lead from its first concept. The counts of live concepts add up
+    /// to the number of such postings. The triples meet the conditions of SKOS.
     pub fn run(&mut self, commands: &[Command], answers: &mut Vec<Answer>) -> Result<(), Fault>
         ensures fault_behaviour { FaultBehaviour K.view self.old self.new result }
         ensures ran { RunResult K.view self.old commands.now

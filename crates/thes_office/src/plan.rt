@@ -11,7 +11,7 @@ ghost use Rattle.thes_core.specs.Facts.{AreFacts};
 ghost use Rattle.thes_core.specs.UndoLogs.{IsLogOf};
 ghost use Rattle.thes_store.specs.Storage.{CommitFrame, QueryFrame};
 ghost use Rattle.thes_office.specs.Office.{IsCopy};
-ghost use Rattle.thes_office.specs.PlanDecisions.{DecidesCommand, DecidesRequest, HasEachDecision, IsDecidedAndLogged};
+ghost use Rattle.thes_office.specs.PlanDecisions.{DecidesRequest, HasEachDecision, IsDecidedAndLogged};
 ghost use Rattle.thes_office.specs.PlanDecisions.{IsPlanDecision, IsUsableAfter, MayDecidePlan, refusal_in};
 ghost use Rattle.thes_office.specs.Plans.{TablesAfterPlan};
 
@@ -31,11 +31,11 @@ use thes_tables::delta::Delta;
 /// The decisions on the requests of a plan so far.
 #[derive(Drop)]
 pub struct PlanProgress {
-    // Their answers, and their changes of rows.
+    // The answers to these requests, and their changes of rows.
     decided: Decided,
-    // The postings that they have changed.
+    // The postings that these requests have changed.
     postings: PlanPostings,
-    // Those that the core has applied.
+    // The requests that the core has applied.
     log: UndoLog,
 }
 
@@ -44,11 +44,11 @@ pub struct PlanProgress {
 pub enum PlanDecision {
     /// The answers to all requests, and their changes of rows.
     Accepted(Vec<Answer>, Delta),
-    /// The place of the first refused request, and its refusal.
+    /// The place of the first refused request, counted from 1, and its refusal.
     Refused(usize, Refusal),
 }
 
-// Returns the refusal that the last answer has, if it is one.
+// Returns the refusal that the last answer is; None if that answer isn't a refusal.
 fn last_refusal(answers: &[Answer]) -> Option<Refusal>
     ensures { (before : List Answer) (last : Answer) → answers.now ≡ before ++ last ∷ []
         → result ≡ refusal_in last }
@@ -59,14 +59,14 @@ fn last_refusal(answers: &[Answer]) -> Option<Refusal>
     }
 }
 
-// Returns the number of changes.
+// Returns the number of changes of rows.
 fn change_count(delta: &Delta) -> usize
     ensures { result ≡ length delta.now }
 {
     delta.as_slice().len()
 }
 
-// Returns the changes from an index on.
+// Returns the changes of rows from an index on.
 fn changes_from(delta: &Delta, index: usize) -> &[Change]
     requires { index ≤ length delta.now }
     ensures { result.now ≡ drop index delta.now }
@@ -86,7 +86,8 @@ fn decide_and_log(
     ensures decides { OnOk result ((answer : Answer) × (progress.new.decided.answers.items
         ≡ progress.old.decided.answers.items ++ answer ∷ [])
         × ((s : State) → IsViewOf core.old s → AreFacts command s.histories facts.now
-        → IsDecidedAndLogged core.old.setting s command answer progress.old progress.new core.new)) }
+        → IsDecidedAndLogged core.old.setting s command answer progress.old progress.new
+        core.new)) }
     ensures grows { OnOk result (length progress.old.decided.delta
         ≤ length progress.new.decided.delta) }
     ensures kept { OnOk result (progress.new.postings ≡ progress.old.postings) }
@@ -109,38 +110,9 @@ fn decide_and_log(
     }
 }
 
-// Decides one more command of a plan, and applies it to the core, which holds the state after those
-// before it. On a fault the core may be ahead of the tables.
-fn decide_command<K: Keeper>(
-    alloc: Global,
-    keeper: &mut K,
-    core: &mut Core,
-    command: Command,
-    progress: &mut PlanProgress,
-) -> Result<(), Fault>
-    requires { core.old.spent ≡ false }
-    ensures decides { OnOk result ((answer : Answer) × (progress.new.decided.answers.items
-        ≡ progress.old.decided.answers.items ++ answer ∷ []) × ((K.view keeper.new).is_up
-        → DecidesCommand (K.view keeper.old).rows progress.old progress.new core.old core.new
-        command answer)) }
-    ensures grows { OnOk result (length progress.old.decided.delta
-        ≤ length progress.new.decided.delta) }
-    ensures kept { OnOk result (progress.new.postings ≡ progress.old.postings) }
-    ensures usable { OnOk result ((core.new.spent ≡ false)
-        × (core.new.setting ≡ core.old.setting)) }
-    ensures logs { OnOk result (IsLogOf progress.old.log core.old
-        → IsLogOf progress.new.log core.new) }
-    ensures asks { QueryFrame (K.view keeper.old) (K.view keeper.new) result }
-{
-    let facts = match facts_in_plan(alloc, keeper, &progress.postings, &command) {
-        Ok(facts) => facts,
-        Err(fault) => return Err(fault),
-    };
-    decide_and_log(core, command, &facts, progress)?;
-    Ok(())
-}
-
-// Decides one more command of a plan, and records the postings that it changes.
+// Decides one more command of a plan in the state after those before it, which the core holds. If
+// the command is accepted, applies it to the core and records the postings that it changes. On a
+// fault the core may be ahead of the tables.
 fn decide_and_record<K: Keeper>(
     alloc: Global,
     keeper: &mut K,
@@ -159,11 +131,12 @@ fn decide_and_record<K: Keeper>(
         → IsLogOf progress.new.log core.new) }
     ensures asks { QueryFrame (K.view keeper.old) (K.view keeper.new) result }
 {
-    let before = change_count(&progress.decided.delta);
-    match decide_command(alloc, keeper, core, command, progress) {
-        Ok(()) => {}
+    let facts = match facts_in_plan(alloc, keeper, &progress.postings, &command) {
+        Ok(facts) => facts,
         Err(fault) => return Err(fault),
-    }
+    };
+    let before = change_count(&progress.decided.delta);
+    decide_and_log(core, command, &facts, progress)?;
     let changes = changes_from(&progress.decided.delta, before);
     match progress.postings.record_changes(keeper, changes) {
         Ok(()) => Ok(()),
@@ -171,7 +144,8 @@ fn decide_and_record<K: Keeper>(
     }
 }
 
-// Decides one more request of a plan, and returns its refusal, if it is refused.
+// Decides one more request of a plan, with its references replaced by numbers, and returns its
+// refusal, if it is refused.
 fn decide_request<K: Keeper>(
     alloc: Global,
     keeper: &mut K,
@@ -198,8 +172,8 @@ fn decide_request<K: Keeper>(
     }
 }
 
-// Decides the requests of a plan in order, and applies them to the core. At the first that is
-// refused it takes those before it back; the core is unusable if that fails.
+// Decides the requests of a plan in order, and applies them to the core. At the first refusal the
+// requests before it are taken back in the core, which is unusable if that fails.
 fn decide_plan<K: Keeper>(
     alloc: Global,
     keeper: &mut K,
@@ -243,9 +217,10 @@ fn decide_plan<K: Keeper>(
 }
 
 /// Performs the requests of a plan in order: each is decided in the state that the core holds after
-/// those before it. If all are accepted, their changes are committed in one transaction. If one is
-/// refused, the tables are unchanged, and those before it are taken back in the core, or the core
-/// is unusable until reloaded. On a fault the tables are unchanged, and the core is unusable.
+/// those before it. If none is refused, their changes are committed in one transaction. If one is
+/// refused, those before it are taken back in the core, or the core is unusable until reloaded. On
+/// a fault the core is unusable. After a refusal or a fault the tables are unchanged, if the
+/// storage is still up.
 pub fn perform_plan<K: Keeper>(
     alloc: Global,
     keeper: &mut K,

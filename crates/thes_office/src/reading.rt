@@ -79,8 +79,8 @@ fn list<K: Keeper, S: PostingSink>(
 }
 
 impl<K: Keeper> Office<K> {
-    /// Returns the numbers of postings accepted, withdrawn, and accepted but not withdrawn, from
-    /// the counts of the copy.
+    /// Returns the numbers of postings accepted, withdrawn, and not withdrawn, from the copy's
+    /// counts.
     pub fn totals(&mut self) -> Result<Totals, Fault>
         ensures frame { OfficeQueryFrame K.view self.old self.new result }
         ensures in_tables { IfOk result (λ totals. (K.view self.new.keeper).is_up
@@ -111,7 +111,7 @@ impl<K: Keeper> Office<K> {
 
     /// Yields to a sink the postings assigned to a concept, in the order of their numbers, or
     /// returns the refusal of a number that isn't a concept's. On a fault the sink has received a
-    /// prefix of these postings.
+    /// prefix of these postings, if the storage is still up.
     pub fn postings<S: PostingSink>(
         &mut self,
         concept: ResNo,

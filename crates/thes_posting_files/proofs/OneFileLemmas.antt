@@ -22,7 +22,7 @@ none_follows cfg s text (r ∷ rest) end are =
     absurd (let bad : Some are.2.0 ≡ None = sym are.2.1 ∙ end in cc)
 
 -- A text has at most one list of records.
-one_list_of_records : (cfg : Config) (s : State) (text : List ℕ) (xs ys : List (List (List ℕ)))
+pub one_list_of_records : (cfg : Config) (s : State) (text : List ℕ) (xs ys : List (List (List ℕ)))
     → AreRecords cfg s text xs → AreRecords cfg s text ys → xs ≡ ys
 one_list_of_records cfg s text xs ys a b =
     let more = records_after cfg s a.0 text a.1 xs ys a.2 b in
@@ -65,7 +65,7 @@ one_posting_row key rec concept (Bad f) (Post k r n) a b =
     absurd (posting_has_no_fault key rec concept k r n f b a)
 one_posting_row key rec concept (Bad f) (Bad g) a b = ap Bad (one_fault key rec concept f g a b)
 
-one_row : (fields : List (List ℕ)) (x y : CsvRow) → IsCsvRow fields x → IsCsvRow fields y → x ≡ y
+pub one_row : (fields : List (List ℕ)) (x y : CsvRow) → IsCsvRow fields x → IsCsvRow fields y → x ≡ y
 one_row [] x y a b = a ∙ sym b
 one_row (key ∷ []) x y a b = a ∙ sym b
 one_row (key ∷ rec ∷ []) x y a b = a ∙ sym b

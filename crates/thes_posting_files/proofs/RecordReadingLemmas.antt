@@ -79,6 +79,16 @@ records_exist cfg (suc n) s text below =
         let rest = later p e in
         (p.0 ∷ rest.0, (rest.1.0, rest.1.1, (p, e, refl, rest.1.2), rest.1.3))
 
+-- A text has no more records than the bound.
+pub records_few : (cfg : Config) (s : State) (text : List ℕ) (records : List (List (List ℕ)))
+    → AreRecords cfg s text records → length records ≤ most_records s (Some text)
+unfolding Reached
+records_few cfg s text [] are = omega arith
+records_few cfg s text (r ∷ records) are =
+    let fewer = fewer_records cfg s [] [] text are.2.0 are.2.1 in
+    let rest = records_few cfg are.2.0.1 are.2.0.2 records (are.0, are.1, are.2.3, are.3) in
+    omega (arith, fewer, rest)
+
 -- The records read are the first records of the text.
 pub records_after : (cfg : Config) (s s' : State) (text unread : List ℕ) (first all : List (List (List ℕ)))
     → Reached cfg s text first s' unread → AreRecords cfg s text all
@@ -109,10 +119,8 @@ strip_shorter : (text : List ℕ) → length (strip_bom text) ≤ length text
 unfolding strip_bom
 strip_shorter text = grind (arith, common_steps)
 
-pub most_at_start : (bytes : List ℕ) (reader : Reader (Bor (List ℕ))) → HasReadTo bytes [] reader
-    → most_left reader ≤ length bytes + length bytes
-unfolding Reached
-most_at_start bytes reader h = grind (arith, common_steps, strip_shorter)
+pub few_at_start : (bytes : List ℕ) → most_records st.StartRecord (Some (strip_bom bytes)) ≤ length bytes + length bytes
+few_at_start bytes = grind (arith, common_steps, strip_shorter)
 
 -- A call of the CSV reader reads one more record, or finds none left.
 

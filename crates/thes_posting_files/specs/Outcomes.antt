@@ -23,7 +23,7 @@ post_in (row.Bad fault) = None
 abbrev pub posts_of : List CsvRow → List Command
 posts_of rows = filter_map post_in rows
 
--- The fault of a row that isn't a posting.
+-- The fault of a row that isn't a posting; None for a posting.
 abbrev pub fault_of_row : CsvRow → Option FormFault
 fault_of_row (row.Post key rec concept) = None
 fault_of_row (row.Bad fault) = Some fault

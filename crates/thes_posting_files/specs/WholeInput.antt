@@ -1,4 +1,4 @@
--- The bytes of an input that is read to its end, within a limit, and the faults that prevent this.
+-- The bytes of an input that is read to its end, within a limit of bytes, and the faults that prevent this.
 use Rattle.std.specs.Prelude.{◌≡◌, ◌⊎◌, ◌≤◌, ◌<◌, ℕ, Bool, true, false, List, length, Option, Result, IfOk, IfErr, OnOk}
 use Rattle.std.specs.Io.KnownBytes.{Consumes, IsAtEnd}
 use Rattle.thes_base.specs.Pipe.{IsFresh, PaysCalls, denied_of, ended_of, failed_of, unread_bytes}

@@ -1,5 +1,5 @@
 //! Blocks of rows, with the requests of those that are postings.
-ghost use Rattle.std.specs.Prelude.{◌≡◌, ◌++◌, ◌∷◌, [], IfOk, OnOk, map};
+ghost use Rattle.std.specs.Prelude.{◌≡◌, ◌++◌, ◌∷◌, [], OnOk};
 ghost use Rattle.thes_posting_files.specs.Outcomes.{fault_of_row, posts_of};
 
 use crate::csv_row::CsvRow;
@@ -16,8 +16,19 @@ pub struct Block {
 }
 
 impl Block {
-    // Appends a row: its request, or its fault.
-    fn push(&mut self, row: CsvRow) -> Result<(), AllocError>
+    /// Returns a block of no rows.
+    pub fn new(alloc: Global) -> Block
+        ensures posts { result.posts.items ≡ [] }
+        ensures faults { result.faults.items ≡ [] }
+    {
+        Block {
+            posts: Vec::new(alloc),
+            faults: Vec::new(alloc),
+        }
+    }
+
+    /// Appends a row: its request, or its fault.
+    pub fn push(&mut self, row: CsvRow) -> Result<(), AllocError>
         ensures posts { OnOk result
             (self.new.posts.items ≡ self.old.posts.items ++ posts_of (row ∷ [])) }
         ensures faults { OnOk result
@@ -35,19 +46,4 @@ impl Block {
             }
         }
     }
-}
-
-/// Collects the requests and the faults of rows in a block.
-pub fn block_of(alloc: Global, rows: Vec<CsvRow>) -> Result<Block, AllocError>
-    ensures posts { IfOk result (λ block. block.posts.items ≡ posts_of rows.items) }
-    ensures faults { IfOk result (λ block. block.faults.items ≡ map fault_of_row rows.items) }
-{
-    let mut block = Block {
-        posts: Vec::new(alloc),
-        faults: Vec::new(alloc),
-    };
-    for row in rows {
-        block.push(row)?;
-    }
-    Ok(block)
 }

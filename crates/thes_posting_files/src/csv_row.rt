@@ -19,7 +19,7 @@ pub enum CsvRow {
     Bad(FormFault),
 }
 
-// Returns the field as a text, if it is UTF-8.
+// Returns the field of a posting file as a text, if it is UTF-8.
 fn text_of(bytes: &[u8]) -> Option<&str>
     ensures { MatchOption result (¬ IsUtf8 bytes.now)
         (λ text. (text.now ≡ bytes.now) × IsUtf8 bytes.now) }
@@ -27,7 +27,7 @@ fn text_of(bytes: &[u8]) -> Option<&str>
     str::from_utf8(bytes).ok()
 }
 
-// Reads a field as a sender's key, or returns `BadKey`.
+// Reads a field of a posting file as a sender's key, or returns `BadKey`.
 fn read_key(alloc: Global, bytes: &[u8]) -> Result<Key, ReadStop>
     ensures { IsReadResult (IsField IsKey bytes.now) FormFault.BadKey (λ key. key ≡ bytes.now)
         result }
@@ -38,7 +38,7 @@ fn read_key(alloc: Global, bytes: &[u8]) -> Result<Key, ReadStop>
     }
 }
 
-// Reads a field as the name of a record, or returns `BadRecord`.
+// Reads a field of a posting file as the name of a record, or returns `BadRecord`.
 fn read_record(alloc: Global, bytes: &[u8]) -> Result<RecordName, ReadStop>
     ensures { IsReadResult (IsField IsRecordName bytes.now) FormFault.BadRecord
         (λ rec. rec ≡ bytes.now) result }
@@ -49,7 +49,7 @@ fn read_record(alloc: Global, bytes: &[u8]) -> Result<RecordName, ReadStop>
     }
 }
 
-// Reads a field as the number of a concept in decimal, or returns `BadNumber`.
+// Reads a field of a posting file as the number of a concept in decimal, or returns `BadNumber`.
 fn read_number(bytes: &[u8]) -> Result<ResNo, FormFault>
     ensures { ReadsField bytes.now result }
 {
@@ -59,7 +59,7 @@ fn read_number(bytes: &[u8]) -> Result<ResNo, FormFault>
     }
 }
 
-// Returns the field with this index, counted from 0.
+// Returns the field of a record of CSV with this index, counted from 0.
 #[tactic(auto, using(crate::proofs::RecordLemmas::field_is_some, crate::proofs::RecordLemmas::field_value))]
 pub(crate) fn field(entry: &ByteRecord, i: usize) -> &[u8]
     requires { i < length (fields_of entry.now) }
@@ -89,7 +89,8 @@ fn read_fields(alloc: Global, key: &[u8], name: &[u8], concept: &[u8]) -> Result
     }
 }
 
-/// Reads a record as a row; a record with more or fewer than three fields is `BadShape`.
+/// Reads a record as a row of a posting file; a record with more or fewer than three fields is
+/// `BadShape`.
 pub fn read_row(alloc: Global, entry: &ByteRecord) -> Result<CsvRow, AllocError>
     ensures { IfOk result (IsCsvRow (fields_of entry.now)) }
 {

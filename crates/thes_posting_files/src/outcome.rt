@@ -84,10 +84,10 @@ pub(crate) fn next_outcome(
     }
 }
 
-/// The greatest length of a line, in bytes.
+/// The greatest length of a report's line, with its line feed, in bytes.
 pub const LINE_LIMIT: usize = 64;
 
-// Appends a text for which the capacity suffices; allocates nothing.
+// Appends a part of a report's line, for which the capacity suffices; allocates nothing.
 fn push_text(text: &mut Vec<u8>, more: &str)
     requires { vec_len text.old + length more.now ≤ vec_capacity text.old }
     ensures items { text.new.items ≡ text.old.items ++ more.now }

@@ -1,4 +1,4 @@
-//! Reads an input to its end, within a limit.
+//! Reads an input, such as a posting file, to its end, within a limit of bytes.
 ghost use Rattle.std.specs.Prelude.{◌≤◌, ◌<◌, length, IfOk, IfErr};
 ghost use Rattle.thes_base.specs.Pipe.{IsFresh, PaysCalls};
 ghost use Rattle.thes_posting_files.specs.WholeInput.{IsInputFault, IsWhole, ReadsNext};
@@ -8,8 +8,8 @@ use std::io::Read;
 use thes_base::fault::PipeFault;
 use thes_base::pipe::{Budget, Pipe};
 
-// Reads into the chunk, and appends the bytes read; returns `false` at the end of the input. Bytes
-// that would exceed the limit are `TooLong`, and are not appended.
+// Reads more of an input into the chunk, and appends the bytes read; returns `false` at the end of
+// the input. Bytes that would exceed the limit are `TooLong`, and are not appended.
 #[tactic(auto, using(crate::proofs::WholeInputLemmas::gives_more))]
 fn read_more<R: Read>(
     reader: &mut Pipe<R>,

@@ -1,15 +1,17 @@
 -- Proves that a load passes the rows that it finds, in a database that may hold anything.
 use Rattle.std.proofs.lemmas.Grind.{common_steps}
 use Rattle.std.proofs.Common.{◌≡◌, ◌<◌, ◌+◌, ◌∙◌, ℕ, List, [], ◌∷◌, ◌++◌, length, take, get_or, append-nil}
-use Rattle.std.proofs.Common.{append_assoc, false, inl}
+use Rattle.std.proofs.Common.{append_assoc, Bool, false, inl}
 use Rattle.std.proofs.Common.{Option, None, Result, Ok, Err, OnOk, refl, sym, ap, subst, arith, IsTrue}
 use Rattle.sqlite.specs.Effect.{Database}
 use Rattle.sqlite.specs.Held.{Held, state}
+use Rattle.sqlite.specs.State.{HasCleanDisk}
 use Rattle.sqlite_trees.specs.declared.store.Store.{Ghosts}
 use Rattle.thes_base.specs.declared.fault.Fault.{Fault}
 use Rattle.thes_base.specs.declared.fault.Table.{Table}
 use Rattle.thes_base.specs.declared.fault.Table.TheVariants as table
 use Rattle.thes_tables.specs.declared.cells.Cell.{Cell}
+use Rattle.thes_tables.specs.declared.change.Change.{Change}
 use Rattle.thes_tables.specs.Cells.{Raw, RawTable}
 use Rattle.thes_sql.specs.Declarations.{declares}
 use Rattle.thes_sql.specs.Reads.{LeavesTables}
@@ -23,6 +25,7 @@ use Rattle.thes_sqlite.specs.FoundRows.{FindsTable, AreFoundRows, PassesTable, P
 use Rattle.thes_sqlite.specs.FoundRows.{FindsInKeeper, IsKeeperOpen}
 use Rattle.thes_sqlite.specs.MigrationEffects.{LeavesUnwritten}
 use Rattle.thes_sqlite.specs.RowReads.{YieldsTable}
+use Rattle.thes_sqlite.specs.Telling.{Tells}
 use Rattle.thes_sqlite.proofs.KeeperLemmas.{before_read, tables_then}
 
 -- The rows of the tables so far and those of one more table.
@@ -141,6 +144,13 @@ module _ {R : Type 0} (gives : R → Table × Option (List Cell) → Result (Uni
 pub unwritten : {S : Type 0} (g : Ghosts S) (old new : Held S) → LeavesTables g old new
     → (IsTrue (state g old).is_open → (state g old).now ≡ (state g old).committed) → LeavesUnwritten g old new
 unwritten g old new leaves settled up = grind (arith, common_steps, before_read)
+
+-- What a database told before a query, which left it unwritten, holds after it.
+pub tells_after : {S : Type 0} (g : Ghosts S) (changes : List Change) (old new : Held S) (answer : Option Bool)
+    → LeavesUnwritten g old new → (HasCleanDisk (state g new) → Tells changes (state g old).now answer)
+    → IsUp (state g new) → Tells changes (state g new).now answer
+tells_after g changes old new answer leaves tells up =
+    subst (λ (db : Database). Tells changes db answer) (sym (leaves up).1.0) (tells up.0)
 
 module _ {S R : Type 0} (g : Ghosts S)
     (gives : R → Table × Option (List Cell) → Result (Unit {0}) Fault → R → Type 0) where

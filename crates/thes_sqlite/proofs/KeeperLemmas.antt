@@ -2,7 +2,7 @@
 -- to the rows.
 use Rattle.std.proofs.lemmas.Grind.{common_steps}
 use Rattle.std.proofs.Common.{arith, inl, inr, pos, ◌≡◌, ℕ, ◌+◌, List, [], ◌∷◌, map, Bool, Option, None, Some, Result}
-use Rattle.std.proofs.Common.{false, Ok, Err, refl, sym, ap, subst, ◌∙◌, IsTrue}
+use Rattle.std.proofs.Common.{false, Ok, Err, IfOk, refl, sym, ap, subst, ◌∙◌, IsTrue}
 use Rattle.std.specs.Prelude.{IsUtf8}
 use Rattle.std.specs.List.{AllByRecursion}
 use Rattle.sqlite.specs.Order.{Row, column}
@@ -38,7 +38,7 @@ use Rattle.thes_sql.proofs.KeyedRowLemmas.{is_table}
 use Rattle.thes_sqlite.specs.KeeperView.{raw_in, raw_of_keeper, KeeperView, IsKeeperUp, IsUp, HasCommittedTables}
 use Rattle.thes_sqlite.specs.KeeperView.{IsStore, IsKeeperState, LeavesEither, LeavesAfter}
 use Rattle.thes_store.specs.Storage.{RawAfterChanges}
-use Rattle.thes_sqlite.specs.Commits.{DatabaseFrame}
+use Rattle.thes_sqlite.specs.Commits.{AppliesAll, DatabaseFrame}
 use Rattle.thes_sqlite.specs.ValueCells.{cell_of}
 use Rattle.thes_sqlite.proofs.ValueLemmas.{text_cell}
 
@@ -320,3 +320,15 @@ module _ {S : Type 0} (g : Ghosts S) (start old new : Held S) (same : start ≡ 
   pub frame_of_fault : {T E : Type 0} (error : Error) (fault : E) → r ≡ Err error
       → DatabaseFrame {T = T} g old new (Err fault)
   frame_of_fault {T} {E} error fault is = grind (arith, common_steps, before_commit)
+
+-- A commit that succeeded has made its changes, of whatever store.
+pub applies_done : {S E : Type 0} (g : Ghosts S) (inside old new : Held S) (changes : List Change) (r : Result Bool E)
+    (done : Bool) → r ≡ Ok done → inside ≡ old → inside.in_transaction ≡ false → IsOwnTransaction g inside new r
+    → (HasCleanDisk (state g new) → IfOk r (λ d. IsTrue d → (t : Tables) → Keeps (state g inside).now t
+    → DeltaFits changes t
+    → KeepsIn (state g inside).now.schema (state g new).committed (tables_after_delta changes t)
+    × KeepsIn (state g inside).now.schema (state g new).now (tables_after_delta changes t)))
+    → AppliesAll g changes old new
+applies_done {S} g inside old new changes (Ok d) done is same idle own all clean t keeps fits =
+    (all clean (own.begins idle) t (subst (λ (h : Held S). Keeps (state g h).now t) (sym same) keeps) fits).1.keeps
+applies_done g inside old new changes (Err e) done is same idle own all clean t keeps fits = absurd (cc)

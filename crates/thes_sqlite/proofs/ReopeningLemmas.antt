@@ -1,11 +1,15 @@
 -- Proves what storage that opens its database again returns of its first connection.
-use Rattle.std.proofs.Common.{◌≡◌, ◌∙◌, Bool, true, false, Option, Some, sym, ap, subst}
+use Rattle.std.proofs.Common.{◌≡◌, ◌∙◌, inl, inr, List, Bool, true, false, Option, None, Some, refl, sym, ap, subst}
 use Rattle.sqlite.specs.Held.{Held, state}
-use Rattle.sqlite.specs.Schema.{Schema}
+use Rattle.sqlite.specs.State.{HasCleanDisk}
 use Rattle.sqlite_trees.specs.declared.store.Store.{Ghosts}
-use Rattle.thes_tables.specs.Tables.{Tables}
+use Rattle.sqlite_wal.specs.Recovery.{Image}
+use Rattle.thes_tables.specs.declared.change.Change.{Change}
+use Rattle.thes_sqlite.specs.DatabaseFiles.{ServesFiles}
 use Rattle.thes_sqlite.specs.KeeperView.{KeeperView, IsKeeperState}
-use Rattle.thes_sqlite.specs.Reopening.{ReopeningView, IsOfFiles, ReturnsFirst, first_storage}
+use Rattle.thes_sqlite.specs.MigrationEffects.{LeavesUnwritten}
+use Rattle.thes_sqlite.specs.Reopening.{ReopeningView, IsKeptOrLost, IsOfFiles, LosesShut, ReturnsFirst}
+use Rattle.thes_sqlite.specs.Reopening.{ShowsChanges, StaysUnwritten, TellsOpen, first_storage}
 
 -- A connection that was opened again isn't reported as the first one.
 pub reports_reopened : {A : Type 0} (o : A) (returned : A × Bool) → returned ≡ (o, true) → returned.1 ≡ false → ⊥
@@ -13,19 +17,119 @@ reports_reopened {A} o returned is stays =
     let reported : returned.1 ≡ true = ap (λ (r : A × Bool). r.1) is in absurd (cc)
 
 -- The connection of a storage is returned as its first one.
-pub returns_first : {S : Type 0} (g : Ghosts S) (held : Schema → Tables → Type 0) (v : ReopeningView S)
+pub returns_first : {S : Type 0} (g : Ghosts S) (image : Image) (v : ReopeningView S)
     (is_reopened : Bool) (storage : Option (KeeperView S)) (k : KeeperView S) (conn : Held S)
     (returned : Option (Held S) × Bool)
     → first_storage is_reopened storage ≡ v.first → storage ≡ Some k
-    → IsOfFiles g held (first_storage is_reopened storage) → conn ≡ k.conn
+    → IsOfFiles g image (first_storage is_reopened storage) → conn ≡ k.conn
     → IsKeeperState (state g k.first) (state g k.conn) → returned ≡ (Some conn, is_reopened) → returned.1 ≡ false
-    → ReturnsFirst g held v returned.0
-returns_first g held v true storage k conn returned is some known same kept returns stays =
+    → ReturnsFirst g image v returned.0
+returns_first g image v true storage k conn returned is some known same kept returns stays =
     absurd (reports_reopened (Some conn) returned returns stays)
-returns_first g held v false storage k conn returned is some known same kept returns stays = record {
+returns_first g image v false storage k conn returned is some known same kept returns stays = record {
   keeper = k;
   first_is = sym is ∙ some;
   conn_is = ap (λ (r : Option (Held _) × Bool). r.0) returns ∙ ap (λ (c : Held _). Some c) same;
-  of_files = subst (IsOfFiles g held) some known;
+  of_files = subst (IsOfFiles g image) some known;
   kept = kept;
 }
+
+-- A connection of which a query found that it is shut is shut after the query, too.
+pub still_shut : {S : Type 0} (g : Ghosts S) (old new : Held S) → LeavesUnwritten g old new
+    → (HasCleanDisk (state g new) → (state g old).is_open ≡ false) → HasCleanDisk (state g new)
+    → (state g new).is_open ≡ false
+still_shut g old new leaves shut clean = go (state g new).is_open refl
+  where
+    go : (b : Bool) → (state g new).is_open ≡ b → (state g new).is_open ≡ false
+    go false is = is
+    go true is =
+        let open_before : (state g old).is_open ≡ true = (leaves (clean, is)).0.1 in
+        let shut_before = shut clean in absurd (cc)
+
+pub same_keeper : {A : Type 0} (k l : A) → Some k ≡ Some l → k ≡ l
+same_keeper k l same = cc
+
+-- The first connection is lost, of which a query found that it is shut.
+pub loses_shut : {S : Type 0} (g : Ghosts S) (image : Image) (is_reopened : Bool)
+    (storage lost after : Option (KeeperView S)) (k l taken : KeeperView S)
+    → IsOfFiles g image (first_storage is_reopened storage) → is_reopened ≡ false → storage ≡ Some k → lost ≡ Some l
+    → l.first ≡ k.first → LeavesUnwritten g k.conn l.conn
+    → (HasCleanDisk (state g l.conn) → (state g k.conn).is_open ≡ false)
+    → taken ≡ l → IsKeeperState (state g taken.first) (state g taken.conn) → IsKeptOrLost g image true after lost
+loses_shut g image true storage lost after k l taken files fresh is was first leaves shut same held_on = absurd (cc)
+loses_shut g image false None lost after k l taken files fresh is was first leaves shut same held_on = absurd (cc)
+loses_shut g image false (Some j) None after k l taken files fresh is was first leaves shut same held_on = absurd (cc)
+loses_shut {S} g image false (Some j) (Some m) after k l taken files fresh is was first leaves shut same held_on =
+    let start : m.first ≡ j.first =
+    ap (λ (x : KeeperView S). x.first) (same_keeper m l was) ∙ first
+    ∙ ap (λ (x : KeeperView S). x.first) (sym (same_keeper j k is)) in record {
+      of_files = subst (λ (h : Held S). ServesFiles image (state g h)) (sym start) files;
+      kept = subst (λ (x : KeeperView S). IsKeeperState (state g x.first) (state g x.conn))
+          (same ∙ sym (same_keeper m l was)) held_on;
+      is_shut = subst (λ (x : KeeperView S). HasCleanDisk (state g x.conn) → (state g x.conn).is_open ≡ false)
+          (sym (same_keeper m l was)) (still_shut g k.conn l.conn leaves shut);
+    }
+
+-- What was lost before stays lost.
+pub stays_lost : {S : Type 0} (g : Ghosts S) (image : Image) (is_reopened : Bool)
+    (storage lost later after : Option (KeeperView S)) → IsKeptOrLost g image is_reopened storage lost
+    → is_reopened ≡ true → later ≡ lost → IsKeptOrLost g image true after later
+stays_lost g image false storage lost later after kept before same = absurd (cc)
+stays_lost g image true storage None later after kept before same = absurd kept
+stays_lost {S} g image true storage (Some k) later after kept before same =
+    subst (λ (l : Option (KeeperView S)). IsKeptOrLost g image true after l) (sym same) kept
+
+-- Storage that has lost its first connection keeps that fact.
+pub is_lost : {S : Type 0} (g : Ghosts S) (image : Image) (is_reopened : Bool)
+    (storage lost after : Option (KeeperView S)) → IsKeptOrLost g image is_reopened storage lost
+    → first_storage is_reopened storage ≡ None → IsKeptOrLost g image true after lost
+is_lost g image true storage (Some k) after kept none = kept
+is_lost g image true storage None after kept none = absurd kept
+is_lost g image false None lost after kept none = absurd kept
+is_lost g image false (Some k) lost after kept none = absurd (cc)
+
+-- A database that was opened again lost its first connection shut.
+pub lost_when_reopened : {S : Type 0} (g : Ghosts S) (image : Image) (is_reopened : Bool)
+    (storage lost : Option (KeeperView S)) → IsKeptOrLost g image is_reopened storage lost → is_reopened ≡ true
+    → (k : KeeperView S) × LosesShut g image k
+lost_when_reopened g image true storage (Some k) kept again = (k, kept)
+lost_when_reopened g image true storage None kept again = absurd kept
+lost_when_reopened g image false storage lost kept again = absurd (cc)
+
+-- Without a connection the first one was lost.
+pub reopened_without : {S : Type 0} (g : Ghosts S) (image : Image) (is_reopened : Bool)
+    (storage lost : Option (KeeperView S)) → IsKeptOrLost g image is_reopened storage lost → storage ≡ None
+    → is_reopened ≡ true
+reopened_without g image true storage lost kept none = refl
+reopened_without g image false None lost kept none = absurd kept
+reopened_without g image false (Some k) lost kept none = absurd (cc)
+
+-- What the open database tells is an answer.
+pub shows_answer : {S : Type 0} (g : Ghosts S) (changes : List Change) (old new : ReopeningView S) (found : Bool)
+    → TellsOpen g changes new.storage found → ShowsChanges g changes old new found
+shows_answer g changes old new true tells = tells
+shows_answer g changes old new false tells = inr (inl tells)
+
+-- A connection that isn't used stays unwritten.
+pub stays_itself : {S : Type 0} (g : Ghosts S) (storage : Option (KeeperView S)) → StaysUnwritten g storage storage
+stays_itself g None = tt
+stays_itself g (Some k) = λ up. (up, (refl, refl))
+
+stays_then : {S : Type 0} (g : Ghosts S) (a b c : Option (KeeperView S)) → StaysUnwritten g a b → StaysUnwritten g b c
+    → StaysUnwritten g a c
+stays_then g None None None p q = tt
+stays_then g None None (Some m) p q = absurd q
+stays_then g None (Some l) c p q = absurd p
+stays_then g (Some k) None c p q = absurd p
+stays_then g (Some k) (Some l) None p q = absurd q
+stays_then g (Some k) (Some l) (Some m) p q = λ up.
+    let later = q up in
+    let before = p later.0 in
+    (before.0, (later.1.0 ∙ before.1.0, later.1.1 ∙ before.1.1))
+
+-- A fault of a commit that wrote nothing, after which the database didn't show the changes.
+pub ends_fault : {S : Type 0} (g : Ghosts S) (changes : List Change) (old mid new : ReopeningView S)
+    → StaysUnwritten g old.storage mid.storage → ShowsChanges g changes mid new false
+    → ShowsChanges g changes old new false
+ends_fault g changes old mid new none (inl stays) = inl (stays_then g old.storage mid.storage new.storage none stays)
+ends_fault g changes old mid new none (inr told) = inr told

@@ -36,6 +36,7 @@ cause_at causes.NotADatabase (left.Unopened files) = causes.UnknownSchema
 cause_at causes.NotADatabase (left.Store store) = causes.Damaged
 cause_at cause _ = cause
 
+-- The cause of an error of opening a database, of which this is left.
 abbrev pub opening_cause : {D : Type 0} {g : disk.Ghosts D} → Error → Leftover D g → Cause
 opening_cause error rest = cause_at (error_cause error) rest
 

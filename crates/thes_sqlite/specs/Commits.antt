@@ -1,12 +1,22 @@
 -- The effect of a commit through the storage, on a database that may hold anything.
 use Rattle.std.specs.Prelude.{◌≡◌, List, Result, OnOk, OnErr}
 use Rattle.sqlite.specs.Held.{Held, state}
+use Rattle.sqlite.specs.State.{HasCleanDisk}
 use Rattle.sqlite_trees.specs.declared.store.Store.{Ghosts}
 use Rattle.thes_base.specs.declared.fault.Fault.{Fault}
 use Rattle.thes_tables.specs.declared.change.Change.{Change}
+use Rattle.thes_tables.specs.Rows.{tables_after_delta, DeltaFits}
+use Rattle.thes_tables.specs.Tables.{Tables}
+use Rattle.thes_sql.specs.StoredRows.{Keeps}
 use Rattle.thes_store.specs.Storage.{CommitFrame}
 use Rattle.thes_sqlite.specs.KeeperView.{KeeperView, IsUp, IsStore, LeavesEither, LeavesAfter, storage_view}
 use Rattle.thes_sqlite.specs.MigrationEffects.{LeavesUnwritten}
+
+-- The changes were made: a store with tables that they fit is afterwards one with the tables after all of them.
+abbrev pub AppliesAll : {S : Type 0} → Ghosts S → List Change → Held S → Held S → Type 0
+AppliesAll g changes old new = HasCleanDisk (state g new) → (t : Tables) → Keeps (state g old).now t
+    → DeltaFits changes t
+    → Keeps (state g new).now (tables_after_delta changes t)
 
 -- What every commit keeps of any database: one that is open now was open before, and nothing in it is uncommitted; a
 -- fault leaves it unwritten.
@@ -15,16 +25,16 @@ pub record DatabaseFrame {S T E : Type 0} (g : Ghosts S) (old new : Held S) (res
   pub settled : IsUp (state g new) → (state g new).now ≡ (state g new).committed
   pub none : OnErr result (LeavesUnwritten g old new)
 
--- What every commit keeps, whatever the database holds: on a fault the rows and the database are unchanged; the count
--- of failures agrees with the result; the remembered connection stays the same.
+-- What every commit keeps, whatever the database holds: after a fault that leaves the database up, it and its rows are
+-- unchanged; the count of failures agrees with the result; the connection `first` stays the same.
 pub record KeeperCommitFrame {S T : Type 0} (g : Ghosts S) (old new : KeeperView S) (result : Result T Fault) : Type 0
   where
     pub storage : CommitFrame (storage_view g old) (storage_view g new) result
     pub database : DatabaseFrame g old.conn new.conn result
     pub first : new.first ≡ old.first
 
--- A commit is safe from crashes if the database was a store: whatever the result, a crash leaves the tables without the
--- changes or with all of them, and after success with all of them.
+-- If the database was an open store, and the disk hasn't failed silently, a crash leaves the tables without the changes
+-- or with all of them; after success, if the database is open, with all.
 pub record IsCrashSafe {S T E : Type 0} (g : Ghosts S) (changes : List Change) (old new : KeeperView S)
     (result : Result T E) : Type 0 where
   pub atomicity : IsStore (state g old.first) → LeavesEither changes (state g old.conn) (state g new.conn)

@@ -1,5 +1,5 @@
 -- Stores in the two files of a database: what opening finds, and what closing leaves.
-use Rattle.std.specs.Prelude.{◌≡◌, []}
+use Rattle.std.specs.Prelude.{◌≡◌, ◌⊎◌, ℕ, List, []}
 use Rattle.sqlite_disk.specs.declared.Disk.{Ghosts}
 use Rattle.sqlite_disk.specs.declared.Files.{Files}
 use Rattle.sqlite_wal.specs.Recovery.{Image}
@@ -9,8 +9,8 @@ use Rattle.sqlite.specs.Files.{HoldsDatabase, image_of}
 use Rattle.sqlite.specs.Schema.{Schema}
 use Rattle.sqlite.specs.Start.{FindsIn}
 use Rattle.sqlite.specs.State.{State}
-use Rattle.thes_tables.specs.Tables.{Tables}
-use Rattle.thes_sql.specs.Schema.{empty_schema}
+use Rattle.thes_tables.specs.Tables.{Tables, empty_tables}
+use Rattle.thes_sql.specs.Schema.{empty_schema, store_schema}
 use Rattle.thes_sql.specs.StoredRows.{KeepsIn}
 use Rattle.thes_sqlite.specs.KeeperView.{IsUp}
 
@@ -24,6 +24,26 @@ pub record HoldsStore (image : Image) (schema : Schema) (t : Tables) : Type 0 wh
 -- The file of a database is absent or empty, whatever its log holds.
 abbrev pub IsNewFile : Image → Type 0
 IsNewFile image = image.db ≡ []
+
+-- Work with this base over files with these contents begins with a store with this schema and these tables: the one
+-- that the files hold, or, in a new file, an empty one as the program makes it.
+abbrev pub IsInitialStore : Image → List ℕ → Schema → Tables → Type 0
+IsInitialStore image base schema t =
+    HoldsStore image schema t ⊎ (IsNewFile image × (schema ≡ store_schema) × (t ≡ empty_tables base))
+
+-- Nothing in a database is uncommitted, and it is a store with this schema and some tables: with these, if files with
+-- these contents hold them.
+pub record ServesInitial (image : Image) (schema : Schema) (t : Tables) (s : State) : Type 0 where
+  pub settled : s.now ≡ s.committed
+  pub tables : Tables
+  pub keeps : KeepsIn schema s.now tables
+  pub keeps_held : HoldsStore image schema t → KeepsIn schema s.now t
+
+-- If the disk hasn't failed silently and the database is open, it is the store that files with these contents hold or,
+-- if they are new, one as the program makes it.
+unfoldable pub ServesFiles : Image → State → Type 0
+ServesFiles image s = IsUp s → (base : List ℕ) (schema : Schema) (t : Tables) → IsInitialStore image base schema t
+    → ServesInitial image schema t s
 
 -- A database was opened in files with these contents, which may be anything. If they are a store, the database is this
 -- store, and nothing in it is uncommitted. In a new file it has no tables.

@@ -12,7 +12,7 @@ use Rattle.thes_base.specs.declared.fault.Fault.TheVariants as faults
 abbrev pub IsKeeperFault : Fault → Type 0
 IsKeeperFault fault = (fault ≡ faults.OutOfMemory) ⊎ (fault ≡ faults.Store)
 
--- The fault of an error: OutOfMemory or Store.
+-- The fault of an error of the database: OutOfMemory if memory ran out, and Store for any other error.
 abbrev pub error_fault : Error → Fault
 error_fault (SqliteFailure codes.OutOfMemory) = faults.OutOfMemory
 error_fault _ = faults.Store

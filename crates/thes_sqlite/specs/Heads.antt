@@ -1,7 +1,7 @@
 -- The first bytes of a database file.
 use Rattle.std.specs.Prelude.{◌==◌, ◌||◌, ◌&&◌, ◌++◌, ℕ, Bool, true, List, [], ◌∷◌, codes}
 
--- Each byte is zero, as where nothing has been written, or the one of this text at its place.
+-- Each of a file's first bytes is zero, as where nothing has been written, or the byte of this text at its place.
 abbrev pub agrees : List ℕ → List ℕ → Bool
 agrees [] text = true
 agrees (found ∷ head) [] = true

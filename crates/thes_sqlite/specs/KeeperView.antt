@@ -58,8 +58,8 @@ pub record IsKeeperState (first now : State) : Type 0 where
   pub served : IsStore first → IsStore now
   pub same : IsStore first → IsUp now → HasSchemaOf now first
 
--- Storage in a database as contracts see it: its connection, its count of failures, and its
--- connection at the start or after the last migration.
+-- Storage in a database as contracts see it: its connection, its count of failures, and `first`: its connection at the
+-- start, or after the last migration or commit to a reopened database.
 pub record KeeperView (S : Type 0) : Type 0 where
   pub conn : Held S
   pub failures : ℕ
@@ -76,8 +76,8 @@ keeper_view_code {S} store =
 abbrev pub raw_of_keeper : {S : Type 0} → Ghosts S → KeeperView S → Raw
 raw_of_keeper g k = raw_in (state g k.conn).now.trees
 
--- The storage serves its tables: its database was a store at the start or after the last migration,
--- it is open, and the disk hasn't failed silently.
+-- The storage serves its tables: its database was a store over the connection `first`, the database is open, and the
+-- disk hasn't failed silently.
 abbrev pub IsKeeperUp : {S : Type 0} → Ghosts S → KeeperView S → Type 0
 IsKeeperUp g k = IsStore (state g k.first) × IsUp (state g k.conn)
 
@@ -93,19 +93,21 @@ pub record IsNewKeeper {S : Type 0} (g : Ghosts S) (base : List ℕ) (k : Keeper
   pub schema : IsUp (state g k.first) → (state g k.first).now.schema ≡ store_schema
   pub failures : k.failures ≡ 0
 
--- The effect of every query: that on any storage, and the connection at the start stays known.
+-- The effect of every query: that of a query of any storage; and the connection `first` stays the same.
 pub record KeeperQueryFrame {S T : Type 0} (g : Ghosts S) (old new : KeeperView S) (result : Result T Fault) : Type 0
   where
     pub storage : QueryFrame (storage_view g old) (storage_view g new) result
     pub first : new.first ≡ old.first
 
--- A crash leaves the tables without the changes, or those with all changes.
+-- If the database was open before the call, its rows were those of tables, and the disk hasn't failed silently, a crash
+-- leaves these tables, or these with all changes.
 abbrev pub LeavesEither : List Change → State → State → Type 0
 LeavesEither changes old new = HasCleanDisk new → IsTrue old.is_open → (t : Tables) → raw_in old.now.trees
     ≡ cells_of_tables t
     → (db : Trees) → new.may_leave db → Hold db t ⊎ Hold db (tables_after_delta changes t)
 
--- A crash leaves exactly the tables with all changes.
+-- If the database is up after the call, and its rows before were those of tables, a crash leaves exactly these tables
+-- with all changes.
 abbrev pub LeavesAfter : List Change → State → State → Type 0
 LeavesAfter changes old new = IsUp new → (t : Tables) → raw_in old.now.trees ≡ cells_of_tables t
     → (db : Trees) → new.may_leave db → Hold db (tables_after_delta changes t)

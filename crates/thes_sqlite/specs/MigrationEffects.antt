@@ -78,7 +78,7 @@ abbrev pub IsMigrationVerdict : Database → Result Bool Fault → Type 0
 IsMigrationVerdict db r = (found : Option (List Row)) × Finds (read_text table.Meta) db found
     × IsVerdictOn db.schema found r
 
--- The result is the verdict on the database, unless the store has failed.
+-- If the disk hasn't failed silently, the result is the verdict on the database, unless the store has failed.
 abbrev pub Judges : {S V : Type 0} → Ghosts S → (Database → Result V Fault → Type 0) → Held S → Held S → Result V Fault
     → Type 0
 Judges g Is old new r =
@@ -160,11 +160,13 @@ pub record Migrates {S : Type 0} (g : Ghosts S) (old new : Held S) (r : Result �
   pub idle : new.in_transaction ≡ false
   pub version : IfOk r (λ version. version ≡ 2)
   pub faults : IfErr r IsMigrateFault
-  -- The result follows from the verdict on the database, unless the store has failed.
+  -- If the disk hasn't failed silently, the result follows from the verdict on the database, unless the store has
+  -- failed.
   pub follows : HasCleanDisk (state g new) → IsErrAnd r (HasFailed (state g old) (state g new))
       ⊎ ((verdict : Result Bool Fault) × IsMigrationVerdict (state g old).now verdict
       × Follows verdict (state g old) (state g new) r)
-  -- The migration of a store of version 1 or 2 fails only if memory runs out or the store fails.
+  -- If the disk hasn't failed silently, the migration of a store of version 1 or 2 has no fault but OutOfMemory and
+  -- Store.
   pub whole : IfErr r (λ fault. HasCleanDisk (state g new) → (t : Tables) → IsKnownStore (state g old).now t
       → IsKeeperFault fault)
   pub was : IsUp (state g new) → IsTrue (state g old).is_open
@@ -174,9 +176,9 @@ pub record Migrates {S : Type 0} (g : Ghosts S) (old new : Held S) (r : Result �
   pub current : OnOk r (HasCleanDisk (state g new) → (t : Tables) → Keeps (state g old).now t
       → IsUnwritten (state g old) (state g new))
   pub settled : IsUp (state g new) → (state g new).now ≡ (state g new).committed
-  -- After any fault nothing is changed.
+  -- If the database is up after a fault, neither it nor what is committed of it has changed.
   pub none : OnErr r (IsUp (state g new) → IsUnwritten (state g old) (state g new))
-  -- Whatever the result, a crash leaves what it could have left before the call or, if the database
-  -- was to be migrated, the migrated tables.
+  -- If the disk hasn't failed silently, then whatever the result, a crash leaves what it could have left before the
+  -- call or, if the database was to be migrated, the migrated tables.
   pub crash : Survives (state g old) (state g new) (λ trees. IsMigrationVerdict (state g old).now (Ok true)
       × ((t : Tables) → KeepsOld (state g old).now t → Hold trees (tables_after_migration t)))

@@ -33,15 +33,16 @@ FindsState base s db = (t : Tables) × Hold db t × IsRowsOf base s t
 -- The outcome of migrating a store of version 1 whose tables encode a state.
 pub record MigratesState {S : Type 0} (g : Ghosts S) (base : List ℕ) (s : State) (old new : Held S) (r : Result ℕ Fault)
     : Type 0 where
-  -- The database holds the same state, and it is committed.
+  -- After success the database holds the same state, and it is committed.
   pub holds : OnOk r (HoldsState base s (state g new).now × HoldsState base s (state g new).committed)
-  -- The rows of a legal state load, and yield this state.
+  -- After success the rows of a legal state load, and yield this state.
   pub loads : OnOk r (IsLegalState base s → (t : Tables) × HasVerdict (raw_in (state g new).now.trees) (Ok t)
       × (state_of t ≡ s))
   -- A crash leaves what it could leave before the call, or the migrated rows.
   pub crash : (db : Trees) → (state g new).may_leave db → (state g old).may_leave db ⊎ FindsState base s db
 
--- A migration takes a store whose tables encode a state in version 1 to one whose tables encode it in version 2.
+-- A migration that succeeds takes a store whose tables encode a state in version 1 to one whose tables encode it in
+-- version 2, if the disk hasn't failed silently.
 abbrev pub MigratesStates : {S : Type 0} → Ghosts S → Type 0
 MigratesStates {S} g =
     (base : List ℕ) (s : State) (old new : Held S) (r : Result ℕ Fault) → Migrates g old new r

@@ -1,40 +1,62 @@
 -- The state of storage in a database that is opened again after a failure.
-use Rattle.std.specs.Prelude.{◌≡◌, ℕ, Bool, true, false, Option, None, Some, Result, OnErr, refl}
-use Rattle.std.specs.Coded.{Coded, code_by, coded×, coded_ℕ, coded_option}
+use Rattle.std.specs.Prelude.{◌≡◌, ◌⊎◌, ℕ, Bool, true, false, List, Option, None, Some, Result, Ok, Err, OnErr, refl}
+use Rattle.std.specs.Coded.{Coded, code_by, coded×, coded_ℕ, coded_bool, coded_option}
 use Rattle.sqlite.specs.Effect.{Database}
 use Rattle.sqlite.specs.Held.{Held, state}
-use Rattle.sqlite.specs.Schema.{Schema}
 use Rattle.sqlite.specs.State.{HasCleanDisk}
 use Rattle.sqlite_trees.specs.declared.store.Store.{Ghosts}
+use Rattle.sqlite_wal.specs.Recovery.{Image}
 use Rattle.thes_base.specs.declared.fault.Fault.{Fault}
+use Rattle.thes_tables.specs.declared.change.Change.{Change}
 use Rattle.thes_tables.specs.Cells.{Raw}
-use Rattle.thes_tables.specs.Tables.{Tables}
 use Rattle.thes_store.specs.Storage.{StorageView, KeepsStorage}
+use Rattle.thes_sqlite.specs.DatabaseFiles.{ServesFiles}
 use Rattle.thes_sqlite.specs.FoundRows.{FindsTables, IsKeeperOpen}
 use Rattle.thes_sqlite.specs.KeeperView.{KeeperView, keeper_view_code, raw_of_keeper, IsKeeperState, IsKeeperUp}
-use Rattle.thes_sqlite.specs.KeeperView.{ServesTables}
+use Rattle.thes_sqlite.specs.KeeperView.{IsUp}
+use Rattle.thes_sqlite.specs.Commits.{AppliesAll}
+use Rattle.thes_sqlite.specs.MigrationEffects.{LeavesUnwritten}
+use Rattle.thes_sqlite.specs.Telling.{Tells}
 
 -- The storage over a connection, before any call.
 abbrev pub keeper_of_connection : {S : Type 0} → Held S → KeeperView S
 keeper_of_connection conn = record { conn = conn; failures = 0; first = conn }
 
--- The storage as contracts see it: the storage over the first connection, until a failure shuts
--- that, and the number of failures.
+-- The storage as contracts see it.
 pub record ReopeningView (S : Type 0) : Type 0 where
+  -- The storage over the first connection, until a failure shuts that.
   pub first : Option (KeeperView S)
+  -- The number of failures.
   pub failures : ℕ
+  -- The storage over the connection that is open, the first one or a later one; None while the database can't be
+  -- opened.
+  pub storage : Option (KeeperView S)
+  -- A commit that returned `Store` may have been made.
+  pub is_in_doubt : Bool
+
+-- The storage over a new connection, before any call.
+abbrev pub view_of_connection : {S : Type 0} → Held S → ReopeningView S
+view_of_connection conn = record {
+  first = Some (keeper_of_connection conn);
+  failures = 0;
+  storage = Some (keeper_of_connection conn);
+  is_in_doubt = false;
+}
 
 -- The storage over the first connection: that over the open one, unless a failure has shut the first.
 abbrev pub first_storage : {A : Type 0} → Bool → Option A → Option A
 first_storage true storage = None
 first_storage false storage = storage
 
--- The coding of a view as a pair, which shows the prover that the parts of a `ReopeningView`
+-- The coding of a view as a tuple, which shows the prover that the parts of a `ReopeningView`
 -- determine it.
 abbrev pub reopening_view_code : {S : Type 0} → Coded S → Coded (ReopeningView S)
 reopening_view_code {S} store =
-    code_by (Option (KeeperView S) × ℕ) (coded× (coded_option (keeper_view_code store)) coded_ℕ)
-    (λ k. (k.first, k.failures)) (λ p. record { first = p.0; failures = p.1 }) (λ _. refl)
+    code_by (Option (KeeperView S) × (ℕ × (Option (KeeperView S) × Bool)))
+    (coded× (coded_option (keeper_view_code store)) (coded× coded_ℕ (coded× (coded_option (keeper_view_code store))
+    coded_bool)))
+    (λ k. (k.first, (k.failures, (k.storage, k.is_in_doubt))))
+    (λ p. record { first = p.0; failures = p.1.0; storage = p.1.1.0; is_in_doubt = p.1.1.1 }) (λ _. refl)
 
 -- The tables of a database in which no table can be queried.
 abbrev pub no_rows : Raw
@@ -94,32 +116,79 @@ FindsOfFirst g v raw = FindsIn (database_of_first g v.first) raw
 abbrev pub FindsStill : {S : Type 0} → Ghosts S → ReopeningView S → Raw → Type 0
 FindsStill g v raw = IsStillOpen g v × FindsOfFirst g v raw
 
--- The first connection, if there is one, was opened in files that held a store with a schema and tables that satisfy
--- `held`.
-abbrev pub IsOfFiles : {S : Type 0} → Ghosts S → (Schema → Tables → Type 0) → Option (KeeperView S) → Type 0
-IsOfFiles g held None = Unit {0}
-IsOfFiles g held (Some k) = ServesTables held (state g k.first)
+-- The database of the first connection, if there is one, began as that of files with these contents.
+abbrev pub IsOfFiles : {S : Type 0} → Ghosts S → Image → Option (KeeperView S) → Type 0
+IsOfFiles g image None = Unit {0}
+IsOfFiles g image (Some k) = ServesFiles image (state g k.first)
 
 -- No request is in doubt while there is a first connection.
 abbrev pub IsCertain : {S : Type 0} → Option (KeeperView S) → Bool → Type 0
 IsCertain None is_in_doubt = Unit {0}
 IsCertain (Some k) is_in_doubt = is_in_doubt ≡ false
 
--- The connection of a storage is the one that was lost, and an earlier failure had shut it, unless the disk has failed
--- silently.
+-- A first connection was lost because a failure had shut it, unless the disk has failed silently. At the start its
+-- database was that of files with these contents, and it had kept the invariant of storage.
+pub record LosesShut {S : Type 0} (g : Ghosts S) (image : Image) (k : KeeperView S) : Type 0 where
+  pub of_files : ServesFiles image (state g k.first)
+  pub kept : IsKeeperState (state g k.first) (state g k.conn)
+  pub is_shut : HasCleanDisk (state g k.conn) → (state g k.conn).is_open ≡ false
+
+-- The first connection is there, or it was lost, and shut before.
+abbrev pub IsKeptOrLost : {S : Type 0} → Ghosts S → Image → Bool → Option (KeeperView S)
+    → Option (KeeperView S) → Type 0
+IsKeptOrLost g image false None lost = ⊥
+IsKeptOrLost g image false (Some k) lost = Unit {0}
+IsKeptOrLost g image true storage None = ⊥
+IsKeptOrLost g image true storage (Some k) = LosesShut g image k
+
+-- A connection was lost and, unless the disk has failed silently, a failure had shut the connection that the storage
+-- had.
 abbrev pub IsLostShut : {S : Type 0} → Ghosts S → KeeperView S → Option (Held S) → Type 0
 IsLostShut g k None = ⊥
 IsLostShut g k (Some conn) = HasCleanDisk (state g conn) → (state g k.conn).is_open ≡ false
 
--- The first connection is returned, which no failure is known to have shut. At the start it served the tables that its
--- files held, and it has kept the invariant of storage since then.
-pub record ReturnsFirst {S : Type 0} (g : Ghosts S) (held : Schema → Tables → Type 0) (v : ReopeningView S)
-    (conn : Option (Held S)) : Type 0 where
-  pub keeper : KeeperView S
-  pub first_is : v.first ≡ Some keeper
-  pub conn_is : conn ≡ Some keeper.conn
-  pub of_files : ServesTables held (state g keeper.first)
-  pub kept : IsKeeperState (state g keeper.first) (state g keeper.conn)
+-- The same connection is open as before, and nothing was written to it; or none is, and none was.
+abbrev pub StaysUnwritten : {S : Type 0} → Ghosts S → Option (KeeperView S) → Option (KeeperView S) → Type 0
+StaysUnwritten g None None = Unit {0}
+StaysUnwritten g (Some k) (Some l) = LeavesUnwritten g k.conn l.conn
+StaysUnwritten g _ _ = ⊥
+
+-- Both connections are there, and from the one to the other the changes were made by a commit.
+abbrev pub AppliesOpen : {S : Type 0} → Ghosts S → List Change → Option (KeeperView S) → Option (KeeperView S)
+    → Type 0
+AppliesOpen g changes (Some k) (Some l) = AppliesAll g changes k.conn l.conn
+AppliesOpen g changes _ _ = ⊥
+
+-- There is a connection, and the answer is whether its database, if it is up, shows the changes.
+abbrev pub TellsOpen : {S : Type 0} → Ghosts S → List Change → Option (KeeperView S) → Bool → Type 0
+TellsOpen g changes None answer = ⊥
+TellsOpen g changes (Some k) answer = IsUp (state g k.conn) → Tells changes (state g k.conn).now (Some answer)
+
+-- The answer to whether changes were made although their commit failed: `true` only if the database, opened again, was
+-- asked; `false` if it was asked, or was open and unwritten, or if the request is in doubt.
+abbrev pub ShowsChanges : {S : Type 0} → Ghosts S → List Change → ReopeningView S → ReopeningView S → Bool → Type 0
+ShowsChanges g changes old new true = TellsOpen g changes new.storage true
+ShowsChanges g changes old new false = StaysUnwritten g old.storage new.storage
+    ⊎ (TellsOpen g changes new.storage false ⊎ (new.is_in_doubt ≡ true))
+
+-- What a commit answers: success only if the changes were made, or the database, opened again, was asked and showed
+-- them; a fault if the database was open and unwritten, or was asked and didn't show them, or else the request is in
+-- doubt.
+abbrev pub EndsCommit : {S T : Type 0} → Ghosts S → List Change → ReopeningView S → ReopeningView S → Result T Fault
+    → Type 0
+EndsCommit g changes old new (Ok x) = AppliesOpen g changes old.storage new.storage
+    ⊎ TellsOpen g changes new.storage true
+EndsCommit g changes old new (Err fault) = ShowsChanges g changes old new false
+
+-- The first connection is returned, which no failure is known to have shut. At the start its database was that of files
+-- with these contents, and the storage has kept its invariant since then.
+pub record ReturnsFirst {S : Type 0} (g : Ghosts S) (image : Image) (v : ReopeningView S) (conn : Option (Held S)) : Type 0
+  where
+    pub keeper : KeeperView S
+    pub first_is : v.first ≡ Some keeper
+    pub conn_is : conn ≡ Some keeper.conn
+    pub of_files : ServesFiles image (state g keeper.first)
+    pub kept : IsKeeperState (state g keeper.first) (state g keeper.conn)
 
 -- A call writes nothing through the first connection: if that is open afterwards, it was before, and its database is
 -- the same.
@@ -127,7 +196,7 @@ pub record LeavesFirst {S : Type 0} (g : Ghosts S) (old new : ReopeningView S) :
   pub was : IsStillOpen g new → IsStillOpen g old
   pub same : IsStillOpen g new → database_of_first g new.first ≡ database_of_first g old.first
 
--- What every commit keeps that counts no failure yet: on a fault the rows are unchanged.
+-- What every commit keeps before its failure is counted: on a fault, the rows of a storage that is up are unchanged.
 pub record KeepsOnFault {T : Type 0} (old new : StorageView) (result : Result T Fault) : Type 0 where
   pub same : OnErr result (new.is_up → new.rows ≡ old.rows)
   pub was : new.is_up → old.is_up

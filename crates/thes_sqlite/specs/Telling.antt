@@ -84,8 +84,9 @@ pub record HaveSameRows (t u : Tables) : Type 0 where
   pub same_posting : u.posting ≡ t.posting
   pub same_move : u.move ≡ t.move
 
--- The answer is right for tables that have all changes or none: it is `true` over the tables without them only if the
--- changes leave the rows the same, and `false` over the tables with them only if there are none. None is no answer.
+-- If each change has an effect, the answer is right for tables that have all changes or none: it is `true` over the
+-- tables without them only if the changes leave the rows the same, and `false` over the tables with them only if there
+-- are no changes. None is no answer.
 pub record Tells (changes : List Change) (db : Database) (answer : Option Bool) : Type 0 where
   pub with_none : (t : Tables) → HaveEffect changes t → Keeps db t → answer ≡ Some true
       → HaveSameRows t (tables_after_delta changes t)

@@ -8,8 +8,8 @@ use sqlite::types::ValueRef;
 use std::alloc::{AllocError, Global};
 use thes_tables::cells::{Cell, CellText};
 
-// Returns a value as a cell. A value that no row of a store has becomes -1, which no column
-// accepts.
+// Returns a value of the database as a cell. A value that no row of a store has becomes -1, which
+// no column accepts (DECISIONS.md, Storage).
 #[tactic(auto, using(crate::proofs::ValueLemmas::text_cell, crate::proofs::ValueLemmas::no_text))]
 fn any_cell_of(alloc: Global, value: ValueRef<'_>) -> Result<Cell, AllocError>
     ensures { IfOk result (λ cell. cell ≡ cell_of (owned value.entry)) }
@@ -17,7 +17,6 @@ fn any_cell_of(alloc: Global, value: ValueRef<'_>) -> Result<Cell, AllocError>
     match value {
         ValueRef::Null => Ok(Cell::Null),
         ValueRef::Int(n) => Ok(Cell::Int(n)),
-        // What is no cell is read as -1, which no column allows (DECISIONS.md, Storage).
         ValueRef::Text(bytes) => match std::str::from_utf8(bytes) {
             Ok(text) => Ok(Cell::Text(CellText::new(alloc, text)?)),
             Err(_) => Ok(Cell::Int(-1)),
@@ -26,7 +25,7 @@ fn any_cell_of(alloc: Global, value: ValueRef<'_>) -> Result<Cell, AllocError>
     }
 }
 
-/// Reads the cells of a row that may have any values.
+/// Reads the cells of a row of a database, which may have any values.
 pub(crate) fn any_cells_of(alloc: Global, row: &Row) -> Result<Vec<Cell>, AllocError>
     ensures { IfOk result (λ cells. cells.items ≡ map cell_of row.now) }
 {

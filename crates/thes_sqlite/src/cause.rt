@@ -16,7 +16,8 @@ pub enum Cause {
     NoMemory,
     /// Another program has the file open.
     Locked,
-    /// No file has the name, or there is no such folder.
+    /// No file has the name, there is no such folder, or the name no longer leads to the file that
+    /// was open.
     Missing,
     /// The name is that of a folder, a pipe or a device.
     NotAFile,

@@ -33,7 +33,7 @@ pub(crate) fn fault_with_cause(error: Error, cause: &mut Cause) -> Fault
     fault_of(error)
 }
 
-/// Counts a fault unless it is `OutOfMemory`, and returns it; the count saturates.
+/// Counts a fault of the storage unless it is `OutOfMemory`, and returns it; the count saturates.
 pub(crate) fn count_fault(failures: &mut u64, fault: Fault) -> Fault
     requires { IsKeeperFault fault }
     ensures same { result ≡ fault }
@@ -58,7 +58,7 @@ pub(crate) fn count_fault_in<T>(failures: &mut u64, ended: Result<T, Fault>) -> 
     }
 }
 
-/// Counts a fault if it is `Store`, and returns it. The count saturates.
+/// Counts the fault of a migration if it is `Store`, and returns it; the count saturates.
 pub(crate) fn count_if_store(failures: &mut u64, fault: Fault) -> Fault
     ensures same { result ≡ fault }
     ensures counted { IsStoreCounted failures.old failures.new fault }

@@ -18,15 +18,16 @@ use std::hash::{BuildHasher, RandomState};
 use std::io::{ErrorKind, Read};
 use std::os::unix::fs::MetadataExt;
 
-// What a file has before it is opened as a database.
+// The size of a database's file, in bytes, and its first bytes, before it is opened as a database.
+// An absent file has size 0.
 #[derive(Clone, Copy)]
 pub(crate) struct FoundFile {
     size: u64,
-    // The first bytes; zeros where it has none.
+    // The first bytes; zeros where the file has none.
     pub(crate) head: [u8; HEAD_SIZE],
 }
 
-// Reads the first bytes of a file.
+// Reads the first bytes of a database's file, which has this size.
 fn read_head(rt: &HostRuntime, path: &str, size: u64) -> Result<FoundFile, Cause> {
     let mut head = [0; HEAD_SIZE];
     let Ok(mut file) = File::open(rt, path) else {
@@ -38,7 +39,8 @@ fn read_head(rt: &HostRuntime, path: &str, size: u64) -> Result<FoundFile, Cause
     }
 }
 
-/// Looks at the file of a database before it is opened. It must be absent, or a file with one name.
+/// Finds the size and the first bytes of a database's file before the database is opened. The name
+/// must be that of no file, or of a regular file without other names.
 pub(crate) fn find_file(rt: &HostRuntime, path: &str) -> Result<FoundFile, Cause> {
     match fs::metadata(rt, path) {
         Ok(found) if !found.is_file() => Err(Cause::NotAFile),
@@ -56,7 +58,8 @@ pub(crate) fn find_file(rt: &HostRuntime, path: &str) -> Result<FoundFile, Cause
     }
 }
 
-// Returns whether the log of the database in a file is there; it lies where links lead.
+// Returns whether the database in a file has a log, which is next to the file to which symbolic
+// links lead.
 fn has_log(rt: &HostRuntime, path: &str) -> Result<bool, Cause> {
     let Ok(real) = fs::canonicalize(rt, path) else {
         return Ok(false);
@@ -67,8 +70,8 @@ fn has_log(rt: &HostRuntime, path: &str) -> Result<bool, Cause> {
     }
 }
 
-// Checks that a file may be a database, so that no log is made beside another. What a file that was
-// cut short is shows its log.
+// Checks that a file may be a database, so that no log is made next to any other file: by its first
+// bytes or, since it may have been cut short, by its log.
 fn check_head(rt: &HostRuntime, path: &str, head: &[u8]) -> Result<(), Cause> {
     if begins_as_database(head) || has_log(rt, path)? {
         Ok(())
@@ -77,7 +80,8 @@ fn check_head(rt: &HostRuntime, path: &str, head: &[u8]) -> Result<(), Cause> {
     }
 }
 
-/// Returns options with random salts, for a database with this file.
+/// Returns the options to open a database with: random salts, and a page cache for this file's
+/// size.
 pub(crate) fn options_for(rt: &HostRuntime, found: &FoundFile) -> Result<Options, Cause> {
     let Ok(state) = RandomState::new(rt) else {
         return Err(Cause::Other);
@@ -87,7 +91,8 @@ pub(crate) fn options_for(rt: &HostRuntime, found: &FoundFile) -> Result<Options
     Ok(options)
 }
 
-// Looks at the file of a database, and returns the options to open it with.
+// Looks at the file of a database, and returns the options to open it with. Names that SQLite takes
+// for something other than a file are `Unwritable`.
 fn options_at(rt: &HostRuntime, path: &str) -> Result<Options, Cause> {
     if path == ":memory:" || path.starts_with("file:") {
         return Err(Cause::Unwritable);
@@ -138,8 +143,8 @@ pub fn open_files<S: Start>(
     }
 }
 
-/// Closes a database and returns its files, which hold its store. A crash leaves it in them.
-/// Returns an error with the database.
+/// Closes a database and returns its files, which hold its store. So do those that a crash leaves.
+/// An error comes with the database.
 pub fn close_files<D: Disk + Drop>(
     conn: Connection<FileStore<D>>,
 ) -> Result<Files<D>, (Error, FileStore<D>)>

@@ -5,8 +5,8 @@ ghost use Rattle.thes_sqlite.specs.Heads as heads;
 /// The number of bytes that show whether a file begins as a database, and the size of its pages.
 pub(crate) const HEAD_SIZE: usize = 18;
 
-// Returns whether each byte is zero, as where nothing has been written, or the one of this text at
-// its place.
+// Returns whether each of a file's first bytes is zero, as where nothing has been written, or the
+// byte of this text at its place.
 fn agrees(head: &[u8], text: &[u8]) -> bool
     ensures { result ≡ heads.agrees head.now text.now }
 {

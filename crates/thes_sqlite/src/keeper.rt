@@ -14,7 +14,8 @@ ghost use Rattle.thes_store.specs.Storage.{DeltaFitsStorage, KeepsStorage, RawAf
 ghost use Rattle.thes_sqlite.specs.KeeperView.{IsUp, IsStore, IsKeeperState, IsKeeperUp, IsNewKeeper, KeeperQueryFrame};
 ghost use Rattle.thes_sqlite.specs.KeeperView.{raw_table, raw_of_keeper, storage_view};
 ghost use Rattle.thes_sqlite.specs.MigrationEffects.{Migrates, HasCountedCause, ServesAfterMigration, LeavesUnwritten};
-ghost use Rattle.thes_sqlite.specs.Commits.{DatabaseFrame, KeeperCommitFrame, IsCrashSafe};
+ghost use Rattle.thes_sqlite.specs.Commits.{AppliesAll, DatabaseFrame, KeeperCommitFrame, IsCrashSafe};
+ghost use Rattle.thes_sqlite.specs.Telling.{Tells};
 ghost use Rattle.thes_sqlite.specs.FoundRows.{IsKeeperOpen, FindsInKeeper, PassesTable, PassesNamed};
 ghost use Rattle.thes_sql.specs.Reads.{LeavesTables};
 ghost use Rattle.sqlite.specs.Held.{state};
@@ -48,7 +49,8 @@ use thes_tables::rows::PostingRow;
 pub struct SqlKeeper<S: Alter> {
     conn: Connection<S>,
     failures: u64,
-    // The connection at the start, or after the last migration; only contracts use it.
+    // The connection at the start, or after the last `migrate` or `commit_anew`; only contracts use
+    // it.
     first: Snapshot<Connection<S>>,
     // The cause of the last fault of a load or a migration; `Other` before the first.
     cause: Cause,
@@ -70,7 +72,7 @@ impl<S: Alter> Model for SqlKeeper<S> {
 
 impl<S: Alter> SqlKeeper<S> {
     /// Creates the tables of a new store in a database without tables. A fault is returned with the
-    /// connection, and leaves the database unchanged.
+    /// connection, and leaves an open database unchanged.
     pub fn create(
         alloc: Global,
         mut conn: Connection<S>,
@@ -174,6 +176,7 @@ impl<S: Alter> SqlKeeper<S> {
         ensures ok { OnOk result (IsKeeperUp S.Store self.new
             → RawAfterChanges changes.now
             (raw_of_keeper S.Store self.old) (raw_of_keeper S.Store self.new)) }
+        ensures applies { OnOk result (AppliesAll S.Store changes.now self.old.conn self.new.conn) }
         ensures frame { KeeperCommitFrame S.Store self.old self.new result }
         ensures crash { IsCrashSafe S.Store changes.now self.old self.new result }
     {
@@ -186,6 +189,7 @@ impl<S: Alter> SqlKeeper<S> {
     /// Applies all changes, or none of them and returns a fault. The changes needn't fit the
     /// tables, so what the storage promises begins anew with the database as they leave it.
     pub(crate) fn commit_anew(&mut self, changes: &[Change]) -> Result<(), Fault>
+        ensures applies { OnOk result (AppliesAll S.Store changes.now self.old.conn self.new.conn) }
         ensures database { DatabaseFrame S.Store self.old.conn self.new.conn result }
         ensures first { self.new.first ≡ self.new.conn }
         ensures cause { HasCause self.old.failures self.new.failures result }
@@ -198,12 +202,19 @@ impl<S: Alter> SqlKeeper<S> {
         }
     }
 
-    /// Checks whether changes whose commit failed were made; None if the database can't be queried.
+    /// Checks whether changes whose commit failed were made; None if the database doesn't show it,
+    /// or can't be queried.
+    #[tactic(auto, using(crate::proofs::FoundRowLemmas::unwritten))]
     pub(crate) fn has_changes(&mut self, changes: &[Change]) -> Option<bool>
+        ensures tells { IsUp (state S.Store self.new.conn)
+            → Tells changes.now (state S.Store self.new.conn).now result }
         ensures keeps { KeepsStorage (storage_view S.Store self.old)
             (storage_view S.Store self.new) }
         ensures first { self.new.first ≡ self.old.first }
+        ensures leaves { LeavesUnwritten S.Store self.old.conn self.new.conn }
     {
+        let settled = self.conn.is_autocommit();
+        prove!(settled);
         has_changes(&mut self.conn, changes)
     }
 
@@ -249,6 +260,7 @@ impl<S: Alter> FaultCause for SqlKeeper<S> {
     }
 }
 
+/// Loads and look-ups are queries of the database, and each commit is one transaction.
 impl<S: Alter> Keeper for SqlKeeper<S> {
     ghost use Rattle.thes_sqlite.specs.FoundRows.{IsKeeperOpen, FindsInKeeper};
     ghost use Rattle.thes_sqlite.specs.KeeperView.{storage_view};

@@ -27,8 +27,8 @@ enum Version {
     Newer,
 }
 
-// Returns the version that a row of table meta states, whatever its base; None if it states no
-// version of at least 1.
+// Returns the version of a database to migrate, by the cells of a row of its table meta, whatever
+// their base; None if they state no version of at least 1.
 fn version_in(cells: &[Cell]) -> Option<Version>
     ensures { SpellsVersion cells.now result }
 {
@@ -50,8 +50,8 @@ fn version_in(cells: &[Cell]) -> Option<Version>
     Some(Version::Current)
 }
 
-// Returns whether the rows of table meta state version 1 rather than version 2; rows that state
-// neither are a fault.
+// Returns whether the rows of the database's table meta state version 1 rather than version 2; rows
+// that state neither are a fault.
 fn is_version_1(alloc: Global, rows: &[Row]) -> Result<bool, Fault>
     ensures judged { (result ≡ Err Fault.OutOfMemory) ⊎ IsMetaVerdict (Some rows.now) result }
     ensures faults { IfErr result IsMigrateFault }
@@ -101,8 +101,8 @@ fn judge_version<S: Alter>(
     }
 }
 
-// Returns `BadStore` of link if the answer to whether table link can be queried is no, or the fault
-// of the error, whose cause is recorded.
+// Checks the database's answer to whether its table link can be queried: `false` is the fault
+// `BadStore` of link. Records the cause of an error.
 fn links_verdict(there: Result<bool, Error>, cause: &mut Cause) -> Result<(), Fault>
     ensures is { result ≡ links_verdict_of there }
     ensures faults { IfErr result IsMigrateFault }
@@ -115,8 +115,8 @@ fn links_verdict(there: Result<bool, Error>, cause: &mut Cause) -> Result<(), Fa
     }
 }
 
-// Returns `BadStore` of hier if the answer to whether there is a table hier is yes, or the fault of
-// the error, whose cause is recorded.
+// Checks the database's answer to whether it has a table hier: `true` is the fault `BadStore` of
+// hier. Records the cause of an error.
 fn hier_verdict(there: Result<bool, Error>, cause: &mut Cause) -> Result<(), Fault>
     ensures is { result ≡ hier_verdict_of there }
     ensures faults { IfErr result IsMigrateFault }

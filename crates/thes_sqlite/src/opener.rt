@@ -1,7 +1,6 @@
 //! What opens a database again, and what its files held: traits, since a proof over a connection to
 //! a file goes through all its parts.
-ghost use Rattle.sqlite.specs.Schema.{Schema};
-ghost use Rattle.thes_tables.specs.Tables.{Tables};
+ghost use Rattle.sqlite_wal.specs.Recovery.{Image};
 
 use crate::cause::Cause;
 
@@ -17,6 +16,6 @@ pub trait Reopen<C> {
 
 /// What the files of a database held before they were opened, which only contracts use.
 pub trait HeldTables {
-    // The files held a store with this schema and these tables.
-    ghost held: { Schema → Tables → Type 0 };
+    // The contents of the two files.
+    ghost image: { Image };
 }

@@ -10,10 +10,11 @@ const MOST_MEMORY: u64 = 268_435_456;
 // The number of pages beyond those that the file has when it is opened, since it may grow.
 const SPARE_PAGES: u64 = 2_000;
 
-// The page size of a new file.
+// The page size of a new database file, in bytes.
 const NEW_SIZE: usize = 4_096;
 
-// Returns the number at bytes 16 and 17, where 1 means 65,536; 0 if there are no such bytes.
+// Returns the page size that bytes 16 and 17 of a database file state, counted from 0, where 1
+// means 65,536; 0 if `head` has no such bytes.
 fn number_of_size(head: &[u8]) -> usize
     ensures { result ≡ size_in_file head.now }
 {
@@ -39,8 +40,8 @@ pub(crate) fn stated_page_size(head: &[u8]) -> u64
     }
 }
 
-/// Returns the number of pages to keep in memory: as many as the file has, and 2,000 more, but at
-/// most 256 MiB.
+/// Returns the number of a database's pages to keep in memory: as many as the file has, and 2,000
+/// more, but at most 256 MiB.
 pub(crate) fn page_count(file_size: u64, page_size: u64) -> u64
     requires { 512 ≤ page_size }
     ensures { result ≡ min (file_size / page_size + 2_000) (268_435_456 / page_size) }

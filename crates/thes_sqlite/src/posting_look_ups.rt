@@ -18,7 +18,7 @@ use thes_sql::reads::{move_rows_of_posting, posting_rows_with_key, posting_rows_
 use thes_store::keeper::Posting;
 use thes_tables::rows::PostingRow;
 
-/// Returns the posting that has the key, if there is one.
+/// Returns the row of the posting that has the key, if the database has one.
 pub(crate) fn find_posting<S: Alter>(
     alloc: Global,
     conn: &mut Connection<S>,
@@ -35,7 +35,7 @@ pub(crate) fn find_posting<S: Alter>(
     Ok(Some(read_posting(alloc, row)?))
 }
 
-/// Returns the row of the posting that has the number, if there is one.
+/// Returns the row of the posting that has the number, if the database has one.
 #[tactic(auto, using(crate::proofs::PostingLookUpLemmas::finds_no_row, crate::proofs::PostingLookUpLemmas::finds_row))]
 pub(crate) fn find_row<S: Alter>(
     alloc: Global,
@@ -53,7 +53,7 @@ pub(crate) fn find_row<S: Alter>(
     Ok(Some(read_posting(alloc, first)?))
 }
 
-/// Returns the posting that has the number with its moves, if there is one.
+/// Returns the posting that has the number, with its moves, if the database has one.
 #[tactic(auto, using(crate::proofs::PostingLookUpLemmas::finds_posting_with_moves))]
 pub(crate) fn find_with_moves<S: Alter>(
     alloc: Global,

@@ -1,14 +1,16 @@
 //! Storage in a database that is opened again after a failure of its disk has shut it.
-ghost use Rattle.std.specs.Prelude.{◌≡◌, false, None, Some, IfErr, IfSome, OnOk, IsTrue};
+ghost use Rattle.std.specs.Prelude.{◌≡◌, false, None, Some, IfErr, IfSome, OnOk, OnErr, IsTrue};
 ghost use Rattle.sqlite.specs.Held.{state};
 ghost use Rattle.thes_store.specs.FoundLoads.{PassesFound};
 ghost use Rattle.thes_store.specs.Sinks.{SinkOutcome, sink_rows};
-ghost use Rattle.thes_store.specs.Storage.{DeltaFitsStorage, RawAfterChanges};
+ghost use Rattle.thes_store.specs.Storage.{CommitFrame, DeltaFitsStorage, RawAfterChanges};
 ghost use Rattle.thes_sqlite.specs.Faults.{IsKeeperFault};
-ghost use Rattle.thes_sqlite.specs.KeeperView.{ServesTables};
-ghost use Rattle.thes_sqlite.specs.Reopening.{IsKeeperStillUp, rows_still, storage_still, keeper_of_connection};
+ghost use Rattle.thes_sqlite.specs.DatabaseFiles.{ServesFiles};
+ghost use Rattle.thes_sqlite.specs.KeeperView.{KeeperView};
+ghost use Rattle.thes_sqlite.specs.Reopening.{IsKeeperStillUp, rows_still, storage_still};
 ghost use Rattle.thes_sqlite.specs.Reopening.{FindsOfFirst, IsLostShut, IsStillOpen, KeepsOnFault, KeepsStill};
-ghost use Rattle.thes_sqlite.specs.Reopening.{LeavesFirst, ReturnsFirst};
+ghost use Rattle.thes_sqlite.specs.Reopening.{LeavesFirst, ReturnsFirst, LosesShut, view_of_connection};
+ghost use Rattle.thes_sqlite.specs.Reopening.{StaysUnwritten, AppliesOpen, ShowsChanges, EndsCommit};
 
 use crate::cause::{Cause, FaultCause};
 use crate::faults::{count_fault, count_fault_in};
@@ -17,6 +19,7 @@ pub use crate::opener::{HeldTables, Reopen};
 use sqlite::{Alter, Connection};
 use std::alloc::Global;
 use std::marker::Model;
+use std::snapshot::Snapshot;
 use thes_base::fault::Fault;
 use thes_base::number::{PostNo, ResNo};
 use thes_base::text::Key;
@@ -33,6 +36,8 @@ pub struct ReopeningKeeper<S: Alter, O: Reopen<Connection<S>> + HeldTables> {
     storage: Option<SqlKeeper<S>>,
     // Whether a failure has shut the first connection.
     is_reopened: bool,
+    // The storage over the first connection when that was lost; only contracts use it.
+    loss: Snapshot<Option<SqlKeeper<S>>>,
     opener: O,
     // The number of failures, over all connections.
     failures: u64,
@@ -44,7 +49,7 @@ pub struct ReopeningKeeper<S: Alter, O: Reopen<Connection<S>> + HeldTables> {
 }
 
 impl<S: Alter, O: Reopen<Connection<S>> + HeldTables> Model for ReopeningKeeper<S, O> {
-    ghost use Rattle.thes_sqlite.specs.Reopening.{IsCertain, IsOfFiles, ReopeningView, first_storage};
+    ghost use Rattle.thes_sqlite.specs.Reopening.{IsCertain, IsKeptOrLost, IsOfFiles, ReopeningView, first_storage};
     ghost use Rattle.thes_sqlite.specs.Reopening.{reopening_view_code};
 
     ghost Value = { ReopeningView S };
@@ -54,10 +59,13 @@ impl<S: Alter, O: Reopen<Connection<S>> + HeldTables> Model for ReopeningKeeper<
     ghost view = { λ k. record {
       first = first_storage k.is_reopened k.storage;
       failures = k.failures;
+      storage = k.storage;
+      is_in_doubt = k.is_in_doubt;
     } };
 
-    ghost invariant = { λ k. IsOfFiles S.Store O.held (first_storage k.is_reopened k.storage)
-        × IsCertain (first_storage k.is_reopened k.storage) k.is_in_doubt };
+    ghost invariant = { λ k. IsOfFiles S.Store O.image (first_storage k.is_reopened k.storage)
+        × (IsCertain (first_storage k.is_reopened k.storage) k.is_in_doubt
+        × IsKeptOrLost S.Store O.image k.is_reopened k.storage k.loss.value) };
 }
 
 /// What a `ReopeningKeeper` leaves at its end: its connection, and whether a request is in doubt.
@@ -74,12 +82,15 @@ impl<S: Alter + Drop, O: Reopen<Connection<S>> + HeldTables> ReopeningKeeper<S, 
     /// Takes over a connection without reading from it.
     pub fn new(alloc: Global, conn: Connection<S>, opener: O) -> ReopeningKeeper<S, O>
         requires idle { conn.in_transaction ≡ false }
-        requires of_files { ServesTables O.held (state S.Store conn) }
-        ensures { result ≡ record { first = Some (keeper_of_connection conn); failures = 0 } }
+        requires of_files { ServesFiles O.image (state S.Store conn) }
+        ensures { result ≡ view_of_connection conn }
     {
+        let storage = Some(SqlKeeper::adopt(alloc, conn));
+        let loss = Snapshot::of(&storage);
         ReopeningKeeper {
-            storage: Some(SqlKeeper::adopt(alloc, conn)),
+            storage,
             is_reopened: false,
+            loss,
             opener,
             failures: 0,
             is_in_doubt: false,
@@ -88,19 +99,24 @@ impl<S: Alter + Drop, O: Reopen<Connection<S>> + HeldTables> ReopeningKeeper<S, 
         }
     }
 
-    /// Returns the connection, whether it was opened again, and whether a request is in doubt.
+    /// Returns the connection, whether a failure has shut the first, and whether a request is in
+    /// doubt.
     pub fn leave(self) -> Leaving<S>
     where
         O: Drop,
         ensures first { IfSome self.first (λ k. (result.conn ≡ Some k.conn)
             × (result.is_reopened ≡ false)) }
         ensures returns { result.is_reopened ≡ false
-            → ReturnsFirst S.Store O.held self result.conn }
+            → ReturnsFirst S.Store O.image self result.conn }
         ensures certain { result.is_reopened ≡ false → result.is_in_doubt ≡ false }
+        ensures doubt { result.is_in_doubt ≡ self.is_in_doubt }
+        ensures lost { IsTrue result.is_reopened
+            → (k : KeeperView S) × LosesShut S.Store O.image k }
     {
         let ReopeningKeeper {
             storage,
             is_reopened,
+            loss: _,
             opener: _,
             failures: _,
             is_in_doubt,
@@ -125,12 +141,19 @@ impl<S: Alter + Drop, O: Reopen<Connection<S>> + HeldTables> ReopeningKeeper<S, 
         ensures leaves { LeavesFirst S.Store self.old self.new }
         ensures gone { IsTrue result.0 → self.new.first ≡ None }
         ensures shut { IsTrue result.0 → IfSome self.old.first (λ k. IsLostShut S.Store k result.1) }
+        ensures stays { result.0 ≡ false
+            → StaysUnwritten S.Store self.old.storage self.new.storage }
+        ensures doubt { self.new.is_in_doubt ≡ self.old.is_in_doubt }
     {
         if let Some(keeper) = &mut self.storage {
             if !keeper.is_shut() {
                 return (false, None);
             }
         }
+        if !self.is_reopened {
+            self.loss = Snapshot::of(&self.storage);
+        }
+        self.is_reopened = true;
         let Some(keeper) = self.storage.take() else {
             return (true, None);
         };
@@ -139,10 +162,13 @@ impl<S: Alter + Drop, O: Reopen<Connection<S>> + HeldTables> ReopeningKeeper<S, 
 
     // Opens the database again if a failure has shut it, and returns whether it was shut. If it
     // can't be opened, there is no storage afterwards, and the cause is recorded.
+    #[tactic(auto, using(crate::proofs::ReopeningLemmas::is_lost))]
     fn reopen_if_shut(&mut self) -> bool
         ensures keeps { KeepsStill S.Store self.old self.new }
         ensures leaves { LeavesFirst S.Store self.old self.new }
         ensures gone { IsTrue result → self.new.first ≡ None }
+        ensures stays { result ≡ false → StaysUnwritten S.Store self.old.storage self.new.storage }
+        ensures doubt { self.new.is_in_doubt ≡ self.old.is_in_doubt }
     {
         let (is_gone, lost) = self.take_shut();
         if !is_gone {
@@ -159,21 +185,25 @@ impl<S: Alter + Drop, O: Reopen<Connection<S>> + HeldTables> ReopeningKeeper<S, 
     // Checks whether changes were made although their commit failed and shut the database, which it
     // opens again. Returns false if the database isn't shut; returns false and sets `is_in_doubt`
     // if the changes can't be checked.
+    #[tactic(auto, using(crate::proofs::ReopeningLemmas::shows_answer))]
     fn shows_changes(&mut self, changes: &[Change]) -> bool
         ensures keeps { KeepsStill S.Store self.old self.new }
         ensures gone { IsTrue result → self.new.first ≡ None }
+        ensures shows { ShowsChanges S.Store changes.now self.old self.new result }
     {
         if !self.reopen_if_shut() {
             return false;
         }
-        let found = match &mut self.storage {
-            Some(keeper) => keeper.has_changes(changes),
-            None => None,
+        let was_in_doubt = self.is_in_doubt;
+        self.is_in_doubt = true;
+        let Some(keeper) = &mut self.storage else {
+            return false;
         };
-        if found.is_none() {
-            self.is_in_doubt = true;
-        }
-        found.unwrap_or(false)
+        let Some(found) = keeper.has_changes(changes) else {
+            return false;
+        };
+        self.is_in_doubt = was_in_doubt;
+        found
     }
 
     // Passes all rows of the open database to a sink. The fault is `Store` if no database is open.
@@ -196,6 +226,7 @@ impl<S: Alter + Drop, O: Reopen<Connection<S>> + HeldTables> ReopeningKeeper<S, 
 
     // Applies changes atomically. The fault is `Store`, and nothing changes, if the file of the
     // database was moved away or no database is open.
+    #[tactic(auto, using(crate::proofs::ReopeningLemmas::stays_itself))]
     fn commit_now(&mut self, changes: &[Change]) -> Result<(), Fault>
         requires { DeltaFitsStorage changes.now (storage_still S.Store self.old) }
         ensures ok { OnOk result (IsKeeperStillUp S.Store self.new
@@ -203,6 +234,9 @@ impl<S: Alter + Drop, O: Reopen<Connection<S>> + HeldTables> ReopeningKeeper<S, 
             (rows_still S.Store self.new)) }
         ensures keeps { KeepsOnFault (storage_still S.Store self.old)
             (storage_still S.Store self.new) result }
+        ensures applies { OnOk result (AppliesOpen S.Store changes.now self.old.storage
+            self.new.storage) }
+        ensures stays { OnErr result (StaysUnwritten S.Store self.old.storage self.new.storage) }
         ensures kind { IfErr result IsKeeperFault }
     {
         if !self.opener.is_in_place() {
@@ -220,12 +254,15 @@ impl<S: Alter + Drop, O: Reopen<Connection<S>> + HeldTables> ReopeningKeeper<S, 
     }
 }
 
+/// The last fault may also be that of opening the database again.
 impl<S: Alter, O: Reopen<Connection<S>> + HeldTables> FaultCause for ReopeningKeeper<S, O> {
     fn cause(&self) -> Cause {
         self.cause
     }
 }
 
+/// A load, or a commit that fails, opens the database again if a failure has shut it; look-ups
+/// don't.
 impl<S: Alter + Drop, O: Reopen<Connection<S>> + HeldTables> Keeper for ReopeningKeeper<S, O> {
     ghost use Rattle.thes_sqlite.specs.Reopening.{storage_still, IsStillOpen, FindsStill};
 
@@ -245,7 +282,16 @@ impl<S: Alter + Drop, O: Reopen<Connection<S>> + HeldTables> Keeper for Reopenin
         count_fault_in(&mut self.failures, loaded)
     }
 
-    fn commit(&mut self, delta: Delta) -> Result<(), Fault> {
+    #[tactic(auto, using(crate::proofs::ReopeningLemmas::ends_fault))]
+    fn commit(&mut self, delta: Delta) -> Result<(), Fault>
+        requires fits { DeltaFitsStorage delta (storage_still S.Store self.old) }
+        ensures ok { OnOk result (IsKeeperStillUp S.Store self.new
+            → RawAfterChanges delta (rows_still S.Store self.old)
+            (rows_still S.Store self.new)) }
+        ensures keeps { CommitFrame (storage_still S.Store self.old)
+            (storage_still S.Store self.new) result }
+        ensures ends { EndsCommit S.Store delta self.old self.new result }
+    {
         let changes = delta.as_slice();
         match self.commit_now(changes) {
             Ok(()) => Ok(()),

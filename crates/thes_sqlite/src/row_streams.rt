@@ -28,7 +28,7 @@ use thes_sql::declarations::declares;
 use thes_sql::reads::{assigned_numbers_query, assigned_query, table_query};
 use thes_store::sink::{PostingSink, RowSink};
 
-// Passes a row to a sink as a row of this table.
+// Passes a row of the database to a sink, as cells of this table.
 #[tactic(auto, using(thes_store::proofs::SinkLemmas::one_sink_row))]
 fn yield_row<R: RowSink>(alloc: Global, name: Table, row: &Row, sink: &mut R) -> Result<(), Fault>
     ensures yields { SinkOutcome R.gives sink.old
@@ -135,7 +135,7 @@ pub(crate) fn yield_postings<S: Alter, P: PostingSink>(
     Err(Fault::Store)
 }
 
-// Appends the number in the first column of a row.
+// Appends the posting's number in the first column of a row of the database.
 fn push_number(row: &Row, numbers: &mut Vec<PostNo>) -> Result<(), Fault>
     ensures ok { OnOk result ((n : ℕ) → column row.now 0 ≡ Int (pos n)
         → numbers.new.items ≡ numbers.old.items ++ n ∷ []) }

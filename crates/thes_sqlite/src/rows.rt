@@ -17,8 +17,8 @@ use thes_load_rows::rows::{move_in, posting_in};
 use thes_tables::cells::{Cell, CellText};
 use thes_tables::rows::{MoveRow, PostingRow};
 
-// Returns a value as a cell; None for a value that no table has (a real, a blob, or a text that
-// isn't UTF-8).
+// Returns a value of the database as a cell; None for a value that no table has (a real, a blob, or
+// a text that isn't UTF-8).
 fn cell_of(alloc: Global, value: ValueRef<'_>) -> Result<Option<Cell>, AllocError>
     ensures { IfOk result (λ cell. IfSome cell (λ c. value_of c ≡ owned value.entry)) }
 {
@@ -33,8 +33,8 @@ fn cell_of(alloc: Global, value: ValueRef<'_>) -> Result<Option<Cell>, AllocErro
     }
 }
 
-// Reads the cells of a row; None if one of its values is a real, a blob, or a text that isn't
-// UTF-8.
+// Reads the cells of a row of the database; None if one of its values is a real, a blob, or a text
+// that isn't UTF-8.
 fn cells_of(alloc: Global, row: &Row) -> Result<Option<Vec<Cell>>, AllocError>
     ensures { IfOk result (λ cells. IfSome cells (λ c. values c.items ≡ row.now)) }
 {
@@ -64,8 +64,8 @@ pub(crate) fn read_posting(alloc: Global, row: &Row) -> Result<PostingRow, Error
     Err(Error::SqliteFailure(ErrorCode::DatabaseCorrupt))
 }
 
-/// Reads the number of a posting from the first column of a row. Another value, which another
-/// program may have written, is the error `DatabaseCorrupt`.
+/// Reads a posting's number from the first column of a row of the database. Another value, which
+/// another program may have written, is the error `DatabaseCorrupt`.
 pub(crate) fn read_number(row: &Row) -> Result<PostNo, Error>
     ensures { IfOk result (λ n. column row.now 0 ≡ Int (pos n)) }
 {

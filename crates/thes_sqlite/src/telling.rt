@@ -17,7 +17,8 @@ use thes_sql::outcome::has_change;
 use thes_tables::change::Change;
 use thes_tables::rows::{HierRow, LabelRow};
 
-// Returns whether a change inserts a row that is never deleted.
+// Returns whether a change inserts a row that is never deleted, and so shows after a failed commit
+// whether the change was made.
 fn inserts_for_good(change: &Change) -> bool
     ensures { result ≡ telling.inserts_for_good change.now }
 {
@@ -30,7 +31,8 @@ fn inserts_for_good(change: &Change) -> bool
     }
 }
 
-// Returns whether a change marks a row, and no other change removes the mark.
+// Returns whether a change marks a row, and no other change removes the mark, which so shows after
+// a failed commit whether the change was made.
 fn marks_for_good(change: &Change) -> bool
     ensures { result ≡ telling.marks_for_good change.now }
 {
@@ -40,7 +42,8 @@ fn marks_for_good(change: &Change) -> bool
     }
 }
 
-// Returns whether a change sets the places of postings, and inserts no move.
+// Returns whether a change sets the places of postings, and inserts no move, so that no row shows
+// after a failed commit whether the change was made.
 fn sets_places(change: &Change) -> bool
     ensures { result ≡ telling.sets_places change.now }
 {
@@ -106,7 +109,7 @@ fn changes_its_row(changes: &[Change], change: &Change) -> bool
     is_changed
 }
 
-// Returns the first change that inserts a row for good.
+// Returns the first change that inserts a row for good, for a look-up after a failed commit.
 fn first_insert(changes: &[Change]) -> Option<&Change>
     ensures { option_copied result ≡ find telling.inserts_for_good changes.now }
 {
@@ -118,7 +121,7 @@ fn first_insert(changes: &[Change]) -> Option<&Change>
     None
 }
 
-// Returns the first change that marks a row for good.
+// Returns the first change that marks a row for good, for a look-up after a failed commit.
 fn first_mark(changes: &[Change]) -> Option<&Change>
     ensures { option_copied result ≡ find telling.marks_for_good changes.now }
 {
@@ -130,7 +133,8 @@ fn first_mark(changes: &[Change]) -> Option<&Change>
     None
 }
 
-// Returns the last change whose row is there after the changes and wasn't before, or the reverse.
+// Returns the last change whose row is there after the changes and wasn't before, or the reverse,
+// for a look-up after a failed commit.
 fn last_turning(changes: &[Change]) -> Option<&Change>
     ensures { option_copied result ≡ telling.last_turning changes.now changes.now }
 {

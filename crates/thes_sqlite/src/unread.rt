@@ -1,5 +1,5 @@
-//! Names an object of a schema that the library can't read. It is found for a message alone, and
-//! nothing is promised of it.
+//! Finds the name of an object in a database's schema that the library sqlite can't read, for a
+//! message alone; no contract promises anything of the name.
 use crate::files::{FoundFile, find_file, options_for};
 use crate::page_cache::stated_page_size;
 use sqlite::Unknown;
@@ -12,7 +12,8 @@ use sqlite_value::row::Row;
 use sqlite_wal::PageSize;
 use std::alloc::{AllocError, Global};
 
-// The columns of a row of the schema: its kind, its name, the name of its table, and its text.
+// The positions of columns in a row of the schema: an object's kind, its name, the name of its
+// table, and its SQL text.
 const KIND: usize = 1;
 
 const NAME: usize = 2;
@@ -21,7 +22,7 @@ const TABLE: usize = 3;
 
 const TEXT: usize = 5;
 
-// Returns a row of the schema without its root page, as the library reads it.
+// Returns a row of the schema without the column of its root page, as the library reads rows.
 fn without_root(alloc: Global, row: &Row) -> Result<Row, AllocError> {
     let mut unrooted = Row::new(alloc);
     unrooted.push(row.get(0))?;
@@ -32,7 +33,7 @@ fn without_root(alloc: Global, row: &Row) -> Result<Row, AllocError> {
     Ok(unrooted)
 }
 
-// Returns whether a view can't be read by itself.
+// Returns whether the library can't read a schema that has only the row of this view.
 fn is_unread_view(alloc: Global, row: &Row) -> Result<bool, AllocError> {
     let unrooted = without_root(alloc, row)?;
     let mut rows = Vec::new(alloc);
@@ -50,8 +51,8 @@ fn is_view_named(row: &Row, name: &[u8]) -> bool {
     is_of_kind(row, "view") && bytes_of(row.get(NAME)) == name
 }
 
-// Returns whether a row is that of a view that can't be read, of a trigger on a view, or of a
-// virtual table.
+// Returns whether a row of the schema is that of a view that can't be read, of a trigger on a view,
+// or of a virtual table.
 fn is_unread(alloc: Global, rows: &[Row], row: &Row) -> Result<bool, AllocError> {
     if is_of_kind(row, "view") {
         return is_unread_view(alloc, row);
@@ -63,7 +64,7 @@ fn is_unread(alloc: Global, rows: &[Row], row: &Row) -> Result<bool, AllocError>
     Ok(is_of_kind(row, "table") && bytes_of(row.get(TEXT)).starts_with(b"CREATE VIRTUAL TABLE"))
 }
 
-// Returns whether a row is that of a table that can't be read.
+// Returns whether a row of the schema is that of a table that can't be read.
 fn is_unread_table(alloc: Global, row: &Row) -> Result<bool, AllocError> {
     if !is_of_kind(row, "table") {
         return Ok(false);
@@ -72,7 +73,8 @@ fn is_unread_table(alloc: Global, row: &Row) -> Result<bool, AllocError> {
     Ok(read_table(alloc, &unrooted)?.is_none())
 }
 
-// Returns the name of a row's object, or None if it has characters that aren't printed.
+// Returns the name of the object of a row of the schema; None if the name isn't UTF-8, or has
+// control characters of ASCII.
 fn name_of(alloc: Global, row: &Row) -> Result<Option<String>, AllocError> {
     match std::str::from_utf8(bytes_of(row.get(NAME))) {
         Ok(name) if name.bytes().all(|byte| byte >= b' ' && byte != 0x7f) => {
@@ -82,8 +84,8 @@ fn name_of(alloc: Global, row: &Row) -> Result<Option<String>, AllocError> {
     }
 }
 
-// Returns the name of the first object that can't be read, tables last: some of these are only
-// left alone.
+// Returns the name of the schema's first object that can't be read, tables last: with some of these
+// the library reads the schema all the same.
 fn first_unread(alloc: Global, rows: &[Row]) -> Result<Option<String>, AllocError> {
     for row in rows {
         if is_unread(alloc, rows, row)? {
@@ -98,7 +100,7 @@ fn first_unread(alloc: Global, rows: &[Row]) -> Result<Option<String>, AllocErro
     Ok(None)
 }
 
-// Reads the rows of the schema of the database in a file.
+// Reads the rows of the schema of the database in a file; None if they can't be read.
 fn read_catalog(rt: &HostRuntime, path: &str, found: &FoundFile) -> Option<Vec<Row>> {
     let size = PageSize::new(stated_page_size(&found.head) as usize)?;
     let Ok(options) = options_for(rt, found) else {

@@ -23,7 +23,7 @@ use thes_tables::change::Change;
 use thes_tables::delta::Delta;
 use thes_tables::rows::LabelRow;
 
-// Appends the deletion of each link.
+// Appends, for each link, the deletion of its row.
 fn push_removals(delta: &mut Delta, links: &[Link]) -> Result<(), AllocError>
     ensures { OnOk result (delta.new ≡ delta.old ++ map drop_link links.now) }
 {
@@ -33,7 +33,7 @@ fn push_removals(delta: &mut Delta, links: &[Link]) -> Result<(), AllocError>
     Ok(())
 }
 
-// Appends the insertion of each link.
+// Appends, for each link, the insertion of its row.
 fn push_insertions(delta: &mut Delta, links: &[Link]) -> Result<(), AllocError>
     ensures { OnOk result (delta.new ≡ delta.old ++ map add_link links.now) }
 {
@@ -43,7 +43,7 @@ fn push_insertions(delta: &mut Delta, links: &[Link]) -> Result<(), AllocError>
     Ok(())
 }
 
-// Appends the insertion of each label, as one of the owner.
+// Appends, for each label, the insertion of its row, as a label of the owner.
 fn push_labels(delta: &mut Delta, owner: ResNo, labels: Vec<Label>) -> Result<(), AllocError>
     ensures { let rows = map (owned_label owner) labels.items in
         OnOk result (delta.new ≡ delta.old ++ map change.AddLabel rows) }

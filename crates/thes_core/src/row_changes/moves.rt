@@ -1,4 +1,4 @@
-//! The changes of rows that postings and splits make.
+//! The changes of rows that posts and splits make.
 ghost use Rattle.std.specs.Prelude.{◌≡◌, ◌≤◌, ◌+◌, ◌++◌, ◌^◌, IfOk, OnOk, List, [], map, length};
 ghost use Rattle.thes_base.specs.declared.data.History.{History};
 ghost use Rattle.thes_base.specs.declared.request.Command.TheVariants as request;
@@ -20,7 +20,8 @@ use thes_tables::change::Change;
 use thes_tables::delta::Delta;
 use thes_tables::rows::{MoveRow, PostingRow};
 
-// Returns the items if their numbers, from `first` on, fit in 32 bits, or else an empty slice.
+// Returns the items if the numbers of their moves, from `first` on, fit in 32 bits, or else an
+// empty slice.
 pub(super) fn items_within_numbers<T>(first: u64, items: &[T]) -> &[T]
     requires { first ≤ 2 ^ 32 }
     ensures fits { first + length result.now ≤ 2 ^ 32 }

@@ -12,6 +12,7 @@ pub(crate) struct CountingSink<'a, S, P> {
     pub(crate) rows: u64,
 }
 
+/// A table that can't be queried is reported to the inner sink, and not counted.
 impl<S: RowSink, P: Progress> RowSink for CountingSink<'_, S, P> {
     ghost use Rattle.thes_jobs.specs.Passing.{Passes};
 

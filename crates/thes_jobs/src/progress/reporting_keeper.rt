@@ -64,7 +64,7 @@ impl<K: Keeper + FaultCause, P> FaultCause for ReportingKeeper<K, P> {
     }
 }
 
-/// Each call is passed to the inner storage.
+/// Each call is passed to the inner storage; loads and look-ups by key are also reported.
 impl<K: Keeper, P: Progress> Keeper for ReportingKeeper<K, P> {
     ghost view = { K.view };
 
@@ -98,7 +98,7 @@ impl<K: Keeper, P: Progress> Keeper for ReportingKeeper<K, P> {
         self.keeper.commit(delta)
     }
 
-    // (inline, since a post outside a plan would otherwise pay for a call more)
+    // Inline, since a post outside a plan would otherwise cost one more call.
     #[inline(always)]
     fn find(&mut self, key: &Key) -> Result<Option<PostingRow>, Fault> {
         self.progress.report_lookups(self.lookups);

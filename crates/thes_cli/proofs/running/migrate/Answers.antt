@@ -5,7 +5,6 @@ pub returns : goal.returns
 returns g c = record {
   input = refl;
   conn_after = c.migrate_in_database-status.result.1;
-  files_left = c.close.result;
-  closes_it = c.close.ensures;
+  closes_it = c.close_open.ensures;
   migrates = rw (← c.as_str.ensures.value) c.migrate_in_database-status.ensures;
 }

@@ -1,12 +1,5 @@
-use Rattle.std.proofs.Common.{None, Some, refl}
-use Rattle.thes_cli.proofs.StoreFileLemmas.{closes_left}
+use Rattle.std.proofs.Common.{refl}
 use Rattle.thes_cli.proofs.stores.close_left.Goals as goal
 
-pub returns-in-Some : goal.returns-in-Some
-returns-in-Some g c =
-    closes_left g.S.Store g.D.Databases.is_clean g.D.Databases.holds c.args.left (Some c.in-Some.conn)
-    (Some c.close.result) c.in-Some.is (c.requires c.in-Some.conn c.close.result c.close.ensures)
-
-pub returns-in-None : goal.returns-in-None
-returns-in-None g c =
-    closes_left g.S.Store g.D.Databases.is_clean g.D.Databases.holds c.args.left None None c.in-None.is refl
+pub returns : goal.returns
+returns g c = record { is_reopened = refl; is_in_doubt = refl; files = c.close.ensures }

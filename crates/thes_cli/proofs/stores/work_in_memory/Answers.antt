@@ -11,10 +11,10 @@ pub returns : goal.returns
 returns g c =
     works_in_memory g.F.Read.remaining g.R.Read.remaining g.W.Write.contents g.E.Write.contents
     (λ (t : Tables). Unit {0}) (λ (t : Tables) (raw : Raw). raw ≡ cells_of_tables t) c.args.job c.args.streams.now
-    c.work_with_progress-status.result.0 c.work_with_progress-status.result.1 c.work_with_progress-status.new.streams
+    c.work_over_keeper-status.result.0 c.work_over_keeper-status.result.1 c.work_over_keeper-status.new.streams
     (subst IsBase c.as_str.ensures.text c.as_str.ensures.form)
     (subst (λ (t : Tables). WorksOverKeeper storage_in_memory (λ (t : Tables). Unit {0})
     (λ (t : Tables) (raw : Raw). raw ≡ cells_of_tables t) g.F.Read.remaining g.R.Read.remaining
-    g.W.Write.contents g.E.Write.contents c.args.job.work None c.args.job.limits t c.args.streams.now
-    c.work_with_progress-status.result.0 c.work_with_progress-status.result.1 c.work_with_progress-status.new.streams)
-    c.new-keeper.ensures c.work_with_progress-status.ensures)
+    g.W.Write.contents g.E.Write.contents c.args.job.work None c.args.job.setting.limits t c.args.streams.now
+    c.work_over_keeper-status.result.0 c.work_over_keeper-status.result.1 c.work_over_keeper-status.new.streams)
+    c.new-keeper.ensures c.work_over_keeper-status.ensures)

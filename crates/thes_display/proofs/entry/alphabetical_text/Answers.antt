@@ -3,7 +3,7 @@ use Rattle.std.proofs.Common.{◌∙◌, ◌++◌, ◌∷◌, [], List, ap, subs
 use Rattle.std.proofs.lemmas.List.{take_all, take_more}
 use Rattle.thes_core.specs.CoreView.{with_histories}
 use Rattle.thes_base.specs.Listing.{IsListing}
-use Rattle.thes_display.specs.declared.entry.Heading.{Heading}
+use Rattle.thes_display.specs.declared.heading.Heading.{Heading}
 use Rattle.thes_display.specs.Alphabetical.{IsEntry, IsHeading, heading_cmp}
 use Rattle.thes_display.specs.HeadingIndex.{ArePlaces}
 use Rattle.thes_display.specs.HierarchyParts.{rank_at}

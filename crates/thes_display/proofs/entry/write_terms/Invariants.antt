@@ -6,4 +6,4 @@ use Rattle.thes_display.proofs.entry.write_terms.Given as goal
 
 abbrev pub invariant-loop-term : goal.invariant-loop-term
 invariant-loop-term l = l.text.items ≡ l.fn.text.items
-    ++ flat_map (λ (t : Term). entry_line (symbol_text l.symbol) t.text) (take l.term-index l.term-items)
+    ++ flat_map (λ (t : Term). entry_line (symbol_text l.symbol) t.text) (take l.term-index l.terms)

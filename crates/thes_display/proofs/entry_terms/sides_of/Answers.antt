@@ -19,9 +19,11 @@ returns-clause-sides c =
       concept = c.args.n;
       broader = c.in_ok-broader_of.field-0;
       narrower = c.in_ok-narrower_of.field-0;
+      associates = c.in_ok-related_of.field-0;
       is_typed = c.in_ok-has_typed_link.field-0;
     } in
     record {
       each_side = on_both c.args.core.now.links sides c.in_ok-broader_of.ensures c.in_ok-narrower_of.ensures;
+      each_associate = c.in_ok-related_of.ensures;
       no_typed_link = c.in_ok-has_typed_link.ensures;
     }

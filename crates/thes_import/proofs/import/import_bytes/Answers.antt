@@ -3,10 +3,11 @@ use Rattle.std.proofs.Common.{rules}
 use Rattle.std.specs.Io.KnownBytes.{Appends}
 use Rattle.thes_base.specs.Pipe.{AppendsPrefix, written_bytes}
 use Rattle.thes_import.specs.ImportEngine.{ImportsBytes}
-use Rattle.thes_posting_files.specs.Outcomes.{outcome_lines}
+use Rattle.thes_posting_files.specs.Outcomes.{outcome_lines, row_count}
 use Rattle.thes_posting_files.specs.PostingFile.{IsPostingFile}
 use Rattle.thes_import.proofs.BlockLemmas.{performs_nothing}
-use Rattle.thes_import.proofs.ImportLemmas.{all_read, counts_fit, halted_in, importing_more, importing_none}
+use Rattle.thes_import.proofs.ImportLemmas.{all_read, counts_read, fewer_left, halted_in, importing_more}
+use Rattle.thes_import.proofs.ImportLemmas.{importing_none}
 use Rattle.thes_import.proofs.WritingLemmas.{block_whole, faults_of_last, heading_cut, no_faults, stopped_by_writer}
 use Rattle.thes_import.proofs.WritingLemmas.{stopped_in_block}
 use Rattle.thes_import.proofs.import.import_bytes.Goals as goal
@@ -50,9 +51,9 @@ loop-reader-init g c =
       paid = c.write_report.ensures.calls;
     }
 
-pub import_block-done-requires-clause-fits : goal.import_block-done-requires-clause-fits
-import_block-done-requires-clause-fits g c =
-    counts_fit g.K.Keeper.view c.args.office.now c.loop-reader.office
+pub import_block-done-requires-clause-counts : goal.import_block-done-requires-clause-counts
+import_block-done-requires-clause-counts g c =
+    counts_read g.K.Keeper.view c.args.office.now c.loop-reader.office
     c.args.file.now c.loop-reader.reader c.loop-reader.report.counts c.loop-reader.invariant.so_far
 
 pub returns-in_err-write_report-2-clause-imports : goal.returns-in_err-write_report-2-clause-imports
@@ -134,6 +135,14 @@ loop-reader-preserved g c =
       fresh = c.in_ok-write_report-2.ensures.fresh;
       paid = search rules;
     }
+
+pub loop-reader-smaller : goal.loop-reader-smaller
+loop-reader-smaller g c =
+    let less = fewer_left g.K.Keeper.view c.args.office.now c.loop-reader.office c.import_block-done.new.office
+    c.args.file.now c.loop-reader.reader c.import_block-done.new.reader c.loop-reader.report
+    c.import_block-done.new.report c.loop-reader.invariant.so_far c.in_default-done.ensures.imports in
+    let same = ap row_count c.write_report-in-loop-reader.ensures.counts in
+    omega (arith, less, same)
 
 pub returns-clause-imports : goal.returns-clause-imports
 returns-clause-imports g c =

@@ -1,7 +1,7 @@
-use Rattle.std.proofs.Common.{◌≡◌, []}
+use Rattle.std.proofs.Common.{◌≡◌, ◌-◌, ◌^◌, []}
 use Rattle.std.specs.Io.KnownBytes.{Appends}
 use Rattle.thes_base.specs.Pipe.{IsFresh, PaysCalls, written_bytes}
-use Rattle.thes_posting_files.specs.Outcomes.{outcomes_text}
+use Rattle.thes_posting_files.specs.Outcomes.{outcomes_text, row_count}
 use Rattle.thes_import.proofs.ImportLemmas.{ImportInvariant}
 use Rattle.thes_import.proofs.import.import_bytes.Given as goal
 
@@ -17,4 +17,4 @@ invariant-loop-reader g l = record {
 }
 
 abbrev pub decreases-loop-reader : goal.decreases-loop-reader
-decreases-loop-reader g l = l.reader.unread
+decreases-loop-reader g l = 2 ^ 64 - row_count l.report.counts

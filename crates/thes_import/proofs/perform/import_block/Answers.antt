@@ -1,23 +1,24 @@
-use Rattle.std.proofs.Common.{◌≡◌, List, [], map, refl, rules, subst, sym}
+use Rattle.std.proofs.Common.{◌≡◌, ◌∙◌, List, [], map, refl, rules, subst, sym, ap, arith, length}
+use Rattle.std.proofs.lemmas.List.{length-map}
 use Rattle.thes_base.specs.declared.fault.Fault.TheVariants.{OutOfMemory}
 use Rattle.thes_base.specs.declared.request.Answer.{Answer}
 use Rattle.thes_office.specs.Office.{RunResult}
-use Rattle.thes_posting_files.specs.Outcomes.{fault_of_row, outcomes_of, posts_of}
+use Rattle.thes_posting_files.specs.Outcomes.{fault_of_row, outcomes_of, posts_of, row_count}
 use Rattle.thes_posting_files.proofs.ReportLemmas.{adds_same}
-use Rattle.thes_import.proofs.BlockLemmas.{block_result, block_unread, rows_reported}
+use Rattle.thes_import.proofs.BlockLemmas.{block_fits, block_result, block_unread, rows_reported}
 use Rattle.thes_import.proofs.perform.import_block.Goals as goal
 
 pub returns-clause-imports : goal.returns-clause-imports
 returns-clause-imports g c =
-    let rows = c.in_ok-rows.rows.items in
-    let posts : c.as_slice.result.now ≡ posts_of rows = search rules in
-    let faults : c.as_slice-2.result.now ≡ map fault_of_row rows = search rules in
+    let read = c.in_ok-block.ensures in
+    let rows = read.rows in
+    let posts : c.as_slice.result.now ≡ posts_of rows = c.as_slice.ensures.value ∙ read.posts in
+    let faults : c.as_slice-2.result.now ≡ map fault_of_row rows = c.as_slice-2.ensures.value ∙ read.faults in
     let answers : c.as_slice-3.result.now ≡ c.run-ran.new.answers.items = search rules in
     let before : c.new-answers.result.items ≡ [] = search rules in
     block_result g.K.Keeper.view c.args.office.now c.run-ran.new.self c.args.reader.now
     c.read_block.new.reader c.args.report.now c.push_outcomes.new.self rows c.run-ran.result
-    c.in_ok-rows.ensures.reads c.in_ok-rows.ensures.unread (c.in_ok-rows.ensures.some c.requires.some)
-    c.in_ok-rows.ensures.few
+    read.reads (read.some c.requires.some) read.few
     (rows_reported g.K.Keeper.view c.args.office.now c.run-ran.new.self rows
     c.as_slice.result.now c.as_slice-2.result.now c.as_slice-3.result.now c.run-ran.result
     c.args.report.now c.push_outcomes.new.self posts faults
@@ -30,20 +31,26 @@ returns-clause-imports g c =
     c.make_room.new.self c.push_outcomes.new.self c.make_room.ensures.text c.make_room.ensures.counts
     c.push_outcomes.ensures))
 
-pub returns-in_err-rows-clause-imports : goal.returns-in_err-rows-clause-imports
-returns-in_err-rows-clause-imports g c =
-    block_unread g.K.Keeper.view c.args.office.now c.args.reader.now c.read_block.new.reader c.args.report.now
-    c.args.report.now c.from_residual.result OutOfMemory (search rules) c.is_stale.ensures.shows c.requires.some refl
-    refl
-
 pub returns-in_err-block-clause-imports : goal.returns-in_err-block-clause-imports
 returns-in_err-block-clause-imports g c =
     block_unread g.K.Keeper.view c.args.office.now c.args.reader.now c.read_block.new.reader c.args.report.now
-    c.args.report.now c.from_residual-in_err-block.result OutOfMemory (search rules) c.is_stale.ensures.shows
-    c.requires.some refl refl
+    c.args.report.now c.from_residual.result OutOfMemory (search rules) c.is_stale.ensures.shows c.requires.some refl
+    refl
 
 pub returns-in_err-make_room-clause-imports : goal.returns-in_err-make_room-clause-imports
 returns-in_err-make_room-clause-imports g c =
     block_unread g.K.Keeper.view c.args.office.now c.args.reader.now c.read_block.new.reader c.args.report.now
     c.make_room.new.self c.from_residual-in_err-make_room.result OutOfMemory (search rules) c.is_stale.ensures.shows
     c.requires.some c.make_room.ensures.text c.make_room.ensures.counts
+
+pub push_outcomes-requires-clause-fits : goal.push_outcomes-requires-clause-fits
+push_outcomes-requires-clause-fits g c =
+    let read = c.in_ok-block.ensures in
+    let rows = read.rows in
+    let faults : c.as_slice-2.result.now ≡ map fault_of_row rows = c.as_slice-2.ensures.value ∙ read.faults in
+    let as_many = length-map rows fault_of_row in
+    let size = ap (λ (l : List _). length l) faults in
+    let fits = block_fits c.args.reader.now c.read_block.new.reader c.args.report.now.counts rows c.requires.counts
+    read.reads in
+    let same = ap row_count c.make_room.ensures.counts in
+    omega (arith, as_many, size, fits, same)

@@ -1,5 +1,6 @@
 use Rattle.std.proofs.Common.{◌++◌, inr, refl}
-use Rattle.thes_import.proofs.ImportLemmas.{all_read, counts_fit, halted_in, importing_more, importing_none, text_after}
+use Rattle.thes_import.proofs.ImportLemmas.{all_read, counts_read, fewer_left, halted_in, importing_more, importing_none}
+use Rattle.thes_import.proofs.ImportLemmas.{text_after}
 use Rattle.thes_import.proofs.postings.import_postings.Goals as goal
 
 pub loop-reader-init : goal.loop-reader-init
@@ -11,9 +12,9 @@ loop-reader-init g c =
       text = c.in-Ok-new.ensures.text;
     }
 
-pub import_block-requires-clause-fits : goal.import_block-requires-clause-fits
-import_block-requires-clause-fits g c =
-    counts_fit g.K.Keeper.view c.args.office.now c.loop-reader.office
+pub import_block-requires-clause-counts : goal.import_block-requires-clause-counts
+import_block-requires-clause-counts g c =
+    counts_read g.K.Keeper.view c.args.office.now c.loop-reader.office
     c.args.file.now c.loop-reader.reader c.loop-reader.report.counts c.loop-reader.invariant.so_far
 
 pub returns-in-Err-clause-imports : goal.returns-in-Err-clause-imports
@@ -71,3 +72,9 @@ returns-clause-imports g c =
         performs = i.so_far.performs.performs;
       },
     )
+
+pub loop-reader-smaller : goal.loop-reader-smaller
+loop-reader-smaller g c =
+    fewer_left g.K.Keeper.view c.args.office.now c.loop-reader.office c.import_block.new.office c.args.file.now
+    c.loop-reader.reader c.import_block.new.reader c.loop-reader.report c.import_block.new.report
+    c.loop-reader.invariant.so_far c.in_default-import_block.ensures.imports

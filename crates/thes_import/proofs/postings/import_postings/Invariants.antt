@@ -1,5 +1,5 @@
-use Rattle.std.proofs.Common.{◌≡◌}
-use Rattle.thes_posting_files.specs.Outcomes.{outcomes_text}
+use Rattle.std.proofs.Common.{◌≡◌, ◌-◌, ◌^◌}
+use Rattle.thes_posting_files.specs.Outcomes.{outcomes_text, row_count}
 use Rattle.thes_import.proofs.ImportLemmas.{ImportInvariant}
 use Rattle.thes_import.proofs.postings.import_postings.Given as goal
 
@@ -11,4 +11,4 @@ invariant-loop-reader g l = record {
 }
 
 abbrev pub decreases-loop-reader : goal.decreases-loop-reader
-decreases-loop-reader g l = l.reader.unread
+decreases-loop-reader g l = 2 ^ 64 - row_count l.report.counts

@@ -1,8 +1,5 @@
 use Rattle.thes_jobs.proofs.starting.open_database.Goals as goal
 
-pub returns-in-Ok-clause-ready : goal.returns-in-Ok-clause-ready
-returns-in-Ok-clause-ready g c = c.requires c.in-Ok.conn c.in-Ok.ensures
-
 pub returns-after-is_mark_void-clause-err : goal.returns-after-is_mark_void-clause-err
 returns-after-is_mark_void-clause-err g c = record {
   cause = c.in-Err.cause;

@@ -22,11 +22,12 @@ pub loop-command-preserved : goal.loop-command-preserved
 loop-command-preserved g c =
     let more = take_more c.args.group.now c.loop-command.command-index c.command-item.result (omega arith)
     ∙ ap (λ (x : Command). take c.loop-command.command-index c.args.group.now ++ x ∷ []) (sym c.command-item.is) in
-    let asks = c.decide_next.ensures.asks in
-    let decided = c.in-Ok.ensures.decides in record {
-      keeps = kept_after _ _ _ c.loop-command.invariant.keeps _ c.in-Ok.ensures.asks;
-      unspent = c.in-Ok.ensures.usable.0;
-      setting = c.in-Ok.ensures.usable.1 ∙ c.loop-command.invariant.setting;
+    let asks = c.in-Ok.ensures.asks in
+    let told = c.in_ok-decide_with_facts.ensures in
+    let decided = told.decides in record {
+      keeps = kept_after _ _ _ c.loop-command.invariant.keeps _ asks;
+      unspent = told.usable.0;
+      setting = told.usable.1 ∙ c.loop-command.invariant.setting;
       each = let grown = ap (λ (l : List Answer). length l) decided.1 in
           let one = length-append c.loop-command.decided.answers.items (decided.0 ∷ []) in
           let before = c.loop-command.invariant.each in
@@ -34,13 +35,15 @@ loop-command-preserved g c =
       decides = λ up. let was = asks.was up in
           decides_one_more (g.K.Keeper.view c.args.keeper.now).rows (g.K.Keeper.view c.loop-command.keeper).rows
           c.args.core.now.setting (take c.loop-command.command-index c.args.group.now) _ c.command-item.result
-          c.loop-command.decided.answers.items c.decide_next.new.decided.answers.items decided.0
-          c.loop-command.decided.delta c.decide_next.new.decided.delta c.loop-command.core c.decide_next.new.core
+          c.loop-command.decided.answers.items c.decide_with_facts.new.decided.answers.items decided.0
+          c.loop-command.decided.delta c.decide_with_facts.new.decided.delta c.loop-command.core
+          c.decide_with_facts.new.core
           (c.loop-command.invariant.decides was) c.loop-command.invariant.setting
           (c.loop-command.invariant.keeps.same was)
           (c.requires.group c.loop-command.command-index c.command-item.result
           (slice_get_read c.args.group.now (length c.args.group.now) c.loop-command.command-index
-          c.command-item.result refl (omega arith) c.command-item.is)) (decided.2 up) decided.1 more;
+          c.command-item.result refl (omega arith) c.command-item.is))
+          (λ s holds has. decided.2 s holds (has c.in-Ok.facts (c.in-Ok.ensures.in_tables up))) decided.1 more;
     }
 
 pub returns-clause-decides : goal.returns-clause-decides

@@ -78,8 +78,8 @@ returns-in-Ok-Some-clause-each g c =
     let done = c.loop-asked.yielded in
     let all = c.args.plan.items in
     let given = c.into_iter-asked-iterator.ensures.into_iter_gives in
-    let turn = YieldsList-turn (YieldsList-from_vec {s = c.into_iter-asked-iterator.result} all given.0
-    (given.1 ∙ c.args.plan.ok.0)) done c.loop-asked.asked-iterator c.loop-asked.yielded_by c.next.result
+    let road = YieldsList-from_vec {s = c.into_iter-asked-iterator.result} all given.0 (given.1 ∙ c.args.plan.ok.0) in
+    let turn = YieldsList-turn road done c.loop-asked.asked-iterator c.loop-asked.yielded_by c.next.result
     c.next.new.self c.in-Some.asked c.in-Some.is c.next.ensures.steps in
     let d = c.in-Ok-Some.ensures.decides in
     let answers = c.loop-asked.progress.decided.answers.items in
@@ -91,10 +91,10 @@ returns-in-Ok-Some-clause-each g c =
 pub returns-clause-decides : goal.returns-clause-decides
 returns-clause-decides g c up =
     let done = c.loop-asked.yielded in
-    let all = c.args.plan.items in
     let given = c.into_iter-asked-iterator.ensures.into_iter_gives in
-    let ended = YieldsList-end (YieldsList-from_vec {s = c.into_iter-asked-iterator.result} all given.0
-    (given.1 ∙ c.args.plan.ok.0)) done c.loop-asked.asked-iterator c.loop-asked.yielded_by c.next.result
+    let road = YieldsList-from_vec {s = c.into_iter-asked-iterator.result} c.args.plan.items given.0
+    (given.1 ∙ c.args.plan.ok.0) in
+    let ended = YieldsList-end road done c.loop-asked.asked-iterator c.loop-asked.yielded_by c.next.result
     c.next.new.self c.in-None.is c.next.ensures.steps in
     subst (λ (l : List PlanRequest). PlanDecided (g.K.Keeper.view c.args.keeper.now).rows c.args.core.now.setting l
     c.loop-asked.progress.decided.answers.items c.loop-asked.progress.decided.delta c.loop-asked.core)
@@ -102,12 +102,11 @@ returns-clause-decides g c up =
 
 pub returns-clause-each : goal.returns-clause-each
 returns-clause-each g c =
-    let done = c.loop-asked.yielded in
-    let all = c.args.plan.items in
     let given = c.into_iter-asked-iterator.ensures.into_iter_gives in
-    let ended = YieldsList-end (YieldsList-from_vec {s = c.into_iter-asked-iterator.result} all given.0
-    (given.1 ∙ c.args.plan.ok.0)) done c.loop-asked.asked-iterator c.loop-asked.yielded_by c.next.result
-    c.next.new.self c.in-None.is c.next.ensures.steps in
+    let road = YieldsList-from_vec {s = c.into_iter-asked-iterator.result} c.args.plan.items given.0
+    (given.1 ∙ c.args.plan.ok.0) in
+    let ended = YieldsList-end road c.loop-asked.yielded c.loop-asked.asked-iterator c.loop-asked.yielded_by
+    c.next.result c.next.new.self c.in-None.is c.next.ensures.steps in
     c.loop-asked.invariant.each ∙ ended.1
 
 pub returns-in-Ok-Some-clause-usable : goal.returns-in-Ok-Some-clause-usable

@@ -8,20 +8,15 @@ use Rattle.thes_office.proofs.plan.perform_plan.Goals as goal
 
 pub commit_changes-requires : goal.commit_changes-requires
 commit_changes-requires g c up t is =
-    let d = subst (λ (x : PlanDecision). IsPlanDecision (g.K.Keeper.view c.args.keeper.now).rows
-    c.args.core.now.setting c.args.plan.items x c.decide_plan.new.core) c.in-Ok-Accepted.field-0-is
-    (c.in-Ok-Accepted.ensures.decides up) in
+    let d = rw c.in-Ok-Accepted.field-0-is at c.in-Ok-Accepted.ensures.decides up in
     changes_fit (g.K.Keeper.view c.args.keeper.now).rows c.args.core.now.setting.base d.state_before d.state_after
     c.in-Ok-Accepted.delta d.shows d.leads t (sym (c.decide_plan.ensures.asks.same up) ∙ is)
 
 pub returns-in_default-clause-ok : goal.returns-in_default-clause-ok
 returns-in_default-clause-ok g c up =
     let was = c.commit_changes.ensures.keeps.was up in
-    let d = subst (λ (x : PlanDecision). IsPlanDecision (g.K.Keeper.view c.args.keeper.now).rows
-    c.args.core.now.setting c.args.plan.items x c.decide_plan.new.core) c.in-Ok-Accepted.field-0-is
-    (c.in-Ok-Accepted.ensures.decides was) in
-    let usable = subst (λ (x : PlanDecision). IsUsableAfter c.args.core.now c.decide_plan.new.core x)
-    c.in-Ok-Accepted.field-0-is c.in-Ok-Accepted.ensures.usable in
+    let d = rw c.in-Ok-Accepted.field-0-is at c.in-Ok-Accepted.ensures.decides was in
+    let usable = rw c.in-Ok-Accepted.field-0-is at c.in-Ok-Accepted.ensures.usable in
     plan_is_done (g.K.Keeper.view c.args.keeper.now).rows (g.K.Keeper.view c.commit_changes.new.keeper).rows
     c.args.core.now.setting c.args.plan.items c.in-Ok-Accepted.answers.items c.in-Ok-Accepted.delta
     c.decide_plan.new.core d usable.1
@@ -31,11 +26,8 @@ returns-in_default-clause-ok g c up =
 pub returns-in_default-clause-copies : goal.returns-in_default-clause-copies
 returns-in_default-clause-copies g c unspent up =
     let was = c.commit_changes.ensures.keeps.was up in
-    let d = subst (λ (x : PlanDecision). IsPlanDecision (g.K.Keeper.view c.args.keeper.now).rows
-    c.args.core.now.setting c.args.plan.items x c.decide_plan.new.core) c.in-Ok-Accepted.field-0-is
-    (c.in-Ok-Accepted.ensures.decides was) in
-    let usable = subst (λ (x : PlanDecision). IsUsableAfter c.args.core.now c.decide_plan.new.core x)
-    c.in-Ok-Accepted.field-0-is c.in-Ok-Accepted.ensures.usable in
+    let d = rw c.in-Ok-Accepted.field-0-is at c.in-Ok-Accepted.ensures.decides was in
+    let usable = rw c.in-Ok-Accepted.field-0-is at c.in-Ok-Accepted.ensures.usable in
     copy_after_plan (g.K.Keeper.view c.args.keeper.now).rows (g.K.Keeper.view c.commit_changes.new.keeper).rows
     c.args.core.now.setting c.args.plan.items c.in-Ok-Accepted.answers.items c.in-Ok-Accepted.delta
     c.decide_plan.new.core d usable.1
@@ -43,20 +35,15 @@ returns-in_default-clause-copies g c unspent up =
 
 pub returns-in-Ok-Refused-clause-ok : goal.returns-in-Ok-Refused-clause-ok
 returns-in-Ok-Refused-clause-ok g c up =
-    let d = subst (λ (x : PlanDecision). IsPlanDecision (g.K.Keeper.view c.args.keeper.now).rows
-    c.args.core.now.setting c.args.plan.items x c.decide_plan.new.core) c.in-Ok-Refused.field-0-is
-    (c.in-Ok-Refused.ensures.decides up) in
+    let d = rw c.in-Ok-Refused.field-0-is at c.in-Ok-Refused.ensures.decides up in
     plan_is_refused (g.K.Keeper.view c.args.keeper.now).rows (g.K.Keeper.view c.decide_plan.new.keeper).rows
     c.args.core.now.setting c.args.plan.items c.in-Ok-Refused.place c.in-Ok-Refused.refusal c.decide_plan.new.core d
     (c.decide_plan.ensures.asks.same up)
 
 pub returns-in-Ok-Refused-clause-copies : goal.returns-in-Ok-Refused-clause-copies
 returns-in-Ok-Refused-clause-copies g c unspent up =
-    let d = subst (λ (x : PlanDecision). IsPlanDecision (g.K.Keeper.view c.args.keeper.now).rows
-    c.args.core.now.setting c.args.plan.items x c.decide_plan.new.core) c.in-Ok-Refused.field-0-is
-    (c.in-Ok-Refused.ensures.decides up) in
-    let usable = subst (λ (x : PlanDecision). IsUsableAfter c.args.core.now c.decide_plan.new.core x)
-    c.in-Ok-Refused.field-0-is c.in-Ok-Refused.ensures.usable in
+    let d = rw c.in-Ok-Refused.field-0-is at c.in-Ok-Refused.ensures.decides up in
+    let usable = rw c.in-Ok-Refused.field-0-is at c.in-Ok-Refused.ensures.usable in
     copy_after_refusal (g.K.Keeper.view c.args.keeper.now).rows (g.K.Keeper.view c.decide_plan.new.keeper).rows
     c.args.core.now.setting c.args.plan.items c.in-Ok-Refused.place c.in-Ok-Refused.refusal c.decide_plan.new.core d
     (c.decide_plan.ensures.asks.same up) unspent (usable unspent)

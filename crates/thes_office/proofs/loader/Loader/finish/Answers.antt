@@ -20,7 +20,8 @@ of_parts-core-requires-clause-legal c =
 
 pub returns-in-Ok-clause-ok : goal.returns-in-Ok-clause-ok
 returns-in-Ok-clause-ok c = λ raw knows.
-    core_is_loaded raw c.in-Ok.parts c.of_parts-core.result c.of_parts-core.ensures.holds c.of_parts-core.ensures.usable.base_is
+    core_is_loaded raw c.in-Ok.parts c.of_parts-core.result c.of_parts-core.ensures.holds
+    c.of_parts-core.ensures.usable.base_is
     (subst (λ (answer : Result LoadedParts Fault). LoadResult raw answer) c.in-Ok.is
     (c.in_ok-parts-in_default.ensures raw (subst (λ (r : LoaderView). HasRead r.stage raw) (sym c.self.view_is)
     knows)))

@@ -12,8 +12,8 @@ returns-in-Settled-clause-performed g c =
     c.self.inside.limits c.self.inside.stale c.gather_facts.new.self c.self.invariant c.self.view_is
     c.in_ok-facts.ensures.frame.fresh c.args.command.now c.in_ok-facts.facts c.in_ok-facts.ensures.in_tables _
     c.in_ok-answer.ensures.decides
-    c.args.self.now c.in-Settled.answer c.in_ok-facts.ensures.frame.fault_behaviour.limits c.in_ok-facts.ensures.frame.same
-    c.in-Settled.is
+    c.args.self.now c.in-Settled.answer c.in_ok-facts.ensures.frame.fault_behaviour.limits
+    c.in_ok-facts.ensures.frame.same c.in-Settled.is
 
 pub commit-requires : goal.commit-requires
 commit-requires g c = record {
@@ -31,8 +31,8 @@ invariant_of-self g c =
     (never_falls _ _ _ c.commit.ensures.keeps.cause)
     (λ e. let is : c.in-Err.fault ≡ faults.Store = search rules in
     inr (has_failed _ _ _ c.in-Err.ensures.keeps.cause is))
-    (λ e. ap (λ (d : OfficeView _). d.stale) c.self.view_is ∙ c.in_ok-facts.ensures.frame.fresh) c.commit.ensures.keeps.was
-    c.in-Err.ensures.keeps.same
+    (λ e. ap (λ (d : OfficeView _). d.stale) c.self.view_is ∙ c.in_ok-facts.ensures.frame.fresh)
+    c.commit.ensures.keeps.was c.in-Err.ensures.keeps.same
 
 pub apply-requires-clause-may : goal.apply-requires-clause-may
 apply-requires-clause-may g c = grind (arith)

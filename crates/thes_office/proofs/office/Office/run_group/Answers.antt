@@ -24,9 +24,10 @@ invariant_of-self-in-Err g c =
     c.self.invariant c.perform_group.ensures.keeps.was c.in-Err.ensures.keeps.same c.in-Err.ensures.spent
 
 pub perform_group-requires : goal.perform_group-requires
-perform_group-requires g c = let fresh = ap (λ (d : OfficeView _). d.stale) c.self.view_is ∙ c.requires.fresh in record {
-  unspent = c.self.invariant.unspent fresh;
-  copies = λ up. copies_own (g.K.Keeper.view c.self.inside.keeper).rows c.self.inside.limits c.self.inside.core
-      (c.self.invariant.copies fresh up);
-  group = c.requires.group;
-}
+perform_group-requires g c =
+    let fresh = ap (λ (d : OfficeView _). d.stale) c.self.view_is ∙ c.requires.fresh in record {
+      unspent = c.self.invariant.unspent fresh;
+      copies = λ up. copies_own (g.K.Keeper.view c.self.inside.keeper).rows c.self.inside.limits c.self.inside.core
+          (c.self.invariant.copies fresh up);
+      group = c.requires.group;
+    }

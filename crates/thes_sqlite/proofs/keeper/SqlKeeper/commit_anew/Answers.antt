@@ -1,6 +1,6 @@
 use Rattle.std.proofs.Common.{ap}
 use Rattle.thes_sqlite.specs.KeeperView.{KeeperView}
-use Rattle.thes_sqlite.proofs.KeeperLemmas.{frame_of_success, frame_of_fault}
+use Rattle.thes_sqlite.proofs.KeeperLemmas.{applies_done, frame_of_success, frame_of_fault}
 use Rattle.thes_sqlite.proofs.keeper.SqlKeeper.commit_anew.Goals as goal
 
 pub returns-in-Ok-clause-database : goal.returns-in-Ok-clause-database
@@ -13,3 +13,8 @@ returns-in-Err-clause-database g c =
     frame_of_fault g.S.Store _ _ c.commit_all-ended.new.conn (ap (λ (k : KeeperView _). k.conn) c.self.view_is)
     c.self.invariant.autocommit c.commit_all-ended.ensures.crash c.commit_all-ended.ensures.own c.in-Err.error _
     c.in-Err.is
+
+pub returns-in-Ok-clause-applies : goal.returns-in-Ok-clause-applies
+returns-in-Ok-clause-applies g c = applies_done g.S.Store _ _ c.commit_all-ended.new.conn c.args.changes.now
+    c.commit_all-ended.result _ c.in-Ok.is (ap (λ (k : KeeperView _). k.conn) c.self.view_is)
+    c.self.invariant.autocommit c.commit_all-ended.ensures.own c.commit_all-ended.ensures.all

@@ -1,7 +1,7 @@
 use Rattle.std.proofs.lemmas.Grind.{common_steps}
 use Rattle.std.proofs.Common.{arith, ap}
 use Rattle.thes_sqlite.specs.KeeperView.{KeeperView}
-use Rattle.thes_sqlite.proofs.KeeperLemmas.{is_done, is_either, frame_of_success, frame_of_fault}
+use Rattle.thes_sqlite.proofs.KeeperLemmas.{applies_done, is_done, is_either, frame_of_success, frame_of_fault}
 use Rattle.thes_sqlite.proofs.keeper.SqlKeeper.commit_changes.Goals as goal
 
 pub invariant_of-self : goal.invariant_of-self
@@ -46,3 +46,8 @@ returns-in-Err-clause-frame g c = record {
       c.self.invariant.autocommit c.commit_all.ensures.crash c.commit_all.ensures.own c.in-Err.error _ c.in-Err.is;
   first = ap (λ (k : KeeperView _). k.first) c.self.view_is;
 }
+
+pub returns-in-Ok-clause-applies : goal.returns-in-Ok-clause-applies
+returns-in-Ok-clause-applies g c = applies_done g.S.Store _ _ c.commit_all.new.conn c.args.changes.now
+    c.commit_all.result _ c.in-Ok.is (ap (λ (k : KeeperView _). k.conn) c.self.view_is) c.self.invariant.autocommit
+    c.commit_all.ensures.own c.commit_all.ensures.all
