@@ -12,7 +12,7 @@ use Rattle.fast_float.proofs.Writing.{scan-text_of}
 use Rattle.serde_json.specs.Data.{unsigned}
 use Rattle.serde_json.specs.Read.{number_of}
 
--- A byte less that of `0`, as it wraps, is the digit.
+-- Where a byte less that of `0`, as it wraps, is at most 9, it is the digit.
 digit_is : (x : ℕ) → x < 256 → (x + 208) % 256 ≤ 9 → (x + 208) % 256 ≡ digit_value x
 digit_is x byte small = omega (arith, (is_digit x (omega arith) (omega arith)).1)
 
@@ -20,11 +20,13 @@ digit_is x byte small = omega (arith, (is_digit x (omega arith) (omega arith)).1
 pub one_more : (bs : List ℕ) (i number digit : ℕ) → i < length bs → length bs ≤ 19
     → AllDigits 10 (take i bs) × (number ≡ digits_value 10 (take i bs)) → get_or bs i 0 < 256
     → digit ≡ (get_or bs i 0 + 208) % 256 → digit ≤ 9
-    → AllDigits 10 (take (i + 1) bs) × (number * 10 + digit ≡ digits_value 10 (take (i + 1) bs)) × (number * 10 + digit < 2 ^ 64)
+    → AllDigits 10 (take (i + 1) bs) × (number * 10 + digit ≡ digits_value 10 (take (i + 1) bs))
+    × (number * 10 + digit < 2 ^ 64)
 one_more bs i number digit inside short before byte is small =
     let same : digit ≡ digit_value (get_or bs i 0) = is ∙ digit_is _ byte (omega arith) in
     let digits = digits_more 10 bs i inside before.0 (omega arith) in
-    let value : number * 10 + digit ≡ digits_value 10 (take (i + 1) bs) = omega (arith, before.1, digits_value_more 10 bs i inside) in
+    let value : number * 10 + digit ≡ digits_value 10 (take (i + 1) bs) =
+    omega (arith, before.1, digits_value_more 10 bs i inside) in
     (digits, value, omega (arith, short_fits _ digits (omega (arith, length-take (i + 1) bs))))
 
 abbrev integer_parts : List ℕ → Parts

@@ -18,11 +18,7 @@ pub fn number_of(text: &str) -> Option<Number>
     if let Some(number) = integer_of(bytes) {
         return Some(Number::from(number));
     }
-    if has_minus(bytes) {
-        negative(&Numeral::scan(&bytes[1..]))
-    } else {
-        unsigned(&Numeral::scan(bytes))
-    }
+    scanned(bytes)
 }
 
 // Returns the number that the bytes write, if they are one to 19 digits and nothing else. Any
@@ -43,6 +39,19 @@ fn integer_of(bytes: &[u8]) -> Option<u64>
         number = number * 10 + u64::from(digit);
     }
     Some(number)
+}
+
+// Returns the value of any JSON numeral, if it is in range. It is apart since it saves registers,
+// which a few digits do without.
+#[inline(never)]
+fn scanned(bytes: &[u8]) -> Option<Number>
+    ensures { option_map number_view result ≡ number_of bytes.now }
+{
+    if has_minus(bytes) {
+        negative(&Numeral::scan(&bytes[1..]))
+    } else {
+        unsigned(&Numeral::scan(bytes))
+    }
 }
 
 // Returns whether the JSON numeral begins with a minus sign.
