@@ -41,8 +41,8 @@ fn integer_of(bytes: &[u8]) -> Option<u64>
     Some(number)
 }
 
-// Returns the value of any JSON numeral, if it is in range. It is apart since it saves registers,
-// which a few digits do without.
+// Returns the value of any JSON numeral, if it is in range. This is apart, so that a few digits do
+// without the large frame that a scan fills with zeros first.
 #[inline(never)]
 fn scanned(bytes: &[u8]) -> Option<Number>
     ensures { option_map number_view result ≡ number_of bytes.now }
