@@ -18,7 +18,7 @@ pub fn number_of(text: &str) -> Option<Number>
     if let Some(number) = integer_of(bytes) {
         return Some(Number::from(number));
     }
-    scanned(bytes)
+    scan_number(bytes)
 }
 
 // Returns the number that the bytes write, if they are one to 19 digits and nothing else. Any
@@ -44,7 +44,7 @@ fn integer_of(bytes: &[u8]) -> Option<u64>
 // Returns the value of any JSON numeral, if it is in range. This is apart, so that a few digits do
 // without the large frame that a scan fills with zeros first.
 #[inline(never)]
-fn scanned(bytes: &[u8]) -> Option<Number>
+fn scan_number(bytes: &[u8]) -> Option<Number>
     ensures { option_map number_view result ≡ number_of bytes.now }
 {
     if has_minus(bytes) {

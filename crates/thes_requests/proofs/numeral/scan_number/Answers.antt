@@ -1,7 +1,7 @@
 use Rattle.std.proofs.lemmas.Grind.{common_steps}
 use Rattle.std.proofs.Common.{arith}
 use Rattle.serde_json.specs.Read.{number_of}
-use Rattle.thes_requests.proofs.numeral.scanned.Goals as goal
+use Rattle.thes_requests.proofs.numeral.scan_number.Goals as goal
 
 pub returns-then-has_minus : goal.returns-then-has_minus
 unfolding number_of
