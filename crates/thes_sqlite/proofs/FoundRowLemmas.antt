@@ -145,7 +145,7 @@ pub unwritten : {S : Type 0} (g : Ghosts S) (old new : Held S) → LeavesTables 
     → (IsTrue (state g old).is_open → (state g old).now ≡ (state g old).committed) → LeavesUnwritten g old new
 unwritten g old new leaves settled up = grind (arith, common_steps, before_read)
 
--- What a database told before a query, which left it unwritten, holds after it.
+-- What a database showed before a query, which left it unwritten, holds after it.
 pub tells_after : {S : Type 0} (g : Ghosts S) (changes : List Change) (old new : Held S) (answer : Option Bool)
     → LeavesUnwritten g old new → (HasCleanDisk (state g new) → Tells changes (state g old).now answer)
     → IsUp (state g new) → Tells changes (state g new).now answer

@@ -104,7 +104,7 @@ reopened_without g image true storage lost kept none = refl
 reopened_without g image false None lost kept none = absurd kept
 reopened_without g image false (Some k) lost kept none = absurd (cc)
 
--- What the open database tells is an answer.
+-- What the open database shows is an answer.
 pub shows_answer : {S : Type 0} (g : Ghosts S) (changes : List Change) (old new : ReopeningView S) (found : Bool)
     → TellsOpen g changes new.storage found → ShowsChanges g changes old new found
 shows_answer g changes old new true tells = tells
