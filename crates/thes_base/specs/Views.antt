@@ -107,7 +107,7 @@ module _ (s : State) (n : Number) where
   abbrev pub AreLabels : LabelKind → List TaggedText → Type 0
   AreLabels kind labels = IsListing tagged_text_cmp (λ t. HasLabel s.labels n kind t.tag t.text) labels
 
-  -- The view describes concept n; `top` states that it is live and has no broader concept in its scheme.
+  -- The view describes concept n; `top` states that n is live and has no broader concept in its scheme.
   pub record AreDetailsOf (c : ConceptDetails) : Type 0 where
     pub resource : Resource
     pub found : entry_at s.resources n ≡ Some resource

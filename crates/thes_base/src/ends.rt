@@ -47,8 +47,8 @@ impl LinkForm {
         }
     }
 
-    /// Checks whether both ends are in one scheme, or, for a mapping to a concept, in different
-    /// ones.
+    /// Checks whether both ends are in one scheme; for a mapping, whether `b` isn't a concept of
+    /// the scheme of `a`.
     pub fn have_schemes(self, a: &Resource, b: &Resource) -> bool
         ensures { (resources : List Resource) (m n : ℕ)
             → entry_at resources m ≡ Some a.now → entry_at resources n ≡ Some b.now

@@ -208,7 +208,7 @@ fn is_tag(text: &str) -> bool
         }
 }
 
-// Checks for one or more parts, separated by hyphens.
+// Checks for one or more further parts of a language tag, separated by hyphens.
 fn are_parts(text: &str) -> bool
     ensures { IsTrue result ↔
         All (IsTagPart IsAsciiAlphanumeric) (slice_split (λ b. b == 45) text.now) }
@@ -216,14 +216,14 @@ fn are_parts(text: &str) -> bool
     text.split('-').all(is_part)
 }
 
-// Checks for 1 to 8 ASCII letters.
+// Checks for the first part of a language tag: 1 to 8 ASCII letters.
 fn is_part_of_letters(part: &str) -> bool
     ensures { IsTrue result ↔ IsTagPart IsAsciiAlphabetic part.now }
 {
     1 <= part.len() && part.len() <= 8 && part.as_bytes().iter().all(|b| b.is_ascii_alphabetic())
 }
 
-// Checks for 1 to 8 ASCII letters and digits.
+// Checks for a further part of a language tag: 1 to 8 ASCII letters and digits.
 fn is_part(part: &str) -> bool
     ensures { IsTrue result ↔ IsTagPart IsAsciiAlphanumeric part.now }
 {

@@ -101,8 +101,8 @@ impl<T> Pipe<T> {
         }
     }
 
-    /// Returns whether a read or a write has failed. `Interrupted` is no failure, but a write of no
-    /// bytes is one.
+    /// Returns whether a read or a write has failed. `Interrupted` is no failure, but a write that
+    /// takes no byte is one.
     pub fn failed(&self) -> bool
         ensures { result ≡ failed_of self.now }
     {

@@ -17,6 +17,7 @@ impl<T> Model for Sequence<T> {
     ghost view = { λ a. a.values.items };
 }
 
+/// Compares the values in order.
 impl<T: PartialEq> PartialEq for Sequence<T> {
     ghost eq = { pointwise T.eq };
 
@@ -31,7 +32,8 @@ impl<T: Eq> Eq for Sequence<T> {
     ghost laws = { lists_equiv T.Eq.laws };
 }
 
-/// Takes over the vector without copying its values.
+/// Takes over a vector, for example of the postings that a request lists, without copying its
+/// values.
 impl<T> From<Vec<T>> for Sequence<T> {
     ghost from_gives = { λ values sequence. sequence ≡ values.items };
 

@@ -49,7 +49,7 @@ limits_in options = record {
   moves = number_of_option (codes "max-moves") 1000000 options;
 }
 
--- Whether the flag is given: `clap` sets it to `true`, and any other to `false`.
+-- Whether the flag is given: `clap` sets it to `true`, and one that isn't given to `false`.
 abbrev pub is_set : Text → List Row → Bool
 is_set name options = option_map_or (λ text. bytes_eq text (codes "true")) (first_of name options) false
 
@@ -175,14 +175,15 @@ PlanResult arguments result =
     (subcommand_of program arguments) result)
     ⊎ RefusesArguments (fault_of program arguments) result
 
--- The port is from 1 to 65,535, and the number of connections, if it is given, is at least 1.
+-- The port is from 1 to 65,535, and the number of connections, if it is given, is at least 1; `clap` reads both as they
+-- are written.
 pub record HasPort (arguments : List Row) : Type 0 where
   pub port : IsSomeAnd (first_of (codes "port") arguments) (IsUnsignedIn 1 65535)
   pub count : IfSome (first_of (codes "count") arguments) (IsUnsignedIn 1 4294967295)
   pub as_written : (one_of (codes "port") arguments ≡ first_of (codes "port") arguments)
       × (one_of (codes "count") arguments ≡ first_of (codes "count") arguments)
 
--- The number of this option, if it is given, is from 1 to 2³² - 1.
+-- The number of this option, if it is given, is from 1 to 2³² - 1, and `clap` reads it as it is written.
 pub record HasLimit (name : Text) (options : List Row) : Type 0 where
   pub number : IfSome (first_of name options) (IsUnsignedIn 1 4294967295)
   pub as_written : one_of name options ≡ first_of name options

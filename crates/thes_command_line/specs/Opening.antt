@@ -90,7 +90,7 @@ name_trouble (Ok true) = Some (troubles.LongName, Store)
 name_trouble (Ok false) = None
 name_trouble (Err fault) = Some (troubles.Unreadable, fault)
 
--- The reason to print with a fault: the given one for Store, and None for any other.
+-- The reason to print with a fault of a store: the given one for Store, and None for any other fault.
 abbrev pub trouble_of_fault : Fault → StoreTrouble → Option StoreTrouble
 trouble_of_fault Store trouble = Some trouble
 trouble_of_fault _ trouble = None

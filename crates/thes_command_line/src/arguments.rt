@@ -189,7 +189,7 @@ fn base_argument<'a>(options: &ArgMatches<'a>) -> &'a str
     }
 }
 
-// Returns the value of the option for a limit, or the default.
+// Returns the value of the option for a limit of the store, or the default.
 fn limit(options: &ArgMatches<'_>, name: &str, default: u32) -> u32
     requires { HasLimit name.now (rows_of (found_of options.now)) }
     ensures { result ≡ number_of_option name.now default (rows_of (found_of options.now)) }
@@ -252,7 +252,7 @@ fn display_options(alloc: Global, arguments: &ArgMatches<'_>) -> Result<DisplayO
     }
 }
 
-// Returns whether a flag is given.
+// Returns whether a flag of a command, such as `--plans`, is given.
 #[tactic(auto, using(crate::proofs::ReadingLemmas::values_read))]
 fn is_set(arguments: &ArgMatches<'_>, name: &str) -> bool
     ensures { result ≡ is_set name.now (rows_of (found_of arguments.now)) }
@@ -263,8 +263,8 @@ fn is_set(arguments: &ArgMatches<'_>, name: &str) -> bool
     }
 }
 
-// Returns the port, the number of connections and the flag of the command `serve`, which `clap` has
-// checked.
+// Returns the port, the number of connections and the flag for plans of the command `serve`, which
+// `clap` has checked.
 fn serve_options(arguments: &ArgMatches<'_>) -> ServeOptions
     requires { HasPort (rows_of (found_of arguments.now)) }
     ensures { IsServeOptions (rows_of (found_of arguments.now)) result }

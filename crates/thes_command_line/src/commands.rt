@@ -211,7 +211,7 @@ fn number_option<'a>(alloc: Global, name: &'a str, most: u64, help: &'a str) -> 
     option(alloc, name, "N", help).value_parser(ValueParser::Unsigned(1, most))
 }
 
-// Returns a flag: an option without a value.
+// Returns a flag of the command line: an option without a value.
 fn flag<'a>(alloc: Global, name: &'a str, help: &'a str) -> Arg<'a>
     ensures rule { rule_of result ≡ line.flag name.now }
     ensures local { result.global ≡ false }
@@ -241,7 +241,7 @@ fn required_file<'a>(alloc: Global) -> Arg<'a>
         .required(true)
 }
 
-// Returns a command without options of its own, with its line and its example in the help.
+// Returns a command without options of its own, with its usage and its example in the help.
 fn command<'a>(
     alloc: Global,
     name: &'a str,

@@ -1,5 +1,5 @@
-//! Parses the command line of the program into a job, prints faults and refusals, and determines
-//! exit statuses.
+//! Parses the command line of the program into a job, prints faults and refusals, escapes what a
+//! terminal would obey, and determines exit statuses.
 #![tactic(auto)]
 
 pub mod arguments;

@@ -132,8 +132,9 @@ pub fn preparation_of(opening: Opening, is_blank: bool, reads_only: bool) -> Pre
     }
 }
 
-/// Returns whether the mark of an unfinished store is removed again, after its database couldn't be
-/// opened: if no database was made, unless another program, whose mark it is, has the file open.
+/// Returns whether to remove the mark of an unfinished store whose database couldn't be opened: if
+/// the file that is `left` is absent or empty, unless another program, which made the mark, has the
+/// file open.
 pub fn is_mark_void(trouble: StoreTrouble, left: FileState) -> bool
     ensures { result ≡ choices.is_mark_void trouble left }
 {

@@ -186,7 +186,8 @@ fn print_file<E: Write>(errors: &mut Pipe<E>, file: &str, trouble: Option<StoreT
         && print(errors, end.as_str().as_bytes())
 }
 
-// Returns the reason to print with a fault: `trouble` for Store, and None for any other.
+// Returns the reason to print with a fault of a store: `trouble` for Store, and None for any other
+// fault.
 fn trouble_of_fault(fault: Fault, trouble: StoreTrouble) -> Option<StoreTrouble>
     ensures { result ≡ opening.trouble_of_fault fault trouble }
 {

@@ -26,7 +26,7 @@ impl<W> TerminalOutput<W> {
 }
 
 impl<W: Write> TerminalOutput<W> {
-    // Writes an escape in place of this number of bytes, and returns their number.
+    // Writes an escape in place of the character that has `count` bytes, and returns `count`.
     fn write_escape(&mut self, escape: &str, count: usize) -> io::Result<usize>
         ensures bytes { OnOk result (Appends (W.contents self.old.writer) (W.contents self.new.writer)
             escape.now) }
@@ -38,7 +38,7 @@ impl<W: Write> TerminalOutput<W> {
     }
 }
 
-// Returns the lower-case hexadecimal digit of a number up to 15.
+// Returns the lower-case hexadecimal digit, for an escape, of a number up to 15.
 fn hex_digit(number: u8) -> &'static str
     ensures { length result.now ≡ 1 }
 {
@@ -103,6 +103,8 @@ fn plain_length(text: &[u8]) -> usize
     at
 }
 
+/// Writes in each call one escape, or the text up to the next character to escape; without escapes,
+/// what the inner writer takes.
 impl<W: Write> Write for TerminalOutput<W> {
     ghost contents = { λ o. if o.escapes then None else W.contents o.writer };
 

@@ -1,12 +1,11 @@
 -- The parts of a thesaurus are those of the state before a concept died once its death is taken back.
-use Rattle.std.proofs.Common.{◌≡◌, ◌∙◌, ℕ, List, [], Bool, refl, sym, ap}
+use Rattle.std.proofs.Common.{◌≡◌, ◌∙◌, ℕ, List, [], Bool, refl, ap}
 use Rattle.std.specs.Prelude.{Option, None}
-use Rattle.std.specs.FinSet as set
 use Rattle.thes_base.specs.declared.data.Link.{Link}
 use Rattle.thes_base.specs.declared.data.Resource.{Resource}
 use Rattle.thes_base.specs.declared.request.Command.TheVariants as request
 use Rattle.thes_base.specs.Changes.{resources_after_death}
-use Rattle.thes_base.specs.Links.{Links, Holds, normal_form}
+use Rattle.thes_base.specs.Links.{Links, normal_form}
 use Rattle.thes_base.specs.Resources.{IsConcept, IsLive, IsLiveConcept, is_outside}
 use Rattle.thes_base.specs.State.{State}
 use Rattle.thes_base.proofs.RefusalRuleLemmas.{passed_unless}

@@ -7,7 +7,7 @@ use Rattle.thes_base.specs.declared.request.Command.TheVariants as request
 use Rattle.thes_base.specs.Changes.{copied_labels, resources_after_death}
 use Rattle.thes_base.specs.Labels.{Labels}
 use Rattle.thes_base.specs.Legal.{AreLegalLabels}
-use Rattle.thes_base.specs.Links.{Links, Holds, HasEnd, links_after_merge, normal_form}
+use Rattle.thes_base.specs.Links.{Links, Holds, links_after_merge, normal_form}
 use Rattle.thes_base.specs.Resources.{IsConcept, IsLive, is_outside}
 use Rattle.thes_base.specs.State.{State}
 use Rattle.thes_base.proofs.CopiedLabelLemmas.{labels_merged}
@@ -25,7 +25,6 @@ use Rattle.thes_vocab.proofs.MergedRowLemmas.{missing_new, missing_set}
 use Rattle.thes_vocab.proofs.SetUndoLemmas.{union_then_difference}
 use Rattle.thes_core.specs.CoreView.{without_postings}
 use Rattle.thes_core.specs.Losses.{IsMergeLoss}
-use Rattle.thes_core.specs.PartsView.{parts_state}
 use Rattle.thes_core.specs.Requests.{PartsAccept, PartsOfState}
 use Rattle.thes_core.specs.UndoLogs.{ArePartsAfter}
 use Rattle.thes_core.specs.declared.losses.MergeLoss.{MergeLoss}

@@ -2,25 +2,21 @@
 use Rattle.std.proofs.Common.{◌≡◌, ◌≢◌, ◌+◌, ℕ, length, List, [], ◌∷◌, ◌++◌, refl, sym, ap, ◌∙◌, subst, inl, inr, arith}
 use Rattle.std.proofs.Common.{Bool, true, false, length-append}
 use Rattle.std.specs.Prelude.{None, Some}
-use Rattle.std.specs.Cmp.{both_ways}
 use Rattle.std.specs.FinSet as set
 use Rattle.thes_base.specs.declared.data.Link.{Link}
 use Rattle.thes_base.specs.declared.data.LinkKind.{LinkKind}
 use Rattle.thes_base.specs.declared.data.Resource.{Resource}
-use Rattle.thes_base.specs.declared.request.Command.{Command}
 use Rattle.thes_base.specs.declared.request.Command.TheVariants as request
 use Rattle.thes_base.specs.Changes.{scheme_resource, concept_resource, collection_resource, outside_resource}
-use Rattle.thes_base.specs.Changes.{state_after_creation}
 use Rattle.thes_base.specs.Data.{LabelData}
 use Rattle.thes_base.specs.Labels.{Label, Labels, UniquePreferred}
 use Rattle.thes_base.specs.Links.{Links, Holds, HasEnd, normal_form}
 use Rattle.thes_base.specs.Machine.{link, owned_label}
 use Rattle.thes_base.specs.RefusalRules.{accepted}
-use Rattle.thes_base.specs.Resources.{CanOwn, IsLive, is_outside, is_outside_kind, scheme_of}
+use Rattle.thes_base.specs.Resources.{CanOwn, is_outside, is_outside_kind, scheme_of}
 use Rattle.thes_base.specs.RuleParts.{unless_droppable, unless_new_label}
 use Rattle.thes_base.specs.State.{State}
 use Rattle.thes_base.proofs.LabelSetLemmas.{labels_total, labels_exact, inserted_kept, inserted_new, removed_cases}
-use Rattle.thes_base.proofs.LegalLinkLemmas.{outside_test}
 use Rattle.thes_base.proofs.LinkSetLemmas.{links_total, links_exact}
 use Rattle.thes_base.proofs.NumberedLemmas.{numbered_bound}
 use Rattle.thes_base.proofs.RefusalRuleLemmas.{passed_if, passed_unless}

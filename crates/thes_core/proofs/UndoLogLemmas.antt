@@ -32,7 +32,7 @@ use Rattle.thes_tables.specs.declared.rows.PostingRow.{PostingRow}
 use Rattle.thes_core.specs.Facts.{AreFacts}
 use Rattle.thes_core.specs.Losses.{IsLostFromParts, IsLostFromPostings}
 use Rattle.thes_core.specs.NamedPostings.{first_named_posting}
-use Rattle.thes_core.specs.PartsView.{parts_state, parts_view, setting_of, AreLegal}
+use Rattle.thes_core.specs.PartsView.{parts_view, setting_of, AreLegal}
 use Rattle.thes_core.specs.Requests.{PartsOfState}
 use Rattle.thes_core.specs.UndoLogs.{ArePartsAfter, IsAcceptedOnParts, IsLogOf}
 use Rattle.thes_core.specs.UndoLogs.{IsUndoStep}
@@ -40,7 +40,6 @@ use Rattle.thes_core.specs.UndoLogs.{LeadsWithoutPostings, StepsLead}
 use Rattle.thes_core.specs.declared.facts.Facts.{Facts}
 use Rattle.thes_core.specs.declared.thesaurus.Thesaurus.{Thesaurus}
 use Rattle.thes_core.specs.declared.losses.Lost.{Lost}
-use Rattle.thes_core.specs.declared.losses.MergeLoss.{MergeLoss}
 use Rattle.thes_core.specs.declared.losses.Lost.TheVariants.{Links, Merge, Place, Preferred}
 use Rattle.thes_core.specs.declared.undo_log.UndoStep.{UndoStep}
 use Rattle.thes_core.proofs.ApplyLemmas.{held_of, kept_after}

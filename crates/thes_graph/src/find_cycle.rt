@@ -11,15 +11,15 @@ use thes_links::nodes::Nodes;
 use thes_links::relation::Relation;
 use thes_links::walk::next_nodes;
 
-/// A node on the stack of the search, with those of its broader nodes that are still to be searched
-/// from.
+/// A node on the stack of the search for a cycle, with those of its broader nodes that are still to
+/// be searched from.
 #[derive(Drop)]
 pub struct PathNode {
     pub node: ResNo,
     pub above: Vec<ResNo>,
 }
 
-/// Returns the node with all its broader nodes, as the search pushes it.
+/// Returns the node with all its broader nodes, as the search for a cycle pushes it.
 pub fn path_node_at<L: Links>(
     alloc: Global,
     links: &mut L,
@@ -34,16 +34,16 @@ pub fn path_node_at<L: Links>(
     Ok(PathNode { node: n, above })
 }
 
-// A search: the nodes met, and the stack of those on the path to the last one.
+// A search for a cycle: the nodes met, and the stack of those on the path to the last one.
 #[derive(Drop)]
 struct PathSearch {
     nodes: Nodes,
     stack: Vec<PathNode>,
 }
 
-// Advances the search by one broader node of `last`, the node popped from the stack. If that node
-// is done, removes it from the list of `last`; if it is new, pushes it above `last`; otherwise it
-// closes a cycle. If the list is empty, `last` is done. Returns whether a cycle was found.
+// Advances the search by one broader node of `last`, the node popped from the stack. If the broader
+// node is done, removes it from the list of `last`; if it is new, pushes it above `last`; otherwise
+// it closes a cycle. If the list is empty, `last` is done. Returns whether a cycle was found.
 fn advance_path<L: Links>(
     alloc: Global,
     links: &mut L,
@@ -77,9 +77,9 @@ fn advance_path<L: Links>(
     Ok(false)
 }
 
-/// Searches for a cycle through the node or above it, unless the node is done, and returns whether
-/// there is one. If there is none, the node is appended to those that are done, after all nodes
-/// broader than it.
+/// Searches for a cycle of broader links through the node or above it, unless the node is done, and
+/// returns whether there is one. If there is none, appends the node to those that are done, after
+/// all nodes broader than it.
 pub fn find_cycle<L: Links>(
     alloc: Global,
     links: &mut L,

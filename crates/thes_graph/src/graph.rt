@@ -85,7 +85,7 @@ impl Graph {
         }
     }
 
-    /// Returns the normal form of the link, in which it is held.
+    /// Returns the normal form of the link, the only one in which the graph holds it.
     pub fn normal(&self, link: &Link) -> Link
         ensures { result ≡ normal_form (is_marked self.now) link.now }
     {
@@ -383,7 +383,8 @@ impl Graph {
     {
         for (i, link) in links.iter().enumerate() {
             if let Err(error) = self.add(link) {
-                // No link may be left, since each is held (DECISIONS.md, Links).
+                // The links added before this one are held, so they are removed again
+                // (DECISIONS.md, Links).
                 self.detach_all(&links[..i]);
                 return Err(error);
             }
@@ -391,7 +392,7 @@ impl Graph {
         Ok(())
     }
 
-    /// Removes these links, which are in normal form; it can't fail.
+    /// Removes those of these links that are held with their ends in this order; it can't fail.
     pub fn detach_all(&mut self, links: &[Link])
         ensures { self.new ≡ record self.old { links = without_links self.old.links links.now } }
     {
@@ -498,6 +499,7 @@ impl<'a> Model for Walk<'a> {
     ghost view = { λ w. record { net = w.graph.now; visits = w.visits } };
 }
 
+/// Counts a visit for each link returned and each look-up of a given link, up to `u64::MAX`.
 impl<'a> Links for Walk<'a> {
     ghost net = { λ w. w.net };
 

@@ -10,7 +10,7 @@ use std::alloc::AllocError;
 use thes_base::data::{Link, LinkKind, TypedKind};
 use thes_base::number::ResNo;
 
-// Returns the rank of the kind's name among the names of all kinds, sorted by their bytes.
+// Returns the rank of a link kind's name among the names of all kinds, sorted by their bytes.
 fn place_of(kind: LinkKind) -> u8
     ensures { result ≡ kind_name_rank kind }
 {
@@ -72,7 +72,8 @@ pub fn typed_link_from(link: &Link, n: ResNo) -> Option<(TypedKind, ResNo)>
     }
 }
 
-/// Inserts the mapping at its place in a list sorted by name and number, unless it is there.
+/// Inserts the mapping at its place in a list sorted by names of kinds and then by number, unless
+/// it is there.
 pub fn list_mapping(
     list: &mut Vec<(LinkKind, ResNo)>,
     mapping: (LinkKind, ResNo),

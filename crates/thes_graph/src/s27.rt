@@ -137,8 +137,8 @@ fn some_block_breaks_s27<L: Links>(
     Ok(false)
 }
 
-/// Checks whether one of two related concepts is above the other (SKOS S27). The list `order` has
-/// the ends of all links, each node after all nodes broader than it.
+/// Checks whether one of two related concepts is above the other (SKOS S27). The list `all` has
+/// exactly the links, and `order` the ends of all links, each node after all nodes broader than it.
 pub fn breaks_s27<L: Links>(
     alloc: Global,
     links: &mut L,

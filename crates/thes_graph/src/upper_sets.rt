@@ -14,7 +14,7 @@ use thes_links::words::{has_bit, set_bits, word_of};
 /// The maximum number of nodes in a block: the number of bits in a word.
 pub const BLOCK: usize = 64;
 
-// Returns the word of the node; 0 past the end.
+// Returns the node's word of 64 bits; 0 if the node is past the end of the words.
 fn word_of_node(words: &[u64], n: ResNo) -> u64
     ensures { result ≡ word_at words.now n }
 {
@@ -30,7 +30,7 @@ pub fn is_set(words: &[u64], n: ResNo, j: usize) -> bool
     has_bit(words, n.get(), j)
 }
 
-// Sets these bits in the word of the node.
+// Sets these bits in the node's word of 64 bits, and leaves all other bits as they are.
 fn set_bits_of_node(words: &mut Vec<u64>, n: ResNo, bits: u64) -> Result<(), AllocError>
     ensures { OnOk result (HasBitsSet words.old.items words.new.items n bits) }
 {

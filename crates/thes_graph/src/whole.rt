@@ -47,7 +47,7 @@ fn has_cycle<L: Links>(
     Ok(false)
 }
 
-// Appends these nodes to those that are done, unless they are there.
+// Appends these nodes to those whose class of exact matches is checked, unless they are there.
 fn add_done(done: &mut Nodes, nodes: &[ResNo]) -> Result<(), AllocError>
     ensures { OnOk result (GrowsBy done.old done.new (Contains nodes.now)) }
 {
@@ -58,7 +58,7 @@ fn add_done(done: &mut Nodes, nodes: &[ResNo]) -> Result<(), AllocError>
 }
 
 // Checks whether two members of the node's class of exact matches are also broader or related
-// matches. If not, appends all members of the class to `done`.
+// matches (SKOS S46). If not, appends all members of the class to `done`.
 fn breaks_s46_at<L: Links>(
     alloc: Global,
     links: &mut L,

@@ -53,7 +53,7 @@ BreaksS46At Held p = (x : ℕ) × (y : ℕ) × InClassOf Held p x × InClassOf H
 abbrev pub BreaksS46 : (Link → Type 0) → Type 0
 BreaksS46 Held = (x : ℕ) × (y : ℕ) × IsExactMatch Held x y × IsDisjointMatch Held x y
 
--- The answer is the first of Cycle, S27 and S46 that the links break by a chain or pair through p, or none.
+-- The answer is the first of Cycle, S27 and S46 that the links break at p, or none.
 abbrev pub IsFirstBrokenAt : (Link → Type 0) → ℕ → Option Refusal → Type 0
 IsFirstBrokenAt Held p None = NoCycleAt Held p × KeepsS27At Held p × KeepsS46At Held p
 IsFirstBrokenAt Held p (Some no.Cycle) = IsBelow Held p p

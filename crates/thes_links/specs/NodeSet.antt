@@ -4,7 +4,8 @@ use Rattle.std.specs.Int.{bit_at}
 use Rattle.std.specs.List.{list_any}
 use Rattle.thes_links.specs.Words.{word_at}
 
--- The mark of the number: its bit in the word of 64 numbers that has it, 0 past the end.
+-- The test of whether node n is marked: whether its bit is set in the words, each of which has the bits of 64 nodes.
+-- Nodes past the end aren't marked.
 abbrev pub mark_at : List ℕ → ℕ → Bool
 mark_at marks n = nat_eq (bit_at (word_at marks (n / 64)) (n % 64)) 1
 

@@ -24,15 +24,16 @@ pub trait Links {
     /// The number of visits made so far.
     ghost count: { Self → ℕ };
 
-    /// Returns the i-th link with an end at the node, and counts a visit if there is one.
+    /// Returns the link at index `i` of those with an end at the node, and counts a visit if there
+    /// is one.
     fn link_at(&mut self, node: ResNo, i: usize) -> Option<Link>
         ensures net { net self.new ≡ net self.old }
         ensures row { IsTwoEndedRow (net self.old).links node (links_of (net self.old) node) }
         ensures link { result ≡ slice_get (links_of (net self.old) node) i }
         ensures count { count self.new ≡ count_after_read (count self.old) result };
 
-    /// Returns the range of the node's links that lie on this side, without counting a visit:
-    /// counted, these could double a search's (DECISIONS.md, Links).
+    /// Returns the range of the node's links that lie on this side. Counts no visit, since counting
+    /// could double the visits of a search (DECISIONS.md, Links).
     fn part(&self, node: ResNo, side: Side) -> Part
         ensures row { IsTwoEndedRow (net self.now).links node (links_of (net self.now) node) }
         ensures part { IsPart (links_of (net self.now) node) node side result };

@@ -1,4 +1,4 @@
-//! Marks by number, a bit for each, which replace a linear search in long lists of nodes.
+//! Marks of nodes by number, a bit for each, which replace a linear search in long lists of nodes.
 ghost use Rattle.std.specs.Prelude.{◌≡◌, ◌++◌, ◌∷◌, [], ℕ, MatchBool, OnErr, OnOk};
 ghost use Rattle.thes_links.specs.NodeSet.{mark_at, AreMarked, IsNodeSet, IsOneMore, HasSharedBit};
 
@@ -9,7 +9,7 @@ use thes_base::number::ResNo;
 /// The length up to which a list of nodes is searched linearly, without marks.
 pub const FEW: usize = 16;
 
-/// Checks whether the number is marked; numbers past the end aren't.
+/// Checks whether the node is marked; nodes past the end of the marks aren't.
 #[inline(always)]
 pub fn has_mark(marks: &[u64], n: ResNo) -> bool
     ensures { result ≡ mark_at marks.now n }
@@ -18,8 +18,8 @@ pub fn has_mark(marks: &[u64], n: ResNo) -> bool
     has_bit(marks, number / 64, (number % 64) as usize)
 }
 
-/// Checks whether the number's bit is set in the word; numbers that leave the same remainder by 64
-/// share a bit.
+/// Checks whether the node's bit is set in the word; nodes whose numbers leave the same remainder
+/// by 64 share a bit.
 #[inline(always)]
 pub fn has_shared_bit(word: u64, n: ResNo) -> bool
     ensures { MatchBool result (HasSharedBit word n) (HasSharedBit word n → ⊥) }
@@ -27,7 +27,7 @@ pub fn has_shared_bit(word: u64, n: ResNo) -> bool
     (word >> (n.get() % 64)) & 1 == 1
 }
 
-/// Returns the word with the number's bit also set.
+/// Returns the word with the node's bit also set.
 #[inline(always)]
 pub fn with_shared_bit(word: u64, n: ResNo) -> u64
     ensures new { HasSharedBit result n }
@@ -36,7 +36,7 @@ pub fn with_shared_bit(word: u64, n: ResNo) -> u64
     word | 1 << (n.get() % 64)
 }
 
-// Marks the number, and extends the marks if they end before it.
+// Marks the node, and extends the marks if they end before it.
 fn mark(marks: &mut Vec<u64>, n: ResNo) -> Result<(), AllocError>
     ensures ok { OnOk result (IsOneMore marks.old.items marks.new.items n) }
     ensures err { OnErr result (marks.new.items ≡ marks.old.items) }

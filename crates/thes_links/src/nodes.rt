@@ -13,7 +13,7 @@ use thes_base::number::ResNo;
 pub struct Nodes {
     list: Vec<ResNo>,
     marks: Vec<u64>,
-    // The bits of all nodes: one whose bit isn't set wasn't met.
+    // The bits of all nodes (several may share one): a node whose bit isn't set wasn't met.
     bits: u64,
 }
 

@@ -82,7 +82,8 @@ pub fn lead(direction: Direction, link: &Link, x: ResNo) -> Option<ResNo>
     }
 }
 
-/// Returns the other end of the link if it is in the relation to `x`, or else None.
+/// Returns the other end of the link if the link leads there from `x` in the relation, or else
+/// None.
 #[inline(always)]
 pub fn step(relation: Relation, link: &Link, x: ResNo) -> Option<ResNo>
     ensures { result ≡ step_along relation link.now x }

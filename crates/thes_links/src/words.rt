@@ -4,7 +4,7 @@ ghost use Rattle.thes_links.specs.Words.{word_at, HasBit, HasBitsSet};
 
 use std::alloc::AllocError;
 
-/// Returns the word at this place; 0 past the end.
+/// Returns the word of 64 bits at the index `place`; 0 past the end.
 #[inline(always)]
 pub fn word_of(words: &[u64], place: u32) -> u64
     ensures { result ≡ word_at words.now place }
@@ -15,7 +15,7 @@ pub fn word_of(words: &[u64], place: u32) -> u64
     }
 }
 
-/// Checks whether bit j is set in the word at this place.
+/// Checks whether bit `j` is set in the word at the index `place`.
 #[inline(always)]
 pub fn has_bit(words: &[u64], place: u32, j: usize) -> bool
     requires { j < 64 }
@@ -24,7 +24,7 @@ pub fn has_bit(words: &[u64], place: u32, j: usize) -> bool
     (word_of(words, place) >> j) & 1 == 1
 }
 
-/// Sets these bits in the word at this place, and extends the words if they end before it.
+/// Sets these bits in the word at the index `place`, and extends the words if they end before it.
 pub fn set_bits(words: &mut Vec<u64>, place: u32, bits: u64) -> Result<(), AllocError>
     ensures ok { OnOk result (HasBitsSet words.old.items words.new.items place bits) }
     ensures err { OnErr result (words.new.items ≡ words.old.items) }

@@ -5,7 +5,8 @@ ghost use Rattle.std.specs.List.Sorted.{IsStrictlySortedBy};
 
 use std::alloc::AllocError;
 
-/// Inserts a value into a list in ascending order, at its place, unless the list has an equal one.
+/// Inserts a value at its place in a list sorted in ascending order, unless the list has an equal
+/// one.
 pub fn insert_sorted<T: Ord + Drop>(list: &mut Vec<T>, x: T) -> Result<(), AllocError>
     requires { IsStrictlySortedBy T.cmp list.old.items }
     ensures { OnOk result (list.new.items ≡ insert_key T.cmp list.old.items x) }

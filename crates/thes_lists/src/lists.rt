@@ -20,7 +20,7 @@ pub struct Lists<T> {
 }
 
 impl<T: Ord + Drop> Lists<T> {
-    /// Creates an index without lists; it allocates nothing.
+    /// Creates an empty index, without allocating.
     pub fn new(alloc: Global) -> Lists<T>
         ensures { (n : ℕ) → listed_at result n ≡ [] }
     {
@@ -41,7 +41,7 @@ impl<T: Ord + Drop> Lists<T> {
         }
     }
 
-    /// Returns the number of lists. Numbers from it on have none.
+    /// Returns the number of lists. Numbers from this count on have no list.
     #[tactic(auto, using(std::proofs::lemmas::Option::slice_get_past))]
     pub fn list_count(&self) -> usize
         ensures { (n : ℕ) → result ≤ n → listed_at self.now n ≡ [] }

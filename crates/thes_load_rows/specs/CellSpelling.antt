@@ -9,7 +9,7 @@ use Rattle.thes_tables.specs.declared.cells.Cell.TheVariants.{Text}
 use Rattle.thes_tables.specs.Cells.{resource_cells}
 use Rattle.thes_load_rows.specs.declared.rows.ResourceRow.{ResourceRow}
 
--- The result of parsing: a value of the form that has these cells, or None if no value of the form has them.
+-- The result of parsing cells: a value of the form that has these cells, or None if no value of the form has them.
 abbrev pub Spells : {A C : Type 0} → (A → C) → (A → Type 0) → C → Option A → Type 0
 Spells cells_of Form cells (Some x) = Form x × (cells ≡ cells_of x)
 Spells {A} cells_of Form cells None = (x : A) → Form x → cells ≢ cells_of x

@@ -19,11 +19,11 @@ abbrev pub TakeResult : {A : Type 0} → (List A → Type 0) → (List A → Typ
 TakeResult Has Rule rows x true = Has (rows ++ x ∷ [])
 TakeResult {A} Has Rule rows x false = (more : List A) → Rule (rows ++ x ∷ more) → ⊥
 
--- Tests whether the list has the key.
+-- Tests whether the list of posting keys has this key.
 abbrev pub has_key : List (List ℕ) → List ℕ → Bool
 has_key keys q = list_any (eq_by_cmp (slice_cmp nat_cmp) q) keys
 
--- The key was inserted, and the flag `fresh` states whether it is new.
+-- The key of a posting was inserted into the list, and the flag `fresh` states whether it is new.
 abbrev pub KeyInsertResult : List (List ℕ) → List (List ℕ) → List ℕ → Bool → Type 0
 KeyInsertResult old new key fresh =
     (fresh ≡ not (has_key old key))

@@ -1,4 +1,4 @@
--- The stage after a row or report of any table, in the table's turn or after it.
+-- The stage of a load after a row of any table, or a report that it can't be queried, in the table's turn or after it.
 use Rattle.std.specs.Prelude.{◌≡◌, ◌≤◌, ◌<◌, false, List, Option, None, Some}
 use Rattle.thes_base.specs.declared.fault.Fault.TheVariants as faults
 use Rattle.thes_base.specs.declared.fault.Table.{Table}

@@ -1,4 +1,5 @@
-//! The checks of a table after its last row.
+//! The checks of a table after its last row. Each function returns the next stage of the load: at
+//! the next table, or stopped with a fault.
 ghost use Rattle.std.specs.Prelude.{◌≡◌, IfOk};
 ghost use Rattle.thes_base.specs.declared.fault.Fault.TheVariants.{BadStore};
 ghost use Rattle.thes_tables.specs.TableOrder.{next_table};

@@ -114,7 +114,7 @@ fn graph_without_links(alloc: Global, resources: &[Resource]) -> Result<Graph, A
     Ok(graph)
 }
 
-// Checks whether the link is in normal form.
+// Checks whether a row's link is in normal form, given the outside concepts that the graph marks.
 fn is_in_order(graph: &Graph, link: &Link) -> bool
     ensures { IsTrue result ↔ (normal_form (is_marked graph.now) link.now ≡ link.now) }
 {
@@ -122,7 +122,7 @@ fn is_in_order(graph: &Graph, link: &Link) -> bool
     normalize_ends(link, outside) == *link
 }
 
-// Returns the kind of link for a type of hierarchical relationship.
+// Returns the kind of link for the type in a row of table hier.
 fn kind_of(typ: HierType) -> LinkKind
     ensures { result ≡ hier_kind typ }
 {

@@ -25,7 +25,7 @@ pub struct MoveLoad {
     ghost few: { taken < 2 ^ 32 },
 }
 
-// Returns the place of a posting after the moves so far; None if no posting has the number.
+// Returns the place of a posting after the moves read so far; None if no posting has the number.
 fn place_at(places: &[ResNo], number: PostNo) -> Option<ResNo>
     ensures { result ≡ entry_at places.now number }
 {
@@ -33,8 +33,8 @@ fn place_at(places: &[ResNo], number: PostNo) -> Option<ResNo>
 }
 
 impl MoveLoad {
-    // Checks whether a move may be the next one: it has the next number, starts at its posting's
-    // place, and ends at another concept.
+    // Checks whether a row of table move may be the next one: it has the next number, starts at its
+    // posting's place after the moves so far, and ends at another concept.
     fn is_next(&self, resources: &[Resource], step: &MoveRow) -> bool
         ensures { IsTrue result
             ↔ IsNextMove resources.now self.now.places.items self.now.taken step.now }
@@ -45,7 +45,8 @@ impl MoveLoad {
             && is_concept(resources, step.target)
     }
 
-    /// Applies a move; changes nothing and returns false if it can't be the next one.
+    /// Applies a move to the place of its posting; changes nothing and returns false if the move
+    /// can't be the next one.
     #[tactic(auto, using(thes_base::proofs::NumberedLemmas::numbered_bound))]
     pub fn take(&mut self, resources: &[Resource], step: &MoveRow) -> bool
         requires { HasMoveForm step.now }
@@ -63,8 +64,8 @@ impl MoveLoad {
         }
     }
 
-    /// Parses the next row and applies its move; returns false if the row can't follow the rows
-    /// read so far in a table that meets its rule.
+    /// Parses the next row of table move and applies its move; returns false if the row can't
+    /// follow the rows read so far in a table that meets its rule.
     pub fn read(&mut self, resources: &[Resource], cells: &[Cell]) -> bool
         requires { length resources.now < 2 ^ 32 }
         ensures { (postings : List PostingRow) (rows : List MoveRow)

@@ -33,8 +33,8 @@ impl OutsideLoad {
         OutsideLoad { vocab, last: 0 }
     }
 
-    /// Adds the IRI of the next row; returns false if the row's number isn't greater than the last,
-    /// or `VocabLoad::take_iri` doesn't allow the IRI.
+    /// Adds the IRI of the next row of table outside; returns false if the row's number isn't
+    /// greater than the last one, or `VocabLoad::take_iri` doesn't allow the IRI.
     pub fn take(&mut self, row: OutsideRow) -> Result<bool, AllocError>
         requires { HasOutsideForm row }
         ensures { IfOk result (λ good.
@@ -56,8 +56,8 @@ impl OutsideLoad {
         }
     }
 
-    /// Parses the next row and adds its IRI; returns false if the row can't follow the rows read so
-    /// far in a table that meets its rule.
+    /// Parses the next row of table outside and adds its IRI; returns false if the row can't follow
+    /// the rows read so far in a table that meets its rule.
     pub fn read(&mut self, alloc: Global, cells: &[Cell]) -> Result<bool, AllocError>
         ensures { IfOk result (λ good.
             (base : List ℕ) (resources : List Resource) (rows : List (ℕ × List ℕ))

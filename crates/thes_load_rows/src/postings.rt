@@ -33,16 +33,16 @@ pub struct PostingLoad {
     ghost told: { tally.accepted ≤ length firsts.items },
 }
 
-/// The places of all postings that table posting states, and the counts of postings.
+/// The place that table posting states for each posting, and the counts of postings.
 #[derive(Drop)]
 pub struct PlacedPostings {
     pub stored_places: Vec<ResNo>,
     pub tally: LoadedCounts,
 }
 
-// Checks whether a row may be the next one if its key is new. It must have the next number; its
-// first concept and its place must be concepts, and the place must be live unless the posting was
-// withdrawn.
+// Checks whether a row of table posting may be the next one after `taken` rows, if its key is new:
+// it has the next number, its first concept and its place are concepts, and the place is live
+// unless the posting was withdrawn.
 fn is_next(resources: &[Resource], taken: usize, row: &PostingRow) -> bool
     requires { taken < usize.MAX }
     ensures { IsTrue result ↔ IsNextPosting resources.now taken row.now }
@@ -53,7 +53,7 @@ fn is_next(resources: &[Resource], taken: usize, row: &PostingRow) -> bool
         && (row.withdrawn || is_live(resources, row.place))
 }
 
-// Inserts a key, and returns whether no row had it before.
+// Inserts the key of a posting, and returns whether no row before has it.
 fn add_key(keys: &mut BTreeSet<Key>, key: Key) -> Result<bool, AllocError>
     ensures { IfOk result (KeyInsertResult keys.old.keys keys.new.keys key) }
 {
@@ -77,8 +77,8 @@ impl PostingLoad {
         }
     }
 
-    /// Adds the next row; returns false if it can't follow the rows added so far in a table that
-    /// meets its rule.
+    /// Adds the next row of table posting; returns false if it can't follow the rows added so far
+    /// in a table that meets its rule.
     pub fn take(&mut self, resources: &[Resource], row: PostingRow) -> Result<bool, AllocError>
         requires { HasPostingForm row }
         ensures { IfOk result (λ good. (rows : List PostingRow)
@@ -105,8 +105,8 @@ impl PostingLoad {
         }
     }
 
-    /// Parses the next row and adds it; returns false if the row can't follow the rows read so far
-    /// in a table that meets its rule.
+    /// Parses the next row of table posting and adds it; returns false if the row can't follow the
+    /// rows read so far in a table that meets its rule.
     pub fn read(
         &mut self,
         alloc: Global,
@@ -131,8 +131,9 @@ impl PostingLoad {
         }
     }
 
-    /// Splits the load. The first result has the first concepts, at which moves start; the second
-    /// has the counts, and the places at which moves must end.
+    /// Splits the load after the last row of table posting. The first result has the first
+    /// concepts, at which moves start; the second has the counts, and the places at which moves
+    /// must end.
     pub fn close(self) -> (MoveLoad, PlacedPostings)
         ensures { (resources : List Resource) (rows : List PostingRow)
             → HasPostings resources self.keys.keys self.firsts.items

@@ -47,8 +47,8 @@ impl ResourceLoad {
         }
     }
 
-    /// Parses the next row and appends its resource; returns false if the row has another form or a
-    /// number that isn't the next one.
+    /// Parses the next row of table resource and appends its resource; returns false if the row has
+    /// another form or a number that isn't the next one.
     pub fn read(&mut self, cells: &[Cell]) -> Result<bool, AllocError>
         ensures { IfOk result
             (ReadResult (resource_rows 1) (λ rows. rows ≡ self.new.resources.items) ResourceRule
@@ -63,7 +63,7 @@ impl ResourceLoad {
         }
     }
 
-    /// Checks whether the resources meet the rule of the table.
+    /// Checks whether the resources meet the rule of table resource.
     pub fn close(&self, alloc: Global) -> Result<bool, AllocError>
         ensures { IfOk result (λ good. IsTrue good ↔ ResourceRule self.now.resources.items) }
     {
@@ -112,7 +112,7 @@ fn fits(resources: &[Resource], n: ResNo, r: &Resource) -> bool
         && replacement_fits(resources, n, r)
 }
 
-// Checks whether the number is that of a scheme.
+// Checks whether the row of resource `n` is there and states that it is a scheme.
 fn is_scheme(resources: &[Resource], n: ResNo) -> bool
     ensures { IsTrue result ↔ IsScheme resources.now n }
 {
@@ -122,7 +122,8 @@ fn is_scheme(resources: &[Resource], n: ResNo) -> bool
     }
 }
 
-// Returns the scheme of the resource; None if it has none, or no resource has the number.
+// Returns the scheme that the row of resource `n` states; None if it states none, or there is no
+// such row.
 fn scheme_of(resources: &[Resource], n: ResNo) -> Option<ResNo>
     ensures { result ≡ scheme_of resources.now n }
 {
@@ -159,7 +160,8 @@ fn replacement_fits(resources: &[Resource], n: ResNo, r: &Resource) -> bool
     }
 }
 
-// Checks whether replacements form a cycle: checks a graph in which each of them is a broader link.
+// Checks whether replacements form a cycle, by the check of a graph in which each of them is a
+// broader link.
 fn has_replacement_cycle(alloc: Global, resources: &[Resource]) -> Result<bool, AllocError>
     requires few { length resources.now < 2 ^ 32 }
     requires apart { NoneReplacesItself resources.now }
@@ -180,7 +182,7 @@ fn has_replacement_cycle(alloc: Global, resources: &[Resource]) -> Result<bool, 
     if is_cycle(first) { Ok(true) } else { Ok(false) }
 }
 
-// Checks whether the first broken rule is Cycle.
+// Checks whether the first rule that a graph of links breaks is Cycle.
 fn is_cycle(first: Option<Refusal>) -> bool
     ensures { result ≡ is_cycle first }
 {
@@ -190,7 +192,8 @@ fn is_cycle(first: Option<Refusal>) -> bool
     }
 }
 
-// Returns the replacement of the resource; None if it has none, or no resource has the number.
+// Returns the replacement that the row of resource `n` states; None if it states none, or there is
+// no such row.
 fn replacement_of(resources: &[Resource], n: ResNo) -> Option<ResNo>
     ensures { result ≡ replacement_of resources.now n }
 {

@@ -137,7 +137,8 @@ impl Stage {
         }
     }
 
-    /// Closes the tables before this one, and makes it the current table.
+    /// Closes the tables before `table`, by a check of each, and makes `table` the current one;
+    /// keeps an earlier fault.
     pub(crate) fn reach(self, alloc: Global, table: Table) -> Result<Stage, AllocError>
         requires { table_no (stage_table self) ≤ table_no table }
         ensures { IfOk result (λ new. ReachesTable self new table) }

@@ -44,7 +44,7 @@ impl Stage {
         }
     }
 
-    // Closes the tables before this one, and makes it the current table.
+    // Closes the tables before `table`, by a check of each, and makes `table` the current one.
     fn advance(&mut self, alloc: Global, table: Table) -> Result<(), AllocError>
         requires { table_no (stage_table self.old) ≤ table_no table }
         ensures { OnOk result (ReachesTable self.old self.new table) }
@@ -55,8 +55,8 @@ impl Stage {
         self.close_earlier(alloc, table)
     }
 
-    // Closes the tables before this one, and makes it the current table. A stage is large, so it is
-    // moved only where the table changes.
+    // Closes the tables before `table`, and makes `table` the current one. A stage is large, so it
+    // is moved only here, where the table changes.
     fn close_earlier(&mut self, alloc: Global, table: Table) -> Result<(), AllocError>
         requires { table_no (stage_table self.old) ≤ table_no table }
         ensures { OnOk result (ReachesTable self.old self.new table) }
@@ -67,7 +67,7 @@ impl Stage {
         Ok(())
     }
 
-    // Stops with `BadStore` of the table.
+    // Stops the load with `BadStore` of the table.
     fn stop(&mut self, table: Table)
         ensures { self.new ≡ stage.Stopped (BadStore table) table }
     {

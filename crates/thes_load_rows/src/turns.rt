@@ -1,5 +1,5 @@
-//! The turns of the tables: a row, or the report of a table that can't be queried, stops a load
-//! that is past its table.
+//! The turns of the tables: a load that is past a table is stopped by a row of that table, or by
+//! the report that the table can't be queried.
 ghost use Rattle.std.specs.Prelude.{◌≡◌, IsTrue, false, None, Some, IfOk, OnOk, MatchOption};
 ghost use Rattle.thes_load_rows.specs.Progress.{is_stopped};
 ghost use Rattle.thes_load_rows.specs.Turns.{IsInTurn, IsOfRows, NextStage};
@@ -36,7 +36,8 @@ fn is_open(stage: &Stage, table: Table) -> bool
     !stage.is_past(table) && !stage.is_stopped()
 }
 
-// Stops a load that is past the table of a row, or keeps an earlier fault.
+// Stops a load that is past the table of a row with `BadStore`; one that isn't past the table has
+// stopped before, and keeps its fault.
 fn stop_after(stage: &mut Stage, table: Table)
     requires closed { IsInTurn table stage.old → is_stopped stage.old ≡ false → ⊥ }
     ensures follows { (news : _) → NextStage table news stage.old stage.new }
@@ -55,7 +56,7 @@ pub fn run_out(stage: &mut Stage)
     drop(mem::replace(stage, Stage::Stopped(Fault::OutOfMemory, Table::Meta)));
 }
 
-/// Adds a row of a table to the stage.
+/// Adds a row of a table to the stage; if the stage is past the table, stops it with `BadStore`.
 pub fn add_row(
     stage: &mut Stage,
     alloc: Global,
@@ -73,7 +74,8 @@ pub fn add_row(
     Ok(())
 }
 
-/// Returns the stage after the report that a table can't be queried.
+/// Returns the stage after the report that a table can't be queried: stopped, with `BadStore` of
+/// the table or an earlier fault.
 pub fn stage_after_unqueried(stage: Stage, alloc: Global, table: Table) -> Result<Stage, AllocError>
     requires { IsOfRows stage }
     ensures follows { IfOk result (NextStage table None stage) }

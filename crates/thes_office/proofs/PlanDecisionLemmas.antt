@@ -1,7 +1,7 @@
 -- Proves that the requests of a plan, decided one after another, are the plan, and what a commit of their changes or a
 -- refusal makes of the tables.
 use Rattle.std.proofs.lemmas.Grind.{common_steps}
-use Rattle.std.proofs.Common.{◌≡◌, ◌<◌, ◌≤◌, ◌+◌, ◌++◌, ◌∷◌, [], ◌∙◌, ℕ, suc, List, Bool, false, refl, sym, ap}
+use Rattle.std.proofs.Common.{◌≡◌, ◌<◌, ◌≤◌, ◌+◌, ◌++◌, ◌∷◌, [], ◌∙◌, ℕ, suc, List, false, refl, sym, ap}
 use Rattle.std.proofs.Common.{subst, take, drop, length, length-append, arith, inl}
 use Rattle.std.specs.Prelude.{None, Some, slice_get}
 use Rattle.std.specs.List.{AllByRecursion}

@@ -20,7 +20,6 @@ use Rattle.thes_core.specs.UndoLogs.{IsUndoStep, StepsLead}
 use Rattle.thes_office.specs.declared.plan.PlanDecision.{PlanDecision}
 use Rattle.thes_office.specs.declared.plan.PlanDecision.TheVariants as plan
 use Rattle.thes_office.specs.declared.plan.PlanProgress.{PlanProgress}
-use Rattle.thes_plan_postings.specs.declared.plan_postings.PlanPostings.{PlanPostings}
 use Rattle.thes_office.specs.Groups.{IsDecided}
 use Rattle.thes_office.specs.Office.{ChangesNothing, IsCopy}
 use Rattle.thes_plan_postings.specs.PlanPostings.{ArePlanRows}

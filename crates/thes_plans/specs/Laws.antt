@@ -35,7 +35,7 @@ SinglePlanIsRequest =
     → IsPlanOutcome setting s (asked ∷ []) outcome t
     ↔ ((answer : Answer) × Step setting s asked.command answer t × IsOutcomeOfAnswer outcome answer)
 
--- Each text of the requests has its form.
+-- Each text of the plan's requests has its form.
 abbrev pub PlanHasForms : List PlanRequest → Type 0
 PlanHasForms plan = AllByRecursion (λ asked. CommandHasForms asked.command) plan
 

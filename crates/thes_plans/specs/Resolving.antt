@@ -41,7 +41,8 @@ resolved_numbers answers [] (own ∷ owns) = own ∷ owns
 resolved_numbers answers (reference ∷ references) (own ∷ owns) =
     resolved_number answers reference own ∷ resolved_numbers answers references owns
 
--- The command with these numbers in place of its first, of its second, and of the postings that it lists.
+-- The command after `first` is applied to its first number, `second` to its second, and `listed` to the postings that
+-- it lists.
 abbrev pub with_numbers : (Number → Number) → (Number → Number) → (List Number → List Number) → Command → Command
 with_numbers first second listed (request.Scheme tag text) = request.Scheme tag text
 with_numbers first second listed (request.Concept scheme tag text) = request.Concept (first scheme) tag text

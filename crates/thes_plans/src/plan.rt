@@ -12,13 +12,13 @@ pub struct PlanRequest {
     /// The command. A number that a reference replaces is filled in when the plan is performed.
     pub command: Command,
     /// The place (from 1) of the request that makes the resource or posting for the command's first
-    /// number.
+    /// number; `None` if that number stays.
     pub first: Option<u32>,
     /// The place of the request that makes the resource for the command's second number (Link,
-    /// Unlink, Merge).
+    /// Unlink, Merge); `None` if that number stays.
     pub second: Option<u32>,
-    /// The place, for each posting that a Split lists, of the request that makes it; empty for any
-    /// other command.
+    /// For each posting that a Split lists, the place of the request that makes the posting, or
+    /// `None` if the listed number stays; empty for any other command.
     pub postings: Vec<Option<u32>>,
 }
 

@@ -63,7 +63,8 @@ fn refers_to_posting(earlier: &[PlanRequest], reference: Option<u32>) -> bool
     }
 }
 
-// Checks the reference for the first number of the command.
+// Checks that the command's first number has no reference, or one to an earlier request that
+// creates a resource, or, for a Withdraw, makes or finds a posting.
 fn has_good_first(earlier: &[PlanRequest], asked: &PlanRequest) -> bool
     ensures { IsTrue result ↔ IsGoodReference (MakesFirst asked.now.command) earlier.now asked.now.first }
 {
@@ -85,8 +86,8 @@ fn has_good_references(earlier: &[PlanRequest], asked: &PlanRequest) -> bool
             .all(|reference| refers_to_posting(earlier, *reference))
 }
 
-/// Returns the place of the first request with a reference to no earlier request that makes what is
-/// asked for; `None` if all references are good. It looks at the requests alone.
+/// Returns the place (from 1) of the first request of a plan with a bad reference; `None` if there
+/// is none. A good reference is to an earlier request that makes what is asked for.
 #[tactic(auto, using(crate::proofs::ReferenceLemmas::good_empty))]
 pub fn first_bad_reference(plan: &[PlanRequest]) -> Option<usize>
     ensures { FirstBadReference plan.now result }

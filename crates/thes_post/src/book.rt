@@ -34,14 +34,14 @@ impl Model for Book {
     ghost invariant = { λ a. a.withdrawn ≤ a.accepted };
 }
 
-// Returns the count at the index `place`; 0 past the end.
+// Returns the number of postings assigned to the concept `place`; 0 past the end.
 fn count_at(counts: &[u32], place: usize) -> u32
     ensures { result ≡ slice_index counts.now place }
 {
     counts.get(place).copied().unwrap_or(0)
 }
 
-// Appends zeros until the counts have an entry at the index `place`; after an error they are as
+// Appends counts of 0 until there is one for the concept `place`; after an error the counts are as
 // before.
 fn grow_counts(counts: &mut Vec<u32>, place: usize) -> Result<(), AllocError>
     requires { place < 2 ^ 32 }
@@ -55,8 +55,8 @@ fn grow_counts(counts: &mut Vec<u32>, place: usize) -> Result<(), AllocError>
     Ok(())
 }
 
-// Moves `count` of the entry at the index `from` to the one at `to`, which saturates at 2³² - 1;
-// after an error the counts are as before.
+// Moves `count` postings from the count of the concept `from` to that of `to`, which saturates at
+// 2³² - 1; after an error the counts are as before.
 fn shift_counts(counts: &mut Vec<u32>, from: usize, to: usize, count: u32) -> Result<(), AllocError>
     requires has { (0 < count) × (count ≤ slice_index counts.old.items from) }
     requires ends { (from ≢ to) × (to < 2 ^ 32) }
@@ -101,8 +101,7 @@ impl Book {
         Ok(PostNo::new(self.accepted))
     }
 
-    /// Counts a posting assigned to the concept as withdrawn; changes nothing if no posting is
-    /// assigned to it.
+    /// Counts a posting assigned to the concept as withdrawn; changes nothing if there is none.
     pub fn withdraw(&mut self, concept: ResNo)
         ensures counted { HasPostingToWithdraw concept self.old
             → CountsAfterWithdrawal concept self.old self.new }
@@ -184,7 +183,7 @@ impl Book {
     }
 
     /// Takes back the count of `count` postings of the source that moved to the target, with one
-    /// move each; changes nothing if there are fewer.
+    /// move each; changes nothing if the target has fewer.
     pub fn take_back_moves(
         &mut self,
         source: ResNo,

@@ -11,3 +11,4 @@ pub mod MemberReadingLemmas
 pub mod LineBufferLemmas
 pub mod LineLemmas
 pub mod ScriptLemmas
+pub mod NumeralLemmas

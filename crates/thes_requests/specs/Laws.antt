@@ -1,4 +1,4 @@
--- Laws of requests and plans: every line has one meaning.
+-- Laws of reading requests and plans: bytes have one meaning as a request, and at most one as a plan.
 use Rattle.std.specs.Prelude.{◌≡◌, ℕ, List, [], ◌∷◌, Option, Result, Ok, Err}
 use Rattle.serde_json.specs.Data.{Data}
 use Rattle.thes_base.specs.declared.fault.FormFault.{FormFault}

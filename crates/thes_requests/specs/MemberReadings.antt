@@ -43,7 +43,7 @@ if_exact false r = Err (Form BadShape)
 abbrev pub IsStoppedEarly : {A : Type 0} → Result A ReadStop → Type 0
 IsStoppedEarly r = (e : ReadStop) × (r ≡ Err e) × (is_form_stop e ≡ false)
 
--- The result of reading a member: `BadShape` or `OutOfMemory` if the member is absent, else the
+-- The result of reading a member: `BadShape` or `OutOfMemory` if the member is absent or of another type, else the
 -- outcome of its form.
 pub record ReadsMember {X A : Type 0} (m : Member X A) (d : Data) (r : Result A ReadStop) : Type 0 where
   pub absent : m.found d ≡ None → IsStoppedEarly r

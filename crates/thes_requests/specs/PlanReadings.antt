@@ -53,21 +53,22 @@ second_name does.Unlink = Some (codes "b")
 second_name does.Merge = Some (codes "target")
 second_name _ = None
 
--- The reference in the member with this name, if there is a name and a reference.
+-- The place to which the member with this name refers, if there is a name and a reference.
 abbrev pub reference_at : Option (List ℕ) → Data → Option ℕ
 reference_at name d = option_and_then (λ n. option_and_then reference_in (get n d)) name
 
--- The reference of each item, if it is one.
+-- For each item, the place to which it refers, if it is a reference.
 abbrev pub item_references : Items → List (Option ℕ)
 item_references no_items = []
 item_references (item d ds) = reference_in d ∷ item_references ds
 
--- The references of the items, if there are any.
+-- The references of the items of an array, or an empty list if there is no array.
 abbrev pub array_references : Option Items → List (Option ℕ)
 array_references None = []
 array_references (Some ds) = item_references ds
 
--- The reference, if it is one, of each posting that a split lists; nothing for other commands.
+-- For each posting that a split lists, the place to which it refers, if it is a reference; an empty list for other
+-- commands.
 abbrev pub listed_references : CommandKeyword → Data → List (Option ℕ)
 listed_references does.Split d = array_references (option_and_then as_array (get (codes "postings") d))
 listed_references _ d = []
@@ -76,8 +77,8 @@ listed_references _ d = []
 abbrev pub keyword_in : Data → Option CommandKeyword
 keyword_in d = option_and_then verb_named (option_and_then as_str (get (codes "do") d))
 
--- Reads the command of a plan's request: as a request alone, with 1 in place of each reference to a number.
--- A query is `BadShape`.
+-- Reads the command of a plan's request: as a request alone, with 1 in place of each reference that is used as a
+-- number. A query is `BadShape`.
 abbrev pub plan_command_in : Data → RequestReading Command
 plan_command_in d = do
   verb ← present_or_bad_shape (keyword_in d)
@@ -135,7 +136,7 @@ PlanValueReadsAs d (Err (Request place f)) =
 PlanValueReadsAs d (Err (Reference place)) =
     (plan : List PlanRequest) × IsPlanOfRequests d plan × IsFirstBadReference plan place
 
--- The outcome of the value, or `NotJson` if there is none.
+-- The JSON value of a text, read as a plan, has this outcome; `NotJson` if the text has none.
 abbrev pub OptionReadsAs : Option Data → Result (List PlanRequest) PlanFault → Type 0
 OptionReadsAs None outcome = outcome ≡ Err (Whole NotJson)
 OptionReadsAs (Some d) outcome = PlanValueReadsAs d outcome
@@ -144,12 +145,12 @@ OptionReadsAs (Some d) outcome = PlanValueReadsAs d outcome
 abbrev pub PlanReadsAs : List ℕ → Result (List PlanRequest) PlanFault → Type 0
 PlanReadsAs bytes outcome = OptionReadsAs (json_in bytes) outcome
 
--- Whether there is a value, and it is an array.
+-- Whether there is a JSON value, and it is an array.
 abbrev pub is_array_value : Option Data → Bool
 is_array_value (Some (array ds)) = true
 is_array_value _ = false
 
--- The result of a call is such an outcome, or memory ran out.
+-- The result of reading a plan is an outcome for which `Reads` holds, or memory ran out.
 abbrev pub GivesPlan : (Result (List PlanRequest) PlanFault → Type 0) → Result (Vec PlanRequest Global) PlanStop
     → Type 0
 GivesPlan Reads (Ok plan) = Reads (Ok plan.items)

@@ -33,7 +33,7 @@ plan_fault_text (Reference place) = place_text place ++ codes "\"bad\":\"" ++ co
 abbrev pub item_text : Answer → List ℕ
 item_text a = take (length (answer_text a) - 1) (answer_text a)
 
--- The comma before each answer but the first.
+-- The comma before the answer at this index, or nothing before the first, at 0.
 abbrev pub separator_before : ℕ → List ℕ
 separator_before zero = []
 separator_before (suc n) = 44 ∷ []

@@ -20,7 +20,7 @@ ReadsAs (fails f) outcome = outcome ≡ Err f
 ReadsAs (unless rule f rest) outcome =
     ((¬ rule) × (outcome ≡ Err f)) ⊎ (rule × ReadsAs rest outcome)
 
--- The result of a call is the outcome of the rules, or `OutOfMemory`.
+-- The result of a call is the outcome of the reading, or `OutOfMemory`.
 pub record Gives {A : Type 0} (reading : RequestReading A) (result : Result A ReadStop) : Type 0 where
   pub value : (x : A) → result ≡ Ok x → ReadsAs reading (Ok x)
   pub fault : (f : FormFault) → result ≡ Err (Form f) → ReadsAs reading (Err f)

@@ -18,7 +18,7 @@ begins_place [] = false
 begins_place (b ∷ []) = true
 begins_place (b ∷ c ∷ bs) = not (b == 48)
 
--- Whether the bytes are decimal digits without a leading zero.
+-- Whether the bytes are decimal digits, at least one, without a zero before others.
 abbrev pub is_place : List ℕ → Bool
 is_place bytes = list_all is_ascii_digit bytes && begins_place bytes
 
@@ -59,20 +59,20 @@ is_number_name name =
     || (bytes_eq name (codes "b") || (bytes_eq name (codes "concept") || (bytes_eq name (codes "source")
     || (bytes_eq name (codes "target") || bytes_eq name (codes "posting")))))))
 
--- The value of a member with 1 in place of each reference to a number.
+-- The value of a member with 1 in place of each reference that is used as a number.
 abbrev pub member_without_references : List ℕ → Data → Data
 member_without_references name d =
     if is_number_name name then without_reference d
     else if bytes_eq name (codes "postings") then list_without_references d
     else d
 
--- The members with 1 in place of each reference to a number.
+-- The members with 1 in place of each reference that is used as a number.
 abbrev pub members_without_references : Members → Members
 members_without_references no_members = no_members
 members_without_references (member name d ms) =
     member name (member_without_references name d) (members_without_references ms)
 
--- An object with 1 in place of each reference to a number, and any other value unchanged.
+-- An object with 1 in place of each reference used as a number, and any other value unchanged.
 abbrev pub without_references : Data → Data
 without_references (object ms) = object (members_without_references ms)
 without_references d = d

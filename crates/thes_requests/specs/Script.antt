@@ -1,4 +1,4 @@
--- Scripts: one request a line, each answered with a line before the next one is performed.
+-- Scripts: one request or plan a line, each answered with a line before the next one is performed.
 use Rattle.std.specs.Prelude.{◌≡◌, ◌⊎◌, ◌≤◌, ◌↔◌, ℕ, ◌==◌, ◌||◌, Bool, true, false, if◌then◌else◌, List, [], ◌∷◌}
 use Rattle.std.specs.Prelude.{◌++◌, length, take, flat_map, fold, Option, Some, None, Result, MatchResult}
 use Rattle.std.specs.List.{list_all, slice_split, All}
@@ -49,8 +49,7 @@ EndsLine bytes = (bytes ≡ []) ⊎ ((front : List ℕ) × (bytes ≡ front ++ 1
 abbrev pub is_blank : List ℕ → Bool
 is_blank line = list_all (λ b. b == 32 || b == 9) line
 
--- The effect of one line on the handler: none if the line is blank or isn't held, else that of its
--- request.
+-- The effect of one line on the handler: none if the line is blank or isn't held, else that of its request or plan.
 abbrev pub StepLine : {S : Type 0} → LineBehaviour S → S → List ℕ → LineOutcome → S → Type 0
 StepLine serves old line Skipped new = (is_blank line ≡ true) × (new ≡ old)
 StepLine serves old line Unheld new = new ≡ old
@@ -123,7 +122,7 @@ pub record IsFreshSession {R W S : Type 0} (begun : Session R W S) : Type 0 wher
   pub reader : IsFresh begun.reader
   pub writer : IsFresh begun.writer
 
--- The line after those served would exceed the limits on number or length.
+-- The line after the bytes `served`, at the beginning of `rest`, would exceed the limits on number or length of lines.
 pub record ExceedsLimits (served : List ℕ) (rest : Option (List ℕ)) : Type 0 where
   pub next : List ℕ
   pub bytes_left : Option (List ℕ)

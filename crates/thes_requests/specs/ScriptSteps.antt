@@ -35,9 +35,8 @@ module _ {W S : Type 0} (contents : W → Option (List ℕ)) (is_open : S → Bo
     pub stays_open : is_open handler ≡ true
     pub fresh : IsFresh writer'
 
-  -- The output and the state that a fault leaves after a line. `Write`, `TooLong`: the writer failed
-  -- or was denied a write, after a prefix of the answer. `Fault`: the handler closed, after the
-  -- whole answer.
+  -- The output and the state that a fault leaves after a line. `Write`, `TooLong`: the writer failed or had no write
+  -- left, after a prefix of the answer. `Fault`: the handler closed, after the whole answer.
   abbrev pub StopsWithOutcome : LineOutcome → PipeFault → Type 0
   StopsWithOutcome line_outcome Read = ⊥
   StopsWithOutcome line_outcome Write =
@@ -50,7 +49,8 @@ module _ {W S : Type 0} (contents : W → Option (List ℕ)) (is_open : S → Bo
       Appends (written_bytes contents writer) (written_bytes contents writer') (outcome_text line_outcome)
       × (failed_of writer' ≡ false) × (f ≡ OutOfMemory) × (is_open handler ≡ false)
 
--- The lines of `bytes` were served; the bytes after them are in the buffer or still in the reader.
+-- The lines of `bytes`, `count` of them, were served, and `ended` sums up their answers; the bytes after them are in
+-- the buffer (`held`) or still in the reader.
 pub record ScriptProgress {R W S : Type 0} (remaining : R → Option (List ℕ)) (contents : W → Option (List ℕ))
     (serves : LineBehaviour S) (old new : Session R W S)
     (held : List ℕ) (count : ℕ) (ended : ScriptEnd) : Type 0 where

@@ -31,9 +31,9 @@ use Rattle.thes_requests.specs.Requests.{json_in, request_of}
 abbrev pub LineBehaviour : Type 0 → Type 1
 LineBehaviour S = S → List ℕ → LineAnswer → S → Type 0
 
--- The program reads a line, and performs its command or answers its query; a line that isn't a
--- request changes nothing. A fault may replace an answer: one of the handler, or running out of
--- memory while reading, which changes nothing.
+-- The program reads a line, and performs its command or plan, or answers its query; a line that is none of these
+-- changes nothing. A fault may replace an answer: one of the handler, or running out of memory while reading, which
+-- changes nothing.
 
 -- The line is a request to perform this command.
 abbrev pub IsCommandLine : List ℕ → Command → Type 0

@@ -57,7 +57,8 @@ fn answer_line(answer: Answer) -> ShortLine
     }
 }
 
-// Returns `before`, the number in decimal, a closing brace and a line feed.
+// Returns a line of JSON that ends with a number: `before`, the number in decimal, a closing brace
+// and a line feed.
 fn number_line(before: &str, number: u32) -> ShortLine
     requires { length before.now ≤ 32 }
     ensures { result ≡ before.now ++ decimal number ++ codes "}\n" }
@@ -80,7 +81,8 @@ fn split_answer_line(number: u32, count: u32) -> ShortLine
     line
 }
 
-// Returns `before`, the name, a closing quote and brace, and a line feed.
+// Returns a line of JSON that ends with a name: `before`, the name, a closing quote and brace, and
+// a line feed.
 fn name_line(before: &str, name: &str) -> ShortLine
     requires { length before.now + length name.now ≤ 61 }
     ensures { result ≡ before.now ++ name.now ++ codes "\"}\n" }
@@ -109,8 +111,8 @@ fn form_fault_line(fault: FormFault) -> ShortLine
     name_line("{\"bad\":\"", fault.name())
 }
 
-// Returns the line of JSON for a fault, with its name and, for `BadStore`, the name of the
-// malformed table.
+// Returns the line of JSON for a fault, with its name and, for `BadStore`, the name of the faulty
+// table.
 fn fault_line(fault: Fault) -> ShortLine
     ensures { result ≡ fault_reply_text fault }
 {

@@ -1,4 +1,5 @@
-//! Laws of requests and plans: every line has one meaning.
+//! Laws of reading requests and plans: bytes have one meaning as a request, and at most one as a
+//! plan.
 ghost use Rattle.thes_requests.specs.Laws.{OnePlanReading, OneReading, SomeReading};
 
 /// No effect; states for the proof that bytes have at most one meaning: one request or one form

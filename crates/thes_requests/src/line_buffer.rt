@@ -1,4 +1,4 @@
-//! A buffer that splits the input of a reader into lines.
+//! A buffer that splits the input of a script into lines.
 ghost use Rattle.std.specs.Prelude.{◌≡◌, ◌≢◌, ◌≤◌, [], ◌∷◌, ◌++◌, length, take, drop, true, false, IfOk, IfErr};
 ghost use Rattle.std.specs.Io.KnownBytes.{Keeps};
 ghost use Rattle.std.specs.Str.Lines.{strip_carriage_return};
@@ -41,13 +41,15 @@ pub enum LineSearch {
     End,
 }
 
-// The number of bytes consumed, and whether the line holds them and all bytes before them.
+// A part of a line that was consumed: the number of its bytes, and whether the line holds them and
+// all bytes before them.
 #[derive(Clone, Copy)]
 struct LineRun {
     count: usize,
     kept: bool,
 }
 
+// The greatest length of a line in bytes, its carriage return included.
 const LINE_LIMIT: usize = 1_048_576;
 
 const BUFFER_SIZE: usize = 65_536;
@@ -91,7 +93,7 @@ impl LineBuffer {
 
     /// Consumes the next line, and copies it to `line` without its line end. If memory for the copy
     /// runs out, the rest of the line is still consumed, and the result is `NoRoom`. `TooLong`
-    /// means that the line exceeds 1 MiB, or that a read was denied.
+    /// means that the line exceeds 1 MiB, or that no read is left.
     pub fn take_line<R: Read>(
         &mut self,
         reader: &mut Pipe<R>,
@@ -152,7 +154,7 @@ impl LineBuffer {
     }
 
     // Consumes the buffered bytes before the next line feed, at most `most`. If `kept`, that is, if
-    // `line` holds all bytes before these, appends them to `line` as far as memory allows it.
+    // `line` holds all bytes before these, appends them to `line`, unless memory runs out.
     fn take_run(&mut self, line: &mut Vec<u8>, kept: bool, most: usize) -> LineRun
         ensures run { ConsumesRun self.old self.new line.old.items line.new.items kept result }
         ensures short { result.count ≤ most }
@@ -209,7 +211,8 @@ fn drop_carriage_return(line: &mut Vec<u8>)
     }
 }
 
-// Returns the outcome for a line found: `Line` if `held`, and else `NoRoom`.
+// Returns the outcome of a search that found a line: `Line` if all of it is `held`, and else
+// `NoRoom`.
 fn line_search_of(held: bool) -> LineSearch
     ensures line { (result ≡ LineSearch.Line) → held ≡ true }
     ensures some { result ≢ LineSearch.End }
@@ -221,7 +224,8 @@ fn line_search_of(held: bool) -> LineSearch
     }
 }
 
-// Appends a byte to the line if `held`, and returns whether the line holds all bytes so far.
+// Appends a byte to the line if all bytes before it are `held`, and returns whether the line then
+// holds all bytes so far.
 fn keep(line: &mut Vec<u8>, held: bool, byte: u8) -> bool
     ensures { result ≡ true → (held ≡ true) × (line.new.items ≡ line.old.items ++ byte ∷ []) }
 {

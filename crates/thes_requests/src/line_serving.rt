@@ -23,7 +23,8 @@ use thes_base::fault::{Fault, ReadStop};
 use thes_base::pipe::{Budget, Pipe, Stop};
 use thes_base::request::Answer;
 
-/// The answer to a line: a reply of fixed form, the line of a view, or the reply to a plan.
+/// The answer to a line of a script: the reply to a request, the line of a view, or the reply to a
+/// plan.
 #[derive(Drop)]
 pub enum LineAnswer {
     Reply(Reply),
@@ -74,7 +75,8 @@ impl LineAnswer {
     }
 }
 
-/// The outcome of a line: skipped since it is blank, not held since memory ran out, or answered.
+/// The outcome of a line of a script: skipped since it is blank, not held since memory ran out, or
+/// answered.
 #[derive(Drop)]
 pub enum LineOutcome {
     Skipped,
@@ -174,8 +176,9 @@ fn answer_line<D: RequestHandler>(
     }
 }
 
-/// Skips a blank line; reads the request or, if the handler takes plans, the plan in any other, and
-/// performs it. A form fault has no effect, and neither has a line that didn't fit into memory.
+/// Skips a blank line of a script; performs the request in any other, or its plan if the line is an
+/// array and the handler takes plans. A form fault has no effect, and neither has a line that
+/// didn't fit into memory.
 pub fn serve_line<D: RequestHandler>(
     memory: &mut RequestScratch,
     handler: &mut D,

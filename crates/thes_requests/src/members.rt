@@ -42,8 +42,8 @@ fn is_form_stop(stop: ReadStop) -> bool
     }
 }
 
-/// Returns both values, or the first stop. If the second stop is `BadShape` or `OutOfMemory`,
-/// returns that one: shape comes before form (DECISIONS.md, Requests in JSON).
+/// Returns the values of two members, or the first stop. If the second stop is `BadShape` or
+/// `OutOfMemory`, returns that one: shape comes before form (DECISIONS.md, Requests in JSON).
 pub fn both<A: Drop, B: Drop>(
     first: Result<A, ReadStop>,
     second: Result<B, ReadStop>,

@@ -1,5 +1,7 @@
 //! Values of JSON numerals.
-ghost use Rattle.std.specs.Prelude.{◌≡◌, ◌==◌, ◌<◌, length, option_map, slice_index, true, false, IsTrue};
+ghost use Rattle.std.specs.Prelude.{◌≡◌, ◌==◌, ◌<◌, ◌≤◌, length, option_map, slice_index, true, false, IsTrue};
+ghost use Rattle.std.specs.Option.{SomeIff};
+ghost use Rattle.std.specs.Str.Parse.{digits_value, IsNumeral};
 ghost use Rattle.serde_json.specs.Read.{float_of, number_from, number_of};
 ghost use Rattle.serde_json.specs.View.{number_view};
 
@@ -12,6 +14,39 @@ pub fn number_of(text: &str) -> Option<Number>
     ensures { option_map number_view result ≡ number_of text.now }
 {
     let bytes = text.as_bytes();
+    // Most numerals are a few digits, and to scan such a one as a float takes three times as long.
+    if let Some(number) = integer_of(bytes) {
+        return Some(Number::from(number));
+    }
+    scan_number(bytes)
+}
+
+// Returns the number that the bytes write, if they are one to 19 digits and nothing else. Any
+// number of 19 digits fits 64 bits.
+fn integer_of(bytes: &[u8]) -> Option<u64>
+    ensures { SomeIff result (IsNumeral 10 bytes.now × (length bytes.now ≤ 19))
+        (digits_value 10 bytes.now) }
+{
+    if bytes.is_empty() || bytes.len() > 19 {
+        return None;
+    }
+    let mut number = 0u64;
+    for &byte in bytes {
+        let digit = byte.wrapping_sub(b'0');
+        if digit > 9 {
+            return None;
+        }
+        number = number * 10 + u64::from(digit);
+    }
+    Some(number)
+}
+
+// Returns the value of any JSON numeral, if it is in range. This is apart, so that a few digits do
+// without the large frame that a scan fills with zeros first.
+#[inline(never)]
+fn scan_number(bytes: &[u8]) -> Option<Number>
+    ensures { option_map number_view result ≡ number_of bytes.now }
+{
     if has_minus(bytes) {
         negative(&Numeral::scan(&bytes[1..]))
     } else {
@@ -19,7 +54,7 @@ pub fn number_of(text: &str) -> Option<Number>
     }
 }
 
-// Returns whether the numeral begins with a minus sign.
+// Returns whether the JSON numeral begins with a minus sign.
 fn has_minus(bytes: &[u8]) -> bool
     ensures value { result ≡ (slice_index bytes.now 0 == 45) }
     ensures len { IsTrue result → 0 < length bytes.now }
@@ -27,7 +62,7 @@ fn has_minus(bytes: &[u8]) -> bool
     !bytes.is_empty() && bytes[0] == b'-'
 }
 
-// Returns the value of a numeral without a sign: an unsigned 64-bit integer, or else a float.
+// Returns the value of a JSON numeral without a sign: an unsigned 64-bit integer, or else a float.
 fn unsigned(numeral: &Numeral<'_>) -> Option<Number>
     ensures { option_map number_view result ≡ number_from false numeral.now }
 {
@@ -37,8 +72,8 @@ fn unsigned(numeral: &Numeral<'_>) -> Option<Number>
     }
 }
 
-// Returns the value of a numeral after its minus sign: a negative 64-bit integer, or else a float,
-// as for -0.
+// Returns the value of a JSON numeral, given after its minus sign: a negative 64-bit integer, or
+// else a float, as for -0.
 fn negative(numeral: &Numeral<'_>) -> Option<Number>
     ensures { option_map number_view result ≡ number_from true numeral.now }
 {
@@ -50,8 +85,8 @@ fn negative(numeral: &Numeral<'_>) -> Option<Number>
     nearest(true, numeral)
 }
 
-// Returns the float nearest to the numeral, with a minus sign if `negative`; `None` if the numeral
-// is too large for a float.
+// Returns the float nearest to the JSON numeral, with a minus sign if `negative`; `None` if the
+// numeral is too large for a float.
 fn nearest(negative: bool, numeral: &Numeral<'_>) -> Option<Number>
     ensures { option_map number_view result ≡ float_of negative numeral.now }
 {

@@ -88,15 +88,16 @@ fn second_name(verb: CommandKeyword) -> Option<&'static str>
     }
 }
 
-// Returns the reference in the member with this name, if there is a name and a reference.
+// Returns the place to which the member with this name refers, or `None` without a name or a
+// reference.
 fn reference_at(name: Option<&str>, value: &Value<'_>) -> Option<u32>
     ensures { result ≡ plan.reference_at (option_map (λ s. s.now) name.entry) (view value.now) }
 {
     reference_in(value.get(name?)?)
 }
 
-// Returns the reference, if it is one, of each posting that a split lists; nothing for other
-// commands.
+// Returns, for each posting that a split lists, the place to which it refers, or `None` if it is no
+// reference; an empty list for other commands.
 fn listed_references(
     alloc: Global,
     verb: CommandKeyword,
@@ -110,7 +111,8 @@ fn listed_references(
     }
 }
 
-// Returns the reference, if it is one, of each item of the member `postings`, if that is an array.
+// Returns, for each item of the member `postings`, the place to which it refers, if it is a
+// reference; an empty list if the member is no array.
 fn posting_references(alloc: Global, value: &Value<'_>) -> Result<Vec<Option<u32>>, AllocError>
     ensures { IfOk result (λ v. v.items
         ≡ plan.array_references
@@ -122,7 +124,7 @@ fn posting_references(alloc: Global, value: &Value<'_>) -> Result<Vec<Option<u32
     }
 }
 
-// Returns the reference of each item, if it is one.
+// Returns, for each item of a JSON array, the place to which it refers, if it is a reference.
 #[tactic(auto, using(crate::proofs::ReferenceLemmas::references_next))]
 fn references_in(alloc: Global, items: &[Value<'_>]) -> Result<Vec<Option<u32>>, AllocError>
     ensures { IfOk result (λ v. v.items ≡ plan.item_references (items_view items.now)) }
@@ -171,7 +173,8 @@ fn requests_in(alloc: Global, items: Vec<Value<'_>>) -> Result<Vec<PlanRequest>,
     Ok(plan)
 }
 
-// Returns the plan if all its references are good, or the fault of the first that isn't.
+// Returns the plan if all its references are good, or the fault of the first request with a bad
+// one.
 fn with_good_references(plan: Vec<PlanRequest>) -> Result<Vec<PlanRequest>, PlanStop>
     ensures { (d : Data) → IsPlanOfRequests d plan.items
         → GivesPlan (PlanValueReadsAs d) result }

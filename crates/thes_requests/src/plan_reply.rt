@@ -16,7 +16,7 @@ use thes_base::pipe::{Budget, Pipe, Stop};
 use thes_base::request::Answer;
 use thes_plans::plan::PlanOutcome;
 
-// The greatest length of the line of an answer.
+// The greatest length of the line of an answer in bytes.
 const ANSWER_LIMIT: usize = 72;
 
 /// The reply to a plan: the line of the answers to all its requests, the refusal of one of them, or
@@ -106,7 +106,7 @@ pub fn plan_fault_line(fault: PlanFault) -> ShortLine
     }
 }
 
-// Appends bytes, for which the capacity suffices.
+// Appends bytes to the line of a reply to a plan, whose capacity suffices for them.
 fn append(line: &mut Vec<u8>, bytes: &[u8])
     requires { vec_len line.old + length bytes.now ≤ vec_capacity line.old }
     ensures items { line.new.items ≡ line.old.items ++ bytes.now }
@@ -118,7 +118,7 @@ fn append(line: &mut Vec<u8>, bytes: &[u8])
     }
 }
 
-// Appends the line of an answer without its line feed.
+// Appends an answer to the line of a plan's answers: its own line without the line feed.
 fn append_answer(line: &mut Vec<u8>, answer: Answer)
     requires { vec_len line.old + 71 ≤ vec_capacity line.old }
     ensures items { line.new.items ≡ line.old.items ++ item_text answer }
@@ -130,7 +130,7 @@ fn append_answer(line: &mut Vec<u8>, answer: Answer)
     append(line, &bytes[..bytes.len().saturating_sub(1)]);
 }
 
-// Appends the comma before each answer but the first.
+// Appends the comma before the answer at this index, or nothing before the first, at 0.
 fn append_separator(line: &mut Vec<u8>, index: usize)
     requires { vec_len line.old + 1 ≤ vec_capacity line.old }
     ensures items { line.new.items ≡ line.old.items ++ separator_before index }
@@ -155,7 +155,7 @@ fn append_answers(line: &mut Vec<u8>, answers: &[Answer])
     }
 }
 
-// Returns the line of these answers, for which the capacity suffices.
+// Returns the line of these answers to a plan, in the memory `room`, whose capacity suffices.
 fn answers_line(room: Vec<u8>, answers: &[Answer]) -> Page
     requires empty { room.items ≡ [] }
     requires room { 72 * length answers.now + 12 ≤ vec_capacity room }

@@ -32,7 +32,7 @@ pub fn perform_plan<D: RequestHandler>(
     }
 }
 
-/// Performs the plan that was read, if it is one, and returns the reply.
+/// Performs the plan that was read, or nothing if the text isn't one, and returns the reply.
 pub fn perform_read_plan<D: RequestHandler>(
     alloc: Global,
     handler: &mut D,

@@ -10,14 +10,14 @@ use crate::tree::{Value, push_member};
 use serde_json::Number;
 use std::alloc::{AllocError, Global};
 
-// Returns whether the bytes are decimal digits without a leading zero.
+// Returns whether the bytes are decimal digits, at least one, without a zero before others.
 fn is_place(digits: &[u8]) -> bool
     ensures { result ≡ plan.is_place digits.now }
 {
     all_digits(digits) && begins_place(digits)
 }
 
-// Returns whether each byte is an ASCII digit.
+// Returns whether each byte of a reference after its dollar sign is an ASCII digit.
 fn all_digits(digits: &[u8]) -> bool
     ensures { result ≡ list_all is_ascii_digit digits.now }
 {
@@ -56,7 +56,7 @@ fn capped_value(digits: &[u8]) -> u32
     value
 }
 
-// Returns the place to which a text refers, if it is a reference.
+// Returns the place in the plan to which a text refers, such as 3 for `$3`, if it is a reference.
 fn place_in(text: &str) -> Option<u32>
     ensures { result ≡ plan.place_in text.now }
 {
@@ -66,7 +66,7 @@ fn place_in(text: &str) -> Option<u32>
     }
 }
 
-/// Returns the place to which a value refers, if it is a reference; at most `u32::MAX`.
+/// Returns the place to which a JSON value refers, if it is a reference; at most `u32::MAX`.
 pub fn reference_in(value: &Value<'_>) -> Option<u32>
     ensures { result ≡ plan.reference_in (view value.now) }
 {
@@ -122,7 +122,7 @@ fn is_number_name(name: &str) -> bool
     )
 }
 
-// Returns the value of a member with 1 in place of each reference to a number.
+// Returns the value of a member with 1 in place of each reference that is used as a number.
 fn member_without_references<'a>(
     alloc: Global,
     name: &str,
@@ -140,7 +140,7 @@ fn member_without_references<'a>(
     Ok(value)
 }
 
-// Returns the members with 1 in place of each reference to a number.
+// Returns the members with 1 in place of each reference that is used as a number.
 fn members_without_references<'a>(
     alloc: Global,
     members: Vec<(&'a str, Value<'a>)>,
@@ -163,8 +163,8 @@ fn has_reference_item(items: &[Value<'_>]) -> bool
     items.iter().any(|item| reference_in(item).is_some())
 }
 
-// Returns whether the value is a reference, or an array with one; if not, it stays unchanged as a
-// member of any name.
+// Returns whether the value is a reference, or an array with one; if not,
+// `member_without_references` leaves it unchanged, whatever the member's name.
 #[tactic(auto, using(crate::proofs::UnchangedLemmas::value_unchanged, crate::proofs::UnchangedLemmas::member_unchanged))]
 fn has_reference(value: &Value<'_>) -> bool
     ensures { result ≡ false → (name : List ℕ)
@@ -176,7 +176,7 @@ fn has_reference(value: &Value<'_>) -> bool
     }
 }
 
-// Returns whether a member has a reference; if not, the members stay unchanged.
+// Returns whether a member has a reference; if not, `members_without_references` would change none.
 fn have_references(members: &[(&str, Value<'_>)]) -> bool
     ensures { result ≡ false → plan.members_without_references (members_view members.now)
         ≡ members_view members.now }
@@ -189,7 +189,7 @@ fn have_references(members: &[(&str, Value<'_>)]) -> bool
     false
 }
 
-/// Returns an object with 1 in place of each reference to a number, and any other value
+/// Returns an object with 1 in place of each reference used as a number, and any other value
 /// unchanged. Members are copied only if there are references.
 pub fn without_references<'a>(alloc: Global, value: Value<'a>) -> Result<Value<'a>, AllocError>
     ensures { IfOk result (λ v. view v ≡ plan.without_references (view value.entry)) }

@@ -1,4 +1,4 @@
-//! Scripts: one request a line, each answered with a line before the next one is performed.
+//! Scripts: one request or plan a line, each answered with a line before the next one is performed.
 ghost use Rattle.std.specs.Prelude.{◌≡◌, true, IfOk, IfErr, OnOk};
 ghost use Rattle.thes_base.specs.Pipe.{IsFresh, PaysCalls, KeepsSharedCallLimit};
 ghost use Rattle.thes_requests.specs.Script.{end_after_outcome, end_without_lines, session, EndsScript, IsFreshSession};
@@ -38,7 +38,8 @@ impl ScriptEnd {
         }
     }
 
-    // Records the outcome of a line: whether its answer is a refusal, a form fault or a fault.
+    // Records the outcome of a script's line: that its answer is a refusal or a form fault, or the
+    // fault that replaces its answer.
     fn note(&mut self, outcome: &LineOutcome)
         ensures { self.new ≡ end_after_outcome self.old outcome.now }
     {
@@ -61,8 +62,9 @@ impl ScriptEnd {
     }
 }
 
-// Records the outcome of a line in `ended`, and writes its answer. Fails if the writer fails or is
-// denied a write, and with `OutOfMemory` if the handler has closed.
+// Records the outcome of a script's line in `ended`, and writes its answer, if it has one. Fails if
+// the writer fails or the budget has no write left, and, after the answer, with `OutOfMemory` if
+// the handler has closed, since running out of memory in a call is what closes a handler.
 fn write_outcome<W: Write, D: RequestHandler>(
     writer: &mut Pipe<W>,
     budget: &mut Budget,
@@ -91,9 +93,8 @@ fn write_outcome<W: Write, D: RequestHandler>(
 ///
 /// A line holds at most 1,048,576 bytes, and a script at most 1,000,000 lines, blank ones included.
 /// `TooLong` is returned only if the input exceeds these limits, after all earlier lines are
-/// answered, or if a pipe was denied a read or a write. `OutOfMemory` is returned only before the
-/// first line, or after the handler has closed. Reads and writes together number at most
-/// 100,000,000.
+/// answered, or if none of the 100,000,000 reads and writes is left. `OutOfMemory` is returned only
+/// before the first line, or after the handler has closed.
 pub fn script<R: Read, W: Write, D: RequestHandler>(
     alloc: Global,
     reader: &mut Pipe<R>,
@@ -120,10 +121,11 @@ pub fn script<R: Read, W: Write, D: RequestHandler>(
         if found == LineSearch::End {
             return Ok(ended);
         }
-        // The former answer is freed once this one is made: at the end of the heap it would cost
-        // more.
+        // The former answer is freed once this one is made: to free the last block of the heap
+        // would cost more.
         outcome = serve_line(&mut memory, handler, &lines.line, found);
-        // Before the next line is served, whose client may wait for it (DECISIONS.md, Scripts).
+        // Before the next line is served: the client may wait for this answer (DECISIONS.md,
+        // Scripts).
         write_outcome(writer, &mut budget, handler, &outcome, &mut ended)?;
     }
     Ok(ended)

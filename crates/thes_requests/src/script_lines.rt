@@ -37,7 +37,7 @@ impl ScriptLines {
     }
 
     /// Finds the next line and holds it without its line end; `TooLong` means that the line exceeds
-    /// 1 MiB or is line 1,000,001, or that a read was denied.
+    /// 1 MiB or is line 1,000,001, or that no read is left.
     pub fn next_line<R: Read>(
         &mut self,
         reader: &mut Pipe<R>,

@@ -117,7 +117,7 @@ impl<'a> Value<'a> {
     }
 }
 
-// Returns the value of the last member with this name.
+// Returns the value of an object's last member with this name.
 fn member<'v, 'a>(members: &'v [(&'a str, Value<'a>)], name: &str) -> Option<&'v Value<'a>>
     ensures { option_map (λ v. view v.now) result
         ≡ get_member name.now (members_view members.now) }
@@ -153,7 +153,7 @@ fn has_names<'a>(members: &[(&'a str, Value<'a>)], count: usize) -> bool
     names == count
 }
 
-/// Appends a member; before the first one, reserves capacity for all members of a request.
+/// Appends a member of an object; before the first one, reserves capacity for all of a request.
 #[inline(always)]
 pub fn push_member<'a>(
     members: &mut Vec<(&'a str, Value<'a>)>,
@@ -169,7 +169,7 @@ pub fn push_member<'a>(
     members.push((name, value)).map_err(AllocError::from)
 }
 
-// Parses the next value, in which arrays and objects nest at most `depth` deep.
+// Parses the next JSON value, in which arrays and objects nest at most `depth` deep.
 #[cycle(read)]
 #[inline(always)]
 fn read<'a>(alloc: Global, reader: &mut Reader<'a>, depth: usize) -> Result<Value<'a>, ReadStop>

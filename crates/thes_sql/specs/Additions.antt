@@ -24,13 +24,13 @@ abbrev pub schema_with : Additions → Schema
 schema_with added =
     record { tables = store_tables ++ added.tables; indexes = added.indexes; views = added.views }
 
--- The rows of the table are in another tree than those of each table of a store.
+-- The table is stored in a tree that none of the eight tables of a store has.
 abbrev pub IsApart : StoredTable → Type 0
 IsApart t = AllByRecursion (λ (own : StoredTable). own.tree ≢ t.tree) store_tables
 
 -- The schema is that of a store: it begins with the eight tables as the program makes them, and the check of a load
--- finds them declared so. After them it may have any tables, with foreign keys or without; it may have any views, and
--- any indexes that don't make columns of the eight tables a key, whether those of the program or others.
+-- finds them declared so. After them it may have any tables in trees of their own, with foreign keys or without; it may
+-- have any views, and any indexes that don't make columns of the eight tables a key.
 pub record IsStoreSchema (schema : Schema) : Type 0 where
   pub added : Additions
   pub is : schema ≡ schema_with added

@@ -16,26 +16,27 @@ use Rattle.thes_base.specs.declared.fault.Table.{Table}
 use Rattle.thes_base.specs.declared.fault.Table.TheVariants as table
 use Rattle.thes_base.specs.FaultNames.{table_name}
 
--- Whether the type of a column is that of integers.
+-- Whether the declared type of a column is that of integers.
 abbrev pub is_integer : Kind → Bool
 is_integer Integer = true
 is_integer _ = false
 
--- Whether the type of a column is that of texts.
+-- Whether the declared type of a column is that of texts.
 abbrev pub is_text : Kind → Bool
 is_text Text = true
 is_text _ = false
 
--- Whether a collation compares texts by their bytes.
+-- Whether the declared collation of a column compares texts by their bytes.
 abbrev pub is_binary : Collation → Bool
 is_binary Binary = true
 is_binary _ = false
 
--- The column has this name, takes only values of its type, and compares texts by their bytes.
+-- The column has this name, in upper or lower case, takes only values of its declared type, and compares texts by their
+-- bytes.
 abbrev pub is_strict : List ℕ → Column → Bool
 is_strict name c = same_name c.name name && (c.is_strict && is_binary c.collation)
 
--- The column has this name, and takes integers or NULL.
+-- The column has this name, and takes only integers or NULL.
 abbrev pub is_key : List ℕ → Column → Bool
 is_key name c = is_strict name c && (is_integer c.kind && not c.not_null)
 
@@ -112,27 +113,27 @@ has_columns table.Hier columns = has_three_columns (codes "a") (codes "b") (code
 has_columns table.Posting columns = has_posting_columns columns
 has_columns table.Move columns = has_move_columns columns
 
--- The first column of the table is its rowid.
+-- The first column of the table is its rowid; `at` is the position of the column that is the rowid, counted from 0.
 abbrev pub is_numbered : Option ℕ → Bool
 is_numbered (Some at) = at == 0
 is_numbered None = false
 
--- The table has no key other than its rowid.
+-- The table has no key other than its rowid; the lists are the other keys, each with the positions of its columns.
 abbrev pub has_no_key : List (List ℕ) → Bool
 has_no_key [] = true
 has_no_key _ = false
 
--- The only position is that of the second column, counted from 1.
+-- The key has only the second column, by the positions of its columns, counted from 1.
 abbrev pub is_second : List ℕ → Bool
 is_second (a ∷ []) = a == 2
 is_second _ = false
 
--- The positions are those of the first three columns, counted from 1.
+-- The key has exactly the first three columns, in order, by their positions, counted from 1.
 abbrev pub are_three : List ℕ → Bool
 are_three (a ∷ b ∷ c ∷ []) = a == 1 && (b == 2 && c == 3)
 are_three _ = false
 
--- The positions are those of the first four columns, counted from 1.
+-- The key has exactly the first four columns, in order, by their positions, counted from 1.
 abbrev pub are_four : List ℕ → Bool
 are_four (a ∷ b ∷ c ∷ d ∷ []) = a == 1 && (b == 2 && (c == 3 && d == 4))
 are_four _ = false
@@ -142,12 +143,12 @@ abbrev pub has_second_as_key : List (List ℕ) → Bool
 has_second_as_key (key ∷ []) = is_second key
 has_second_as_key _ = false
 
--- The first three columns together are the only key.
+-- The first three columns together are the only key of the table other than its rowid.
 abbrev pub has_three_as_key : List (List ℕ) → Bool
 has_three_as_key (key ∷ []) = are_three key
 has_three_as_key _ = false
 
--- The first four columns together are the only key.
+-- The first four columns together are the only key of the table other than its rowid.
 abbrev pub has_four_as_key : List (List ℕ) → Bool
 has_four_as_key (key ∷ []) = are_four key
 has_four_as_key _ = false
@@ -180,19 +181,19 @@ has_no_reference _ = false
 abbrev pub is_plain : FoundTable → Bool
 is_plain t = has_no_reference t.references && not t.is_counted
 
--- The name begins with `sqlite_`, like the names that SQLite gives to the indexes of keys.
+-- The name of the index begins with `sqlite_`, like the names that SQLite gives to the indexes of keys.
 abbrev pub is_automatic : List ℕ → Bool
 is_automatic (a ∷ b ∷ c ∷ d ∷ e ∷ f ∷ g ∷ rest) =
     a == 115 && (b == 113 && (c == 108 && (d == 105 && (e == 116 && (f == 101 && g == 95)))))
 is_automatic _ = false
 
--- The index makes columns of the table in this tree a key, as CREATE UNIQUE INDEX does.
+-- The index was made by a statement CREATE UNIQUE INDEX on the table in this tree, and so adds a key to it.
 abbrev pub adds_key : ℕ → Index → Bool
 adds_key tree index = index.table == tree && (index.is_unique && not (is_automatic index.name))
 
--- The table is declared as a store's table of this name. It has the columns and keys of that table,
--- and perhaps further columns that may be NULL. It has no foreign keys, no AUTOINCREMENT and no
--- unique indexes.
+-- The table is declared as a store's table of this name. It has the columns and keys of that table, and perhaps further
+-- columns that may be NULL. It has no foreign keys and no AUTOINCREMENT, and none of the schema's indexes adds a key to
+-- it.
 abbrev pub is_as_created : Table → List Index → FoundTable → Bool
 is_as_created name indexes t =
     has_columns name t.columns && (has_keys name t && (is_plain t && not (list_any (adds_key t.tree) indexes)))

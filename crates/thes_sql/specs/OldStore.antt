@@ -34,7 +34,7 @@ pub record HoldAs (version : ℕ) (db : Trees) (t : Tables) : Type 0 where
   pub move : HoldMoves t.move (db 10)
   pub spelled : AreSpelled t
 
--- The database is a store of version 1 with these tables, and its table link has all links.
+-- The database is a store of version 1 with these tables except hier: its table link has the links of all kinds.
 pub record KeepsOld (db : Database) (t : Tables) : Type 0 where
   pub schema : db.schema ≡ old_schema
   pub hold : HoldAs 1 db.trees t
@@ -93,10 +93,10 @@ IsStoreOfVersion version base db = HasKnownSchema db × (db.trees 0 ≡ stored_v
 abbrev pub version_row : ℕ → List ℕ → Row
 version_row version base = values (number_cell 1 ∷ number_cell version ∷ Text base ∷ [])
 
--- The query that compiles exactly when links can be read.
+-- The query that compiles exactly when the three columns of table link can be queried.
 abbrev pub links_text : List ℕ
 links_text = codes "SELECT kind, a, b FROM link"
 
--- The query that compiles exactly when there is a table hier.
+-- The query that compiles exactly when table hier can be queried.
 abbrev pub hier_text : List ℕ
 hier_text = codes "SELECT 1 FROM hier"

@@ -24,21 +24,22 @@ abbrev pub reads_rows : Statement → Bool
 reads_rows (Select s) = true
 reads_rows _ = false
 
--- What parsing a text gives is a query that doesn't read the time; an error isn't one.
+-- The result of parsing a text is a query that doesn't read the time; an error isn't one.
 abbrev pub is_query_text : Result Parsed CompileError → Bool
 is_query_text (Ok p) = reads_rows p.statement && length p.formats == 0
 is_query_text (Err e) = false
 
--- What parsing a text of this size gives has no parameters, and nothing comes after its statement; an error isn't one.
+-- The result of parsing a text of this size is a statement without parameters, after which nothing comes; an error
+-- isn't one.
 abbrev pub is_whole_text : ℕ → Result Parsed CompileError → Bool
 is_whole_text size (Ok p) = length p.names == 0 && leb size p.tail
 is_whole_text size (Err e) = false
 
--- The text is a query that doesn't read the time.
+-- The first statement of the text is a query that doesn't read the time.
 abbrev pub IsQuery : List ℕ → Type 0
 IsQuery sql = is_query_text (first sql) ≡ true
 
--- The text is a single query, without parameters.
+-- The text is a single query, without parameters, that doesn't read the time.
 abbrev pub IsWholeQuery : List ℕ → Type 0
 IsWholeQuery sql = IsQuery sql × (is_whole_text (length sql) (first sql) ≡ true)
 
@@ -76,7 +77,7 @@ FailsToFind sql old new e =
     ⊎ ((finds_nothing e ≡ false) × (IsStoreFault old new e
     ⊎ ((e ≡ SqliteFailure OperationInterrupted) × IsSome old.step_limit)))
 
--- The call returns the rows that the query finds, or fails as `FailsToFind` allows.
+-- If the disk hasn't failed silently, the call returns the rows that the query finds, or fails as `FailsToFind` allows.
 abbrev pub FindResult : {S V : Type 0} → Ghosts S → List ℕ → Held S → Held S → Result V Error → (V → List Row) → Type 0
 FindResult g sql old new r rows =
     HasCleanDisk (state g new) → IfOk r (λ out. Finds sql (state g old).now (Some (rows out)))
@@ -88,13 +89,14 @@ abbrev pub answer_of_error : Error → Result Bool Error
 answer_of_error (SqlInputError fault) = Ok false
 answer_of_error e = Err e
 
--- The call returns whether the query compiles, and fails only if the store does.
+-- If the disk hasn't failed silently, the call returns whether the query compiles, and fails only if the store has
+-- failed.
 abbrev pub CompileResult : {S : Type 0} → Ghosts S → List ℕ → Held S → Held S → Result Bool Error → Type 0
 CompileResult g sql old new r =
     HasCleanDisk (state g new) → IfOk r (λ there. there ≡ compiles (state g old).now.schema sql)
     × IfErr r (IsStoreFault (state g old) (state g new))
 
--- A successful call leaves the database and its committed state unchanged.
+-- If the disk hasn't failed silently, a successful call leaves the database and its committed state unchanged.
 abbrev pub KeepsDatabase : {S V E : Type 0} → Ghosts S → Held S → Held S → Result V E → Type 0
 KeepsDatabase g old new r =
     OnOk r (HasCleanDisk (state g new)

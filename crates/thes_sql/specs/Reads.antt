@@ -48,7 +48,8 @@ places_of table.Move = 0 ∷ 2 ∷ 3 ∷ 4 ∷ []
 abbrev pub rows_in_trees : Table → Trees → List Row
 rows_in_trees p db = map (λ (row : Row). map (column row) (places_of p)) (db (tree_of p))
 
--- The database has the schema of a store, perhaps with a user's additions, and the rows of each tree are sorted by rowid.
+-- The database has the schema of a store, perhaps with a user's additions, and the rows of each of its eight tables are
+-- sorted by rowid.
 pub record IsReadable (db : Database) : Type 0 where
   pub schema : IsStoreSchema db.schema
   pub ordered : (p : Table) → IsTable (db.trees (tree_of p))
@@ -84,37 +85,39 @@ assigned_text =
 abbrev pub assigned_numbers_text : List ℕ
 assigned_numbers_text = codes "SELECT num FROM posting WHERE at = ?1 AND withdrawn = 0 ORDER BY num"
 
--- The rows of table posting that have the key.
+-- The rows of table posting that have the key, as cells.
 abbrev pub cells_with_key : List ℕ → Tables → List (List Cell)
 cells_with_key key t = map posting_cells (filter (λ (x : PostingRow). eq_by_cmp (slice_cmp nat_cmp) x.key key)
     t.posting)
 
--- The rows of table posting that have the number.
+-- The rows of table posting that have the number, as cells.
 abbrev pub cells_with_number : ℕ → Tables → List (List Cell)
 cells_with_number n t = map posting_cells (filter (λ (x : PostingRow). x.number == n) t.posting)
 
--- The rows of the postings that are assigned to the concept.
+-- The rows of the postings that are assigned to the concept, as cells.
 abbrev pub cells_at_concept : ℕ → Tables → List (List Cell)
 cells_at_concept concept t =
     map posting_cells (filter (λ (x : PostingRow). not x.withdrawn && x.place == concept) t.posting)
 
--- The rows that have the number of a posting alone, for each posting that is assigned to the concept.
+-- For each posting that is assigned to the concept, the row of one cell that is its number.
 abbrev pub number_cells_at_concept : ℕ → Tables → List (List Cell)
 number_cells_at_concept concept t =
     map (λ (x : PostingRow). number_cell x.number ∷ []) (filter (λ x. not x.withdrawn && x.place == concept) t.posting)
 
--- The rows of table move that are moves of the posting.
+-- The rows of table move that are moves of the posting, as cells.
 abbrev pub cells_of_moves : ℕ → Tables → List (List Cell)
 cells_of_moves n t = map move_cells (filter (λ (x : MoveRow). x.posting == n) t.move)
 
--- The query returns exactly the wanted rows in order, if the database is a store with tables.
+-- If the database is a store, and its disk hasn't failed silently, a query that succeeds returns exactly the rows
+-- `wanted` of the store's tables, in order.
 abbrev pub SelectResult : {S V E : Type 0} → Ghosts S → (Tables → List (List Cell)) → Held S → Held S → Result V E
     → (V → List Row) → Type 0
 SelectResult g wanted old new r rows =
     HasCleanDisk (state g new) → IfOk r (λ out. (t : Tables) → Keeps (state g old).now t
     → rows out ≡ map values (wanted t))
 
--- A call leaves the database unchanged if nothing in it was uncommitted.
+-- A call leaves the database unchanged if nothing in it was uncommitted, it is still open, and the disk hasn't failed
+-- silently.
 pub record LeavesTables {S : Type 0} (g : Ghosts S) (old new : Held S) : Type 0 where
   pub mode : old.in_transaction ≡ false → new.in_transaction ≡ false
   pub was : HasCleanDisk (state g new) → IsTrue (state g new).is_open → IsTrue (state g old).is_open
@@ -122,8 +125,8 @@ pub record LeavesTables {S : Type 0} (g : Ghosts S) (old new : Held S) : Type 0 
   pub same : HasCleanDisk (state g new) → IsTrue (state g new).is_open → (state g old).now ≡ (state g old).committed
       → ((state g new).now ≡ (state g old).now) × ((state g new).committed ≡ (state g old).committed)
 
--- A call leaves the database unchanged if nothing in it was uncommitted, and a crash leaves only
--- what it could leave before the call.
+-- A call leaves the database unchanged as in `LeavesTables`, and a crash leaves only what it could leave before the
+-- call.
 pub record LeavesAlone {S : Type 0} (g : Ghosts S) (old new : Held S) : Type 0 where
   pub tables : LeavesTables g old new
   pub crash : Survives (state g old) (state g new) (λ _. ⊥)

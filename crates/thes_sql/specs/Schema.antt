@@ -29,7 +29,9 @@ number_column = column_of Integer true
 abbrev pub text_column : List ℕ → Column
 text_column = column_of Text true
 
--- A table without checks, foreign keys and computed columns.
+-- A table without checks, foreign keys and AUTOINCREMENT. `key` is the position, from 0, of the column that is the
+-- rowid, if one is. `primary` has the primary key, and `uniques` each key other than the rowid, as lists of positions:
+-- 0 is the rowid, and columns count from 1. `orders` has an order for each of `uniques`.
 abbrev pub plain_table : List ℕ → List Column → Option ℕ → List ℕ → List (List ℕ) → List Order → Table
 plain_table name columns key primary uniques orders = record {
   name = name;
@@ -46,11 +48,11 @@ plain_table name columns key primary uniques orders = record {
   is_counted = false;
 }
 
--- A table whose first column is the rowid.
+-- A table whose primary key is its first column, which is the rowid; `uniques` and `orders` have its other keys.
 abbrev pub numbered_table : List ℕ → List Column → List (List ℕ) → List Order → Table
 numbered_table name columns uniques orders = plain_table name columns (Some 0) (0 ∷ []) uniques orders
 
--- A table whose primary key is all its columns together.
+-- A table whose primary key is all its columns together; `places` are their positions, counted from 1.
 abbrev pub set_table : List ℕ → List Column → List ℕ → Table
 set_table name columns places = plain_table name columns None places (places ∷ []) (plain ∷ [])
 
@@ -103,7 +105,7 @@ move_table = numbered_table (codes "move")
     (key_column (codes "num") ∷ number_column (codes "posting") ∷ number_column (codes "source") ∷ number_column
     (codes "target") ∷ []) [] []
 
--- An index, not unique, of these columns of the table in this tree.
+-- An index, not unique, of the columns at these positions, counted from 1, of the table in this tree.
 abbrev pub index_of : List ℕ → ℕ → List ℕ → Index
 index_of name table columns =
     record { name = name; tree = 0; table = table; columns = columns; order = plain; is_unique = false }
@@ -116,8 +118,8 @@ posting_at = index_of (codes "posting_at") 8 (5 ∷ [])
 abbrev pub move_posting : Index
 move_posting = index_of (codes "move_posting") 10 (2 ∷ [])
 
--- The schemas after each of the ten statements that create a store, beginning with the empty schema. The name of each
--- says which table, or which index, it has last.
+-- The empty schema, before the ten statements that create a store. Those below are the schemas after each statement:
+-- `schema_up_to_label`, for example, has the tables up to label.
 abbrev pub empty_schema : Schema
 empty_schema = record { tables = []; indexes = []; views = [] }
 
@@ -142,9 +144,11 @@ schema_up_to_posting = created schema_up_to_link posting_table
 abbrev pub schema_up_to_move : Schema
 schema_up_to_move = created schema_up_to_posting move_table
 
+-- The schema of all eight tables, without the two indexes.
 abbrev pub schema_without_indexes : Schema
 schema_without_indexes = created schema_up_to_move hier_table
 
+-- The schema of all eight tables, with the first of the two indexes, that of postings by place.
 abbrev pub schema_with_posting_at : Schema
 schema_with_posting_at = indexed schema_without_indexes (record posting_table { tree = 8 }) posting_at
 

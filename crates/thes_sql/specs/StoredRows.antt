@@ -74,12 +74,14 @@ abbrev pub AreIncreasingAbove : {A : Type 0} → (A → ℕ) → ℕ → List A 
 AreIncreasingAbove num above [] = ⊤
 AreIncreasingAbove num above (x ∷ xs) = (above < num x) × AreIncreasingAbove num (num x) xs
 
--- The tree has exactly the rows of these elements, sorted by number.
+-- The tree has exactly the rows that `stored` makes of these elements, sorted by their numbers `num`, which are
+-- positive.
 pub record AreKeyed {A : Type 0} (stored : A → Row) (num : A → ℕ) (xs : List A) (tree : List Row) : Type 0 where
   pub rises : AreIncreasingAbove num 0 xs
   pub rows : tree ≡ map stored xs
 
--- The stored row of a table without numbers, under a rowid that the database chose.
+-- The stored row of an element of a table without numbers: the rowid, which the database chose, and then the values
+-- that `of` gives for the element.
 abbrev pub hidden_row : {A : Type 0} → (A → List Value) → ℕ × A → Row
 hidden_row of row = Int (pos row.0) ∷ of row.1
 
@@ -89,7 +91,7 @@ pub record AreHidden {A : Type 0} (of : A → List Value) (xs : List A) (tree : 
   pub same : map (λ (row : ℕ × A). row.1) given ≡ xs
   pub held : AreKeyed (hidden_row of) (λ (row : ℕ × A). row.0) given tree
 
--- Pairs of the elements and their numbers, from `n` on.
+-- The elements, each paired with its number, from `n` on.
 abbrev pub numbered_from : {A : Type 0} → ℕ → List A → List (ℕ × A)
 numbered_from n [] = []
 numbered_from n (x ∷ xs) = (n, x) ∷ numbered_from (n + 1) xs

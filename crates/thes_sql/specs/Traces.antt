@@ -67,13 +67,13 @@ row_of (change.AddHier row) = Some (inr (inr row))
 row_of (change.DropHier row) = Some (inr (inr row))
 row_of _ = None
 
--- The tables have the row, if it is one.
+-- The tables have the row; false for None.
 abbrev pub has_row : Option ListedRow → Tables → Bool
 has_row None t = false
 has_row (Some row) t = has_listed row t
 
--- The tables show the change: they have the row that it inserts, lack the row that it deletes, or have the mark that it
--- sets. A change of places shows nowhere.
+-- The tables show the change: they have the row that it inserts, found by its number if it has one, lack the row that
+-- it deletes, or have the mark that it sets. A change of places shows nowhere.
 abbrev pub shows_change : Change → Tables → Bool
 shows_change (change.AddResource n r) t = has_resource n t
 shows_change (change.Retire n) t = has_dead n t
@@ -91,12 +91,13 @@ shows_change (change.SetPlace n place) t = false
 shows_change (change.MoveAll source target) t = false
 shows_change (change.AddMove row) t = has_move row.number t
 
--- The query's answer has at least one row, or none.
+-- The query returns rows, and `found` is whether there is at least one.
 abbrev pub IsAnswered : List ℕ → Row → State → State → Bool → Type 0
 IsAnswered sql params old new found =
     (out : List Row) × Shown sql params old new out × (found ≡ not (length out == 0))
 
--- The call returns whether the tables of a store have something, if it returns.
+-- If the database is a store, and its disk hasn't failed silently, a call that succeeds returns whether the store's
+-- tables pass the test `trace`.
 abbrev pub ShowsTrace : {S E : Type 0} → Ghosts S → (Tables → Bool) → Held S → Held S → Result Bool E → Type 0
 ShowsTrace g trace old new r =
     HasCleanDisk (state g new) → IfOk r (λ found. (t : Tables) → Keeps (state g old).now t → found ≡ trace t)

@@ -54,14 +54,14 @@ pub record TransformsTables (From To : Tables → Database → Type 0) (old new 
   pub made : (t : Tables) → From t old.now → To t new.now
   pub inside : IsTrue new.in_transaction
 
--- The call extends the schema `from` to the schema `to`, leaves all rows unchanged, and creates the trees in `fresh`
--- empty.
+-- If the schema is `from`, the call extends it to `to`, leaves the rows of its tables unchanged, and creates the trees
+-- with the numbers `fresh`, which are empty.
 pub record ExtendsSchema (from to : Schema) (fresh : List ℕ) (old new : State) : Type 0 where
   pub made : old.now.schema ≡ from → (new.now.schema ≡ to) × KeepsRows from.tables old.now.trees new.now.trees
       × AllByRecursion (λ tree. new.now.trees tree ≡ []) fresh
   pub inside : IsTrue new.in_transaction
 
--- The statement ran, or it failed to compile.
+-- The statement without parameters ran, or it failed to compile.
 pub record RunsOrFailsToCompile (text : List ℕ) (old new : State) : Type 0 where
   pub ran : ((count : ℕ) × Executes text [] old new (Ok count))
       ⊎ ((fault : CompileError) × Executes text [] old new (Err (SqlInputError fault)))
@@ -75,7 +75,8 @@ SucceedsInside g Leads old new r =
     HasCleanDisk (state g new.now) → IsTrue (state g old.now).in_transaction
     → OnOk r (Leads (state g old.now) (state g new.now))
 
--- Inside a transaction a call commits nothing, and a crash leaves only what it could leave before the call.
+-- If the disk hasn't failed silently, a call inside a transaction commits nothing, and a crash leaves only what it
+-- could leave before the call.
 abbrev pub StaysInside : {S : Type 0} → Ghosts S → MutBor (Held S) → MutBor (Held S) → Type 0
 StaysInside g old new =
     (HasCleanDisk (state g new.now) → IsTrue (state g old.now).in_transaction
@@ -86,7 +87,7 @@ StaysInside g old new =
 pub record IsOwnTransaction {S E : Type 0} (g : Ghosts S) (old new : Held S) (r : Result Bool E) : Type 0 where
   pub busy : old.in_transaction ≡ true → (r ≡ Ok false) × (new ≡ old)
   pub begins : old.in_transaction ≡ false → IfOk r (λ done. IsTrue done)
-  -- After an error the database is unchanged.
+  -- After an error the database is unchanged, if it is still open and the disk hasn't failed silently.
   pub none : HasCleanDisk (state g new) → IsTrue (state g new).is_open → OnErr r
       (((state g new).now ≡ (state g old).now) × ((state g new).committed ≡ (state g old).committed))
   pub was : HasCleanDisk (state g new) → IsTrue (state g new).is_open → IsTrue (state g old).is_open

@@ -49,7 +49,7 @@ PRIMARY KEY (a, b, typ)) STRICT;",
     )
 }
 
-// Creates an index; ignores a statement that doesn't compile.
+// Runs a statement CREATE INDEX; succeeds also if the statement doesn't compile.
 fn try_index<S: Alter>(tx: &mut Transaction<'_, S>, sql: &str) -> Result<(), Error>
     ensures same_reference { tx.new.conn.ghost_name ≡ tx.old.conn.ghost_name }
     ensures does { SucceedsInside S.Store (RunsOrFailsToCompile sql.now)
@@ -64,7 +64,7 @@ fn try_index<S: Alter>(tx: &mut Transaction<'_, S>, sql: &str) -> Result<(), Err
 }
 
 // Creates the indexes of postings by place and of moves by posting. Skips an index whose table is
-// missing, as it may be in a faulty store of version 1.
+// missing, as in some faulty stores of version 1.
 fn define_indexes<S: Alter>(tx: &mut Transaction<'_, S>) -> Result<(), Error>
     ensures same_reference { tx.new.conn.ghost_name ≡ tx.old.conn.ghost_name }
     ensures does { SucceedsInside S.Store (ExtendsSchema schema_without_indexes store_schema [])
@@ -79,7 +79,7 @@ fn define_indexes<S: Alter>(tx: &mut Transaction<'_, S>) -> Result<(), Error>
     Ok(())
 }
 
-/// Creates table hier and the two indexes, all of which version 1 lacks.
+/// Creates table hier, and the indexes of postings and moves, all of which version 1 lacks.
 pub(crate) fn define_newer<S: Alter>(tx: &mut Transaction<'_, S>) -> Result<(), Error>
     ensures same_reference { tx.new.conn.ghost_name ≡ tx.old.conn.ghost_name }
     ensures does { SucceedsInside S.Store (Transforms (IsEmpty old_schema) (IsEmpty store_schema))
@@ -93,7 +93,8 @@ pub(crate) fn define_newer<S: Alter>(tx: &mut Transaction<'_, S>) -> Result<(), 
     Ok(())
 }
 
-// Inserts the row of table meta: key 1, version 2, and the base.
+// Inserts the row of table meta: key 1, version 2, and the base. Returns the count of inserted
+// rows.
 fn add_meta<S: Alter>(tx: &mut Transaction<'_, S>, base: &Base) -> Result<usize, Error>
     ensures same_reference { tx.new.conn.ghost_name ≡ tx.old.conn.ghost_name }
     ensures does { SucceedsInside S.Store
@@ -107,7 +108,7 @@ fn add_meta<S: Alter>(tx: &mut Transaction<'_, S>, base: &Base) -> Result<usize,
     )
 }
 
-// Creates all tables and indexes, and inserts the row of table meta.
+// Creates all tables and indexes, and inserts the row of table meta, inside the transaction.
 fn create_all<S: Alter>(tx: &mut Transaction<'_, S>, base: &Base) -> Result<(), Error>
     ensures same_reference { tx.new.conn.ghost_name ≡ tx.old.conn.ghost_name }
     ensures does { SucceedsInside S.Store

@@ -10,29 +10,29 @@ use sqlite_schema::schema::{Column, Index, Kind, Schema, Table as FoundTable};
 use sqlite_value::keys::Collation;
 use thes_base::fault::Table;
 
-// Checks whether the type of a column is that of integers.
+// Checks whether the declared type of a column is that of integers.
 fn is_integer(kind: Kind) -> bool
     ensures { result ≡ wanted.is_integer kind }
 {
     matches!(kind, Kind::Integer)
 }
 
-// Checks whether the type of a column is that of texts.
+// Checks whether the declared type of a column is that of texts.
 fn is_text(kind: Kind) -> bool
     ensures { result ≡ wanted.is_text kind }
 {
     matches!(kind, Kind::Text)
 }
 
-// Checks whether a collation compares texts by their bytes.
+// Checks whether the declared collation of a column compares texts by their bytes.
 fn is_binary(collation: Collation) -> bool
     ensures { result ≡ wanted.is_binary collation }
 {
     matches!(collation, Collation::Binary)
 }
 
-// Checks whether a column has this name, takes only values of its type, and compares texts by their
-// bytes.
+// Checks whether a column is declared with this name, in upper or lower case, takes only values of
+// its declared type, and compares texts by their bytes.
 fn is_strict(column: &Column, name: &str) -> bool
     ensures { result ≡ wanted.is_strict name.now column.now }
 {
@@ -41,42 +41,43 @@ fn is_strict(column: &Column, name: &str) -> bool
         && is_binary(column.collation)
 }
 
-// Checks whether a column has this name, and takes integers or NULL.
+// Checks whether a column is declared with this name, and takes only integers or NULL.
 fn is_key(column: &Column, name: &str) -> bool
     ensures { result ≡ wanted.is_key name.now column.now }
 {
     is_strict(column, name) && is_integer(column.kind) && !column.not_null
 }
 
-// Checks whether a column has this name, and takes only integers.
+// Checks whether a column is declared with this name, and takes only integers.
 fn is_number(column: &Column, name: &str) -> bool
     ensures { result ≡ wanted.is_number name.now column.now }
 {
     is_strict(column, name) && is_integer(column.kind) && column.not_null
 }
 
-// Checks whether a column has this name, and takes only texts.
+// Checks whether a column is declared with this name, and takes only texts.
 fn is_words(column: &Column, name: &str) -> bool
     ensures { result ≡ wanted.is_words name.now column.now }
 {
     is_strict(column, name) && is_text(column.kind) && column.not_null
 }
 
-// Checks whether one of these columns mustn't be NULL.
+// Checks whether at least one of these declared columns mustn't be NULL.
 fn need_values(columns: &[Column]) -> bool
     ensures { result ≡ list_any wanted.needs_value columns.now }
 {
     columns.iter().any(|column| column.not_null)
 }
 
-// Checks whether all of these columns may be NULL.
+// Checks whether all of these declared columns may be NULL.
 fn are_optional(columns: &[Column]) -> bool
     ensures { result ≡ wanted.are_optional columns.now }
 {
     !need_values(columns)
 }
 
-// Checks whether the columns are those of table meta, perhaps followed by columns that may be NULL.
+// Checks whether the columns are declared as those of table meta, perhaps followed by columns that
+// may be NULL.
 fn has_meta_columns(columns: &[Column]) -> bool
     ensures { result ≡ wanted.has_meta_columns columns.now }
 {
@@ -91,8 +92,8 @@ fn has_meta_columns(columns: &[Column]) -> bool
     }
 }
 
-// Checks whether the columns are those of table resource, perhaps followed by columns that may be
-// NULL.
+// Checks whether the columns are declared as those of table resource, perhaps followed by columns
+// that may be NULL.
 fn has_resource_columns(columns: &[Column]) -> bool
     ensures { result ≡ wanted.has_resource_columns columns.now }
 {
@@ -109,8 +110,8 @@ fn has_resource_columns(columns: &[Column]) -> bool
     }
 }
 
-// Checks whether the columns are those of table outside, perhaps followed by columns that may be
-// NULL.
+// Checks whether the columns are declared as those of table outside, perhaps followed by columns
+// that may be NULL.
 fn has_outside_columns(columns: &[Column]) -> bool
     ensures { result ≡ wanted.has_outside_columns columns.now }
 {
@@ -122,8 +123,8 @@ fn has_outside_columns(columns: &[Column]) -> bool
     }
 }
 
-// Checks whether the columns are those of table label, perhaps followed by columns that may be
-// NULL.
+// Checks whether the columns are declared as those of table label, perhaps followed by columns that
+// may be NULL.
 fn has_label_columns(columns: &[Column]) -> bool
     ensures { result ≡ wanted.has_label_columns columns.now }
 {
@@ -139,8 +140,8 @@ fn has_label_columns(columns: &[Column]) -> bool
     }
 }
 
-// Checks whether the columns are three columns of integers with these names, perhaps followed by
-// columns that may be NULL.
+// Checks whether the columns are declared as three columns of integers with these names, perhaps
+// followed by columns that may be NULL.
 fn has_three_columns(columns: &[Column], first: &str, second: &str, third: &str) -> bool
     ensures { result ≡ wanted.has_three_columns first.now second.now third.now columns.now }
 {
@@ -152,8 +153,8 @@ fn has_three_columns(columns: &[Column], first: &str, second: &str, third: &str)
     }
 }
 
-// Checks whether the columns are those of table posting, perhaps followed by columns that may be
-// NULL.
+// Checks whether the columns are declared as those of table posting, perhaps followed by columns
+// that may be NULL.
 fn has_posting_columns(columns: &[Column]) -> bool
     ensures { result ≡ wanted.has_posting_columns columns.now }
 {
@@ -171,7 +172,8 @@ fn has_posting_columns(columns: &[Column]) -> bool
     }
 }
 
-// Checks whether the columns are those of table move, perhaps followed by columns that may be NULL.
+// Checks whether the columns are declared as those of table move, perhaps followed by columns that
+// may be NULL.
 fn has_move_columns(columns: &[Column]) -> bool
     ensures { result ≡ wanted.has_move_columns columns.now }
 {
@@ -182,8 +184,8 @@ fn has_move_columns(columns: &[Column]) -> bool
     }
 }
 
-// Checks whether the columns are those that a store's table of this name has, perhaps followed by
-// columns that may be NULL.
+// Checks whether the columns are declared as those of a store's table of this name, perhaps
+// followed by columns that may be NULL.
 fn has_columns(name: Table, columns: &[Column]) -> bool
     ensures { result ≡ wanted.has_columns name columns.now }
 {
@@ -199,7 +201,7 @@ fn has_columns(name: Table, columns: &[Column]) -> bool
     }
 }
 
-// Checks whether the first column of a table is its rowid.
+// Checks whether a table is declared with its first column as the rowid.
 fn is_numbered(table: &FoundTable) -> bool
     ensures { result ≡ wanted.is_numbered table.now.key }
 {
@@ -209,7 +211,7 @@ fn is_numbered(table: &FoundTable) -> bool
     }
 }
 
-// Checks whether a table has no key other than its rowid.
+// Checks whether a table is declared with no key other than its rowid.
 fn has_no_key(table: &FoundTable) -> bool
     ensures { result ≡ wanted.has_no_key table.now.uniques }
 {
@@ -219,7 +221,8 @@ fn has_no_key(table: &FoundTable) -> bool
     }
 }
 
-// Checks whether the only position is that of the second column, counted from 1.
+// Checks whether a declared key has only the second column, by the positions of its columns,
+// counted from 1.
 fn is_second(places: &[usize]) -> bool
     ensures { result ≡ wanted.is_second places.now }
 {
@@ -229,7 +232,8 @@ fn is_second(places: &[usize]) -> bool
     }
 }
 
-// Checks whether the positions are those of the first three columns, counted from 1.
+// Checks whether a declared key has exactly the first three columns, in order, by their positions,
+// counted from 1.
 fn are_three(places: &[usize]) -> bool
     ensures { result ≡ wanted.are_three places.now }
 {
@@ -239,7 +243,8 @@ fn are_three(places: &[usize]) -> bool
     }
 }
 
-// Checks whether the positions are those of the first four columns, counted from 1.
+// Checks whether a declared key has exactly the first four columns, in order, by their positions,
+// counted from 1.
 fn are_four(places: &[usize]) -> bool
     ensures { result ≡ wanted.are_four places.now }
 {
@@ -249,7 +254,7 @@ fn are_four(places: &[usize]) -> bool
     }
 }
 
-// Checks whether the second column is the only key of a table other than its rowid.
+// Checks whether a table is declared with its second column as the only key other than its rowid.
 fn has_second_as_key(table: &FoundTable) -> bool
     ensures { result ≡ wanted.has_second_as_key table.now.uniques }
 {
@@ -259,7 +264,8 @@ fn has_second_as_key(table: &FoundTable) -> bool
     }
 }
 
-// Checks whether the first three columns together are the only key of a table.
+// Checks whether a table is declared with its first three columns together as the only key other
+// than its rowid.
 fn has_three_as_key(table: &FoundTable) -> bool
     ensures { result ≡ wanted.has_three_as_key table.now.uniques }
 {
@@ -269,7 +275,8 @@ fn has_three_as_key(table: &FoundTable) -> bool
     }
 }
 
-// Checks whether the first four columns together are the only key of a table.
+// Checks whether a table is declared with its first four columns together as the only key other
+// than its rowid.
 fn has_four_as_key(table: &FoundTable) -> bool
     ensures { result ≡ wanted.has_four_as_key table.now.uniques }
 {
@@ -279,7 +286,7 @@ fn has_four_as_key(table: &FoundTable) -> bool
     }
 }
 
-// Checks whether the keys of a table are those that a store's table of this name has.
+// Checks whether a table is declared with the keys of a store's table of this name.
 fn has_keys(name: Table, table: &FoundTable) -> bool
     ensures { result ≡ wanted.has_keys name table.now }
 {
@@ -291,7 +298,7 @@ fn has_keys(name: Table, table: &FoundTable) -> bool
     }
 }
 
-// Checks whether a table has neither foreign keys nor AUTOINCREMENT.
+// Checks whether a table is declared with neither foreign keys nor AUTOINCREMENT.
 fn is_plain(table: &FoundTable) -> bool
     ensures { result ≡ wanted.is_plain table.now }
 {
@@ -301,8 +308,8 @@ fn is_plain(table: &FoundTable) -> bool
     }
 }
 
-// Checks whether a name begins with `sqlite_`, like the names that SQLite gives to the indexes of
-// keys.
+// Checks whether the name of an index begins with `sqlite_`, like the names that SQLite gives to
+// the indexes of keys.
 fn is_automatic(name: &[u8]) -> bool
     ensures { result ≡ wanted.is_automatic name.now }
 {
@@ -320,22 +327,24 @@ fn is_automatic(name: &[u8]) -> bool
     }
 }
 
-// Checks whether an index makes columns of the table in this tree a key, as CREATE UNIQUE INDEX
-// does.
+// Checks whether an index was made by a statement CREATE UNIQUE INDEX on the table in this tree,
+// and so adds a key to it.
 fn adds_key(tree: u32, index: &Index) -> bool
     ensures { result ≡ wanted.adds_key tree index.now }
 {
     index.table == tree && index.is_unique && !is_automatic(index.name.as_slice())
 }
 
-// Checks whether one of the indexes makes columns of the table in this tree a key.
+// Checks whether a statement CREATE UNIQUE INDEX, which `create_tables` doesn't use, has added a
+// key to the table in this tree. `indexes` are those of the whole schema.
 fn has_added_key(tree: u32, indexes: &[Index]) -> bool
     ensures { result ≡ list_any (wanted.adds_key tree) indexes.now }
 {
     indexes.iter().any(|index| adds_key(tree, index))
 }
 
-// Checks whether a table is declared as a store's table of this name is.
+// Checks whether a table is declared as `create_tables` declares that of this name. `indexes` are
+// those of the whole schema.
 fn is_as_created(name: Table, table: &FoundTable, indexes: &[Index]) -> bool
     ensures { result ≡ wanted.is_as_created name indexes.now table.now }
 {
@@ -345,7 +354,7 @@ fn is_as_created(name: Table, table: &FoundTable, indexes: &[Index]) -> bool
         && !has_added_key(table.tree, indexes)
 }
 
-// Checks whether a schema declares a table of this name as a store does.
+// Checks whether a schema declares a table of this name as `create_tables` does.
 #[tactic(auto, unfolding(crate::specs::Declarations::declares))]
 fn is_in_schema(schema: &Schema, name: Table) -> bool
     ensures { result ≡ wanted.declares schema.now name }
@@ -359,8 +368,8 @@ fn is_in_schema(schema: &Schema, name: Table) -> bool
     }
 }
 
-/// Checks whether a database declares a table as `create_tables` does. It ignores further columns
-/// that may be NULL, and further tables, views and indexes that make no key.
+/// Checks whether a database declares a table as `create_tables` does. Ignores CHECK, DEFAULT,
+/// further columns that may be NULL, and further tables, views and indexes that make no key.
 pub fn declares<S: Alter>(conn: &Connection<S>, name: Table) -> bool
     ensures { result ≡ wanted.declares (state S.Store conn.now).now.schema name }
 {

@@ -1,4 +1,5 @@
-//! The SQL statements that create, read, change and migrate a store's tables.
+//! The SQL statements that create, read, change and migrate a store's tables, and what a database
+//! declares of these.
 #![tactic(auto)]
 
 pub mod commit;

@@ -13,7 +13,8 @@ ghost use Rattle.sqlite_trees.specs.View.{doubt};
 use crate::create::define_newer;
 use sqlite::{Alter, Connection, Error, Transaction};
 
-// Copies the links of kind broader into the empty table hier, untyped and in insertion order.
+// Copies the links of kind broader from table link into the empty table hier, untyped and in
+// insertion order. Returns the count of copied links.
 fn copy_links<S: Alter>(tx: &mut Transaction<'_, S>) -> Result<usize, Error>
     ensures same_reference { tx.new.conn.ghost_name ≡ tx.old.conn.ghost_name }
     ensures does { SucceedsInside S.Store (TransformsTables HasEmptyHier HasCopiedLinks)
@@ -26,7 +27,7 @@ fn copy_links<S: Alter>(tx: &mut Transaction<'_, S>) -> Result<usize, Error>
     )
 }
 
-// Deletes the links of kind broader from table link.
+// Deletes the links of kind broader from table link, and returns the count of deleted links.
 fn drop_copied<S: Alter>(tx: &mut Transaction<'_, S>) -> Result<usize, Error>
     ensures same_reference { tx.new.conn.ghost_name ≡ tx.old.conn.ghost_name }
     ensures does { SucceedsInside S.Store (TransformsTables HasCopiedLinks HasMovedLinks)
@@ -48,7 +49,7 @@ fn move_links<S: Alter>(tx: &mut Transaction<'_, S>) -> Result<(), Error>
     Ok(())
 }
 
-// Sets the version in table meta to 2.
+// Sets the version in table meta to 2, and returns the count of changed rows.
 fn set_version<S: Alter>(tx: &mut Transaction<'_, S>) -> Result<usize, Error>
     ensures same_reference { tx.new.conn.ghost_name ≡ tx.old.conn.ghost_name }
     ensures does { SucceedsInside S.Store (TransformsTables HasMovedLinks IsMigratedStore)
@@ -58,7 +59,7 @@ fn set_version<S: Alter>(tx: &mut Transaction<'_, S>) -> Result<usize, Error>
     tx.execute("UPDATE meta SET version = 2", &[])
 }
 
-// Performs all steps of the migration, inside the transaction.
+// Migrates the tables from version 1 to version 2, inside the transaction.
 fn migrate_all<S: Alter>(tx: &mut Transaction<'_, S>) -> Result<(), Error>
     ensures same_reference { tx.new.conn.ghost_name ≡ tx.old.conn.ghost_name }
     ensures does { SucceedsInside S.Store (TransformsTables IsOldStore IsMigratedStore)

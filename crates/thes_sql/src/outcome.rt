@@ -18,8 +18,8 @@ use thes_base::number::{MoveNo, PostNo, ResNo};
 use thes_tables::change::Change;
 use thes_tables::rows::{HierRow, LabelRow};
 
-/// Queries the database to check whether a failure has shut the connection; false after any other
-/// error.
+/// Queries the database to check whether an earlier failure has shut the connection; false if the
+/// query succeeds or fails otherwise.
 #[tactic(auto, using(crate::proofs::ReadFrameLemmas::shut_before))]
 pub fn is_shut<S: Alter>(conn: &mut Connection<S>) -> bool
     ensures leaves { LeavesTables S.Store conn.old conn.new }
@@ -46,7 +46,7 @@ fn has_row<S: Alter>(
     Ok(!conn.query_all(sql, params)?.is_empty())
 }
 
-// Checks whether there is a resource with the number.
+// Checks by a query whether there is a resource with the number.
 fn has_resource<S: Alter>(conn: &mut Connection<S>, n: ResNo) -> Result<bool, Error>
     ensures shows { ShowsTrace S.Store (traces.has_resource n) conn.old conn.new result }
     ensures leaves { LeavesTables S.Store conn.old conn.new }
@@ -58,7 +58,7 @@ fn has_resource<S: Alter>(conn: &mut Connection<S>, n: ResNo) -> Result<bool, Er
     )
 }
 
-// Checks whether the resource with the number is dead.
+// Checks by a query whether there is a dead resource with the number.
 fn has_dead<S: Alter>(conn: &mut Connection<S>, n: ResNo) -> Result<bool, Error>
     ensures shows { ShowsTrace S.Store (traces.has_dead n) conn.old conn.new result }
     ensures leaves { LeavesTables S.Store conn.old conn.new }
@@ -70,7 +70,7 @@ fn has_dead<S: Alter>(conn: &mut Connection<S>, n: ResNo) -> Result<bool, Error>
     )
 }
 
-// Checks whether there is an outside concept with the number.
+// Checks by a query whether there is an outside concept with the number.
 fn has_outside<S: Alter>(conn: &mut Connection<S>, n: ResNo) -> Result<bool, Error>
     ensures shows { ShowsTrace S.Store (traces.has_outside n) conn.old conn.new result }
     ensures leaves { LeavesTables S.Store conn.old conn.new }
@@ -82,7 +82,7 @@ fn has_outside<S: Alter>(conn: &mut Connection<S>, n: ResNo) -> Result<bool, Err
     )
 }
 
-// Checks whether table label has the row.
+// Checks by a query whether table label has the row.
 fn has_label<S: Alter>(conn: &mut Connection<S>, row: &LabelRow) -> Result<bool, Error>
     ensures shows { ShowsTrace S.Store (traces.has_listed (inl row.now)) conn.old conn.new result }
     ensures leaves { LeavesTables S.Store conn.old conn.new }
@@ -94,7 +94,7 @@ fn has_label<S: Alter>(conn: &mut Connection<S>, row: &LabelRow) -> Result<bool,
     )
 }
 
-// Checks whether table link has the row.
+// Checks by a query whether table link has the row.
 fn has_link<S: Alter>(conn: &mut Connection<S>, link: &Link) -> Result<bool, Error>
     ensures shows { ShowsTrace S.Store (traces.has_listed (inr (inl link.now))) conn.old conn.new result }
     ensures leaves { LeavesTables S.Store conn.old conn.new }
@@ -106,7 +106,7 @@ fn has_link<S: Alter>(conn: &mut Connection<S>, link: &Link) -> Result<bool, Err
     )
 }
 
-// Checks whether table hier has the row.
+// Checks by a query whether table hier has the row.
 fn has_hier<S: Alter>(conn: &mut Connection<S>, row: &HierRow) -> Result<bool, Error>
     ensures shows { ShowsTrace S.Store (traces.has_listed (inr (inr row.now))) conn.old conn.new result }
     ensures leaves { LeavesTables S.Store conn.old conn.new }
@@ -118,7 +118,7 @@ fn has_hier<S: Alter>(conn: &mut Connection<S>, row: &HierRow) -> Result<bool, E
     )
 }
 
-// Checks whether there is a posting with the number.
+// Checks by a query whether there is a posting with the number.
 fn has_posting<S: Alter>(conn: &mut Connection<S>, n: PostNo) -> Result<bool, Error>
     ensures shows { ShowsTrace S.Store (traces.has_posting n) conn.old conn.new result }
     ensures leaves { LeavesTables S.Store conn.old conn.new }
@@ -130,7 +130,7 @@ fn has_posting<S: Alter>(conn: &mut Connection<S>, n: PostNo) -> Result<bool, Er
     )
 }
 
-// Checks whether the posting with the number is withdrawn.
+// Checks by a query whether there is a withdrawn posting with the number.
 fn has_withdrawn<S: Alter>(conn: &mut Connection<S>, n: PostNo) -> Result<bool, Error>
     ensures shows { ShowsTrace S.Store (traces.has_withdrawn n) conn.old conn.new result }
     ensures leaves { LeavesTables S.Store conn.old conn.new }
@@ -142,7 +142,7 @@ fn has_withdrawn<S: Alter>(conn: &mut Connection<S>, n: PostNo) -> Result<bool, 
     )
 }
 
-// Checks whether there is a move with the number.
+// Checks by a query whether there is a move with the number.
 fn has_move<S: Alter>(conn: &mut Connection<S>, n: MoveNo) -> Result<bool, Error>
     ensures shows { ShowsTrace S.Store (traces.has_move n) conn.old conn.new result }
     ensures leaves { LeavesTables S.Store conn.old conn.new }
@@ -154,8 +154,8 @@ fn has_move<S: Alter>(conn: &mut Connection<S>, n: MoveNo) -> Result<bool, Error
     )
 }
 
-// Checks whether the table label, link or hier has the row that a change inserts or deletes there;
-// false for a change of another table.
+// Checks by a query whether table label, link or hier has the row that a change inserts or deletes
+// there; false for a change of another table.
 fn has_listed<S: Alter>(conn: &mut Connection<S>, change: &Change) -> Result<bool, Error>
     ensures shows { ShowsTrace S.Store (traces.has_row (traces.row_of change.now)) conn.old conn.new
         result }
@@ -169,9 +169,9 @@ fn has_listed<S: Alter>(conn: &mut Connection<S>, change: &Change) -> Result<boo
     }
 }
 
-/// Checks whether a database shows a change: has the row that it inserts, lacks the row that it
-/// deletes, or has the mark that it sets. Returns false for a change of places, `SetPlace` or
-/// `MoveAll`.
+/// Checks whether a database shows a change: has the row that the change inserts, found by its
+/// number if it has one, lacks the row that it deletes, or has the mark that it sets. Returns false
+/// for `SetPlace` and `MoveAll`.
 pub fn has_change<S: Alter>(conn: &mut Connection<S>, change: &Change) -> Result<bool, Error>
     ensures shows { ShowsTrace S.Store (traces.shows_change change.now) conn.old conn.new result }
     ensures leaves { LeavesTables S.Store conn.old conn.new }

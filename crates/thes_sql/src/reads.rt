@@ -8,8 +8,8 @@ use thes_base::fault::Table;
 use thes_base::number::PostNo;
 use thes_base::text::Key;
 
-/// Returns the query for all rows of a table, sorted by number or, in label, link and hier, in
-/// insertion order. Its rows can be read one at a time.
+/// Returns the query for all rows of a table, for reading them one at a time: sorted by number or,
+/// in label, link and hier, in insertion order.
 pub fn table_query(table: Table) -> &'static str
     ensures { result.now ≡ read_text table }
 {

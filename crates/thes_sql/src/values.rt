@@ -13,7 +13,8 @@ use thes_base::text::Iri;
 use thes_tables::numbers::{flag_number, resource_number, type_number};
 use thes_tables::rows::{HierRow, LabelRow, MoveRow, PostingRow};
 
-// Returns the number of a resource as an integer, None for NULL.
+// Returns the number of a resource as a parameter of a statement: None, which is bound as NULL, if
+// there is no resource.
 fn number_of(n: Option<ResNo>) -> Option<u32>
     ensures { result ≡ n }
 {
@@ -23,7 +24,8 @@ fn number_of(n: Option<ResNo>) -> Option<u32>
     }
 }
 
-// Returns the five values of a row of table resource.
+// Returns a row of table resource as the five parameters of a statement, in the order of its
+// columns.
 pub(crate) fn resource_values(n: ResNo, resource: &Resource) -> [ValueRef<'static>; 5]
     ensures { bound result ≡ values (resource_cells n resource.now) }
 {
@@ -36,7 +38,7 @@ pub(crate) fn resource_values(n: ResNo, resource: &Resource) -> [ValueRef<'stati
     ]
 }
 
-// Returns the two values of a row of table outside.
+// Returns a row of table outside as the two parameters of a statement, in the order of its columns.
 pub(crate) fn outside_values(n: ResNo, iri: &Iri) -> [ValueRef<'_>; 2]
     ensures cells { bound result ≡ values (outside_cells (n, iri.now)) }
     ensures spelled { IsUtf8 iri.now }
@@ -44,7 +46,7 @@ pub(crate) fn outside_values(n: ResNo, iri: &Iri) -> [ValueRef<'_>; 2]
     *params![n.get(), iri.as_str()]
 }
 
-// Returns the four values of a row of table label.
+// Returns a row of table label as the four parameters of a statement, in the order of its columns.
 pub(crate) fn label_values(row: &LabelRow) -> [ValueRef<'_>; 4]
     ensures cells { bound result ≡ values (label_cells row.now) }
     ensures spelled { IsSpelledLabel row.now }
@@ -57,21 +59,21 @@ pub(crate) fn label_values(row: &LabelRow) -> [ValueRef<'_>; 4]
     ]
 }
 
-// Returns the three values of a row of table link.
+// Returns a row of table link as the three parameters of a statement, in the order of its columns.
 pub(crate) fn link_values(link: &Link) -> [ValueRef<'static>; 3]
     ensures { bound result ≡ values (link_cells link.now) }
 {
     *params![link.kind.number(), link.a.get(), link.b.get()]
 }
 
-// Returns the three values of a row of table hier.
+// Returns a row of table hier as the three parameters of a statement, in the order of its columns.
 pub(crate) fn hier_values(row: &HierRow) -> [ValueRef<'static>; 3]
     ensures { bound result ≡ values (hier_cells row.now) }
 {
     *params![row.a.get(), row.b.get(), type_number(row.typ)]
 }
 
-// Returns the six values of a row of table posting.
+// Returns a row of table posting as the six parameters of a statement, in the order of its columns.
 pub(crate) fn posting_values(row: &PostingRow) -> [ValueRef<'_>; 6]
     ensures cells { bound result ≡ values (posting_cells row.now) }
     ensures spelled { IsSpelledPosting row.now }
@@ -86,7 +88,7 @@ pub(crate) fn posting_values(row: &PostingRow) -> [ValueRef<'_>; 6]
     ]
 }
 
-// Returns the four values of a row of table move.
+// Returns a row of table move as the four parameters of a statement, in the order of its columns.
 pub(crate) fn move_values(row: &MoveRow) -> [ValueRef<'static>; 4]
     ensures cells { bound result ≡ values (move_cells row.now) }
     ensures numbered { 0 < row.now.number }

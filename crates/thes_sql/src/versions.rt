@@ -8,7 +8,7 @@ ghost use Rattle.thes_sql.specs.Queries.{FindResult, CompileResult, KeepsDatabas
 
 use sqlite::{Alter, Connection, Error, Row};
 
-/// Reads the rows of table meta; a store of either version has one.
+/// Reads the rows of table meta, of which a store of either version has one.
 pub fn version_rows<S: Alter>(conn: &mut Connection<S>) -> Result<Vec<Row>, Error>
     ensures finds { FindResult S.Store (read_text table.Meta) conn.old conn.new result
         (λ rows. rows.items) }
@@ -28,7 +28,7 @@ fn answer_of(error: Error) -> Result<bool, Error>
     }
 }
 
-// Returns whether a query compiles.
+// Checks whether a query without parameters compiles.
 fn understands<S: Alter>(conn: &mut Connection<S>, sql: &str) -> Result<bool, Error>
     requires { IsWholeQuery sql.now }
     ensures reports { CompileResult S.Store sql.now conn.old conn.new result }
@@ -41,7 +41,7 @@ fn understands<S: Alter>(conn: &mut Connection<S>, sql: &str) -> Result<bool, Er
     }
 }
 
-/// Checks whether table link can be queried.
+/// Checks whether the three columns of table link can be queried.
 pub fn has_links<S: Alter>(conn: &mut Connection<S>) -> Result<bool, Error>
     ensures reports { CompileResult S.Store links_text conn.old conn.new result }
     ensures kept { KeepsDatabase S.Store conn.old conn.new result }
@@ -50,7 +50,7 @@ pub fn has_links<S: Alter>(conn: &mut Connection<S>) -> Result<bool, Error>
     understands(conn, "SELECT kind, a, b FROM link")
 }
 
-/// Checks whether the database has a table hier, which a store of version 1 lacks.
+/// Checks whether table hier, which a store of version 1 lacks, can be queried.
 pub fn has_hier<S: Alter>(conn: &mut Connection<S>) -> Result<bool, Error>
     ensures reports { CompileResult S.Store hier_text conn.old conn.new result }
     ensures kept { KeepsDatabase S.Store conn.old conn.new result }

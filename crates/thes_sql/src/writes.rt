@@ -14,7 +14,7 @@ use thes_base::text::Iri;
 use thes_tables::change::Change;
 use thes_tables::rows::{HierRow, LabelRow, MoveRow, PostingRow};
 
-// Inserts the row of a resource.
+// Inserts the row of a resource, and returns the count of inserted rows.
 fn add_resource<S: Alter>(
     tx: &mut Transaction<'_, S>,
     n: ResNo,
@@ -31,7 +31,8 @@ fn add_resource<S: Alter>(
     )
 }
 
-// Marks the resource with the number as dead, without a replacement.
+// Marks the resource with the number as dead, without a replacement, and returns the count of
+// changed rows.
 fn retire<S: Alter>(tx: &mut Transaction<'_, S>, n: ResNo) -> Result<usize, Error>
     ensures same_reference { tx.new.conn.ghost_name ≡ tx.old.conn.ghost_name }
     ensures does { SucceedsInside S.Store (AppliesChange (change.Retire n))
@@ -44,7 +45,8 @@ fn retire<S: Alter>(tx: &mut Transaction<'_, S>, n: ResNo) -> Result<usize, Erro
     )
 }
 
-// Marks the resource with the number as dead, with its replacement.
+// Marks the resource with the number as dead, with `by` as its replacement, and returns the count
+// of changed rows.
 fn replace<S: Alter>(tx: &mut Transaction<'_, S>, n: ResNo, by: ResNo) -> Result<usize, Error>
     ensures same_reference { tx.new.conn.ghost_name ≡ tx.old.conn.ghost_name }
     ensures does { SucceedsInside S.Store (AppliesChange (change.Replace n by))
@@ -57,7 +59,8 @@ fn replace<S: Alter>(tx: &mut Transaction<'_, S>, n: ResNo, by: ResNo) -> Result
     )
 }
 
-// Inserts the row of an outside concept: its number and its IRI.
+// Inserts the row of an outside concept, its number and its IRI, and returns the count of inserted
+// rows.
 fn add_outside<S: Alter>(tx: &mut Transaction<'_, S>, n: ResNo, iri: &Iri) -> Result<usize, Error>
     ensures same_reference { tx.new.conn.ghost_name ≡ tx.old.conn.ghost_name }
     ensures does { SucceedsInside S.Store (AppliesChange (change.AddOutside n iri.now))
@@ -70,7 +73,7 @@ fn add_outside<S: Alter>(tx: &mut Transaction<'_, S>, n: ResNo, iri: &Iri) -> Re
     )
 }
 
-// Inserts the row of a label.
+// Inserts the row of a label, and returns the count of inserted rows.
 fn add_label<S: Alter>(tx: &mut Transaction<'_, S>, row: &LabelRow) -> Result<usize, Error>
     ensures same_reference { tx.new.conn.ghost_name ≡ tx.old.conn.ghost_name }
     ensures does { SucceedsInside S.Store (AppliesChange (change.AddLabel row.now))
@@ -83,7 +86,7 @@ fn add_label<S: Alter>(tx: &mut Transaction<'_, S>, row: &LabelRow) -> Result<us
     )
 }
 
-// Deletes the row of a label.
+// Deletes the row of a label, and returns the count of deleted rows.
 fn drop_label<S: Alter>(tx: &mut Transaction<'_, S>, row: &LabelRow) -> Result<usize, Error>
     ensures same_reference { tx.new.conn.ghost_name ≡ tx.old.conn.ghost_name }
     ensures does { SucceedsInside S.Store (AppliesChange (change.DropLabel row.now))
@@ -96,7 +99,7 @@ fn drop_label<S: Alter>(tx: &mut Transaction<'_, S>, row: &LabelRow) -> Result<u
     )
 }
 
-// Inserts the row of a link that isn't hierarchical.
+// Inserts the row of a link that isn't hierarchical, and returns the count of inserted rows.
 fn add_link<S: Alter>(tx: &mut Transaction<'_, S>, link: &Link) -> Result<usize, Error>
     ensures same_reference { tx.new.conn.ghost_name ≡ tx.old.conn.ghost_name }
     ensures does { SucceedsInside S.Store (AppliesChange (change.AddLink link.now))
@@ -109,7 +112,7 @@ fn add_link<S: Alter>(tx: &mut Transaction<'_, S>, link: &Link) -> Result<usize,
     )
 }
 
-// Deletes the row of a link that isn't hierarchical.
+// Deletes the row of a link that isn't hierarchical, and returns the count of deleted rows.
 fn drop_link<S: Alter>(tx: &mut Transaction<'_, S>, link: &Link) -> Result<usize, Error>
     ensures same_reference { tx.new.conn.ghost_name ≡ tx.old.conn.ghost_name }
     ensures does { SucceedsInside S.Store (AppliesChange (change.DropLink link.now))
@@ -122,7 +125,7 @@ fn drop_link<S: Alter>(tx: &mut Transaction<'_, S>, link: &Link) -> Result<usize
     )
 }
 
-// Inserts the row of a hierarchical link.
+// Inserts the row of a hierarchical link, and returns the count of inserted rows.
 fn add_hier<S: Alter>(tx: &mut Transaction<'_, S>, row: &HierRow) -> Result<usize, Error>
     ensures same_reference { tx.new.conn.ghost_name ≡ tx.old.conn.ghost_name }
     ensures does { SucceedsInside S.Store (AppliesChange (change.AddHier row.now))
@@ -135,7 +138,7 @@ fn add_hier<S: Alter>(tx: &mut Transaction<'_, S>, row: &HierRow) -> Result<usiz
     )
 }
 
-// Deletes the row of a hierarchical link.
+// Deletes the row of a hierarchical link, and returns the count of deleted rows.
 fn drop_hier<S: Alter>(tx: &mut Transaction<'_, S>, row: &HierRow) -> Result<usize, Error>
     ensures same_reference { tx.new.conn.ghost_name ≡ tx.old.conn.ghost_name }
     ensures does { SucceedsInside S.Store (AppliesChange (change.DropHier row.now))
@@ -148,7 +151,7 @@ fn drop_hier<S: Alter>(tx: &mut Transaction<'_, S>, row: &HierRow) -> Result<usi
     )
 }
 
-// Inserts the row of a posting.
+// Inserts the row of a posting, and returns the count of inserted rows.
 fn add_posting<S: Alter>(tx: &mut Transaction<'_, S>, row: &PostingRow) -> Result<usize, Error>
     ensures same_reference { tx.new.conn.ghost_name ≡ tx.old.conn.ghost_name }
     ensures does { SucceedsInside S.Store (AppliesChange (change.AddPosting row.now))
@@ -161,7 +164,7 @@ fn add_posting<S: Alter>(tx: &mut Transaction<'_, S>, row: &PostingRow) -> Resul
     )
 }
 
-// Marks the posting with the number as withdrawn.
+// Marks the posting with the number as withdrawn, and returns the count of changed rows.
 fn withdraw<S: Alter>(tx: &mut Transaction<'_, S>, n: PostNo) -> Result<usize, Error>
     ensures same_reference { tx.new.conn.ghost_name ≡ tx.old.conn.ghost_name }
     ensures does { SucceedsInside S.Store (AppliesChange (change.Withdraw n))
@@ -174,7 +177,8 @@ fn withdraw<S: Alter>(tx: &mut Transaction<'_, S>, n: PostNo) -> Result<usize, E
     )
 }
 
-// Sets the place of the posting with the number: the concept to which it is assigned.
+// Sets the place of the posting with the number, withdrawn or not, and returns the count of changed
+// rows.
 fn set_place<S: Alter>(tx: &mut Transaction<'_, S>, n: PostNo, place: ResNo) -> Result<usize, Error>
     ensures same_reference { tx.new.conn.ghost_name ≡ tx.old.conn.ghost_name }
     ensures does { SucceedsInside S.Store (AppliesChange (change.SetPlace n place))
@@ -187,7 +191,8 @@ fn set_place<S: Alter>(tx: &mut Transaction<'_, S>, n: PostNo, place: ResNo) -> 
     )
 }
 
-// Assigns each posting that is assigned to the source, and isn't withdrawn, to the target.
+// Assigns each posting that is assigned to the source, and isn't withdrawn, to the target. Returns
+// the count of changed rows.
 fn move_all<S: Alter>(
     tx: &mut Transaction<'_, S>,
     source: ResNo,
@@ -204,7 +209,7 @@ fn move_all<S: Alter>(
     )
 }
 
-// Inserts the row of a move.
+// Inserts the row of a move, and returns the count of inserted rows.
 fn add_move<S: Alter>(tx: &mut Transaction<'_, S>, row: &MoveRow) -> Result<usize, Error>
     ensures same_reference { tx.new.conn.ghost_name ≡ tx.old.conn.ghost_name }
     ensures does { SucceedsInside S.Store (AppliesChange (change.AddMove row.now))

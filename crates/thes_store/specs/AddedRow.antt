@@ -51,6 +51,6 @@ abbrev pub added_move : Change → Option MoveRow
 added_move (change.AddMove row) = Some row
 added_move _ = None
 
--- The rows of one table that changes insert, in the order of the changes.
+-- The rows of one table that changes insert, in the order of the changes; `added_row` gives that of one change.
 abbrev pub rows_added_by : {A : Type 0} → (Change → Option A) → List Change → List A
 rows_added_by added_row changes = filter_map added_row changes

@@ -7,7 +7,7 @@ use Rattle.thes_tables.specs.Cells.{Raw, RawTable}
 use Rattle.thes_tables.specs.TableOrder.{raw_rows_of, table_order}
 
 module _ {S A : Type 0} (gives : S → A → Result (Unit {0}) Fault → S → Type 0) where
-  -- The sink accepts all items of the list, in order.
+  -- The sink accepts all items of the list, in order; `gives` says how it consumes one.
   abbrev pub SinkAcceptsAll : S → List A → S → Type 0
   SinkAcceptsAll old [] new = new ≡ old
   SinkAcceptsAll old (x ∷ xs) new = (mid : S) × gives old x (Ok tt) mid × SinkAcceptsAll mid xs new

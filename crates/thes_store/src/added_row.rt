@@ -10,7 +10,7 @@ use thes_base::data::{Link, Resource};
 use thes_tables::change::Change;
 use thes_tables::rows::{HierRow, MoveRow, OutsideRow, PostingRow};
 
-/// A row of one table, which some kind of change inserts.
+/// A row of one table, which one kind of change inserts.
 pub trait AddedRow {
     // The row that the change inserts into this table, if any.
     ghost added_row: { Change → Option Self };
@@ -20,6 +20,7 @@ pub trait AddedRow {
         ensures { result ≡ is_some (added_row change.now) };
 }
 
+/// Only `AddResource` inserts a row of table resource.
 impl AddedRow for Resource {
     ghost use Rattle.thes_store.specs.AddedRow.{added_resource};
 
@@ -30,6 +31,7 @@ impl AddedRow for Resource {
     }
 }
 
+/// Only `AddOutside` inserts a row of table outside.
 impl AddedRow for OutsideRow {
     ghost use Rattle.thes_store.specs.AddedRow.{added_outside};
 
@@ -40,6 +42,7 @@ impl AddedRow for OutsideRow {
     }
 }
 
+/// Only `AddLabel` inserts a row of table label.
 impl AddedRow for PackedLabel {
     ghost use Rattle.thes_store.specs.AddedRow.{added_label};
 
@@ -50,6 +53,7 @@ impl AddedRow for PackedLabel {
     }
 }
 
+/// Only `AddLink` inserts a row of table link.
 impl AddedRow for Link {
     ghost use Rattle.thes_store.specs.AddedRow.{inserted_link};
 
@@ -60,6 +64,7 @@ impl AddedRow for Link {
     }
 }
 
+/// Only `AddHier` inserts a row of table hier.
 impl AddedRow for HierRow {
     ghost use Rattle.thes_store.specs.AddedRow.{added_hier};
 
@@ -70,6 +75,7 @@ impl AddedRow for HierRow {
     }
 }
 
+/// Only `AddPosting` inserts a row of table posting.
 impl AddedRow for PostingRow {
     ghost use Rattle.thes_store.specs.AddedRow.{added_posting};
 
@@ -80,6 +86,7 @@ impl AddedRow for PostingRow {
     }
 }
 
+/// Only `AddMove` inserts a row of table move.
 impl AddedRow for MoveRow {
     ghost use Rattle.thes_store.specs.AddedRow.{added_move};
 
@@ -90,7 +97,7 @@ impl AddedRow for MoveRow {
     }
 }
 
-/// Returns the number of rows that the changes insert into this table.
+/// Returns the number of rows that the changes insert into the table of `T`.
 pub fn count_added<T: AddedRow>(changes: &[Change]) -> usize
     ensures { result ≡ length (rows_added_by T.added_row changes.now) }
 {

@@ -43,7 +43,7 @@ pub trait Keeper {
     // A load may find these rows in the tables, whatever they have.
     ghost finds: { Self → Raw → Type 0 };
 
-    /// Returns the number of failures but running out of memory; the number saturates.
+    /// Returns the number of failures other than running out of memory; it saturates.
     fn failures(&self) -> u64
         ensures { result ≡ (view self.now).failures };
 

@@ -14,7 +14,7 @@ use thes_base::text::Key;
 
 /// For each key, a position at which its posting may be. A look-up checks the row at a position, so
 /// further positions do no harm. A key is entered under its digest, since comparing texts costs
-/// cache misses, or under its text if another key has that digest.
+/// cache misses, or under its text if that digest is taken.
 #[derive(Drop)]
 pub struct Keys {
     numbers: HashMap<u64, usize>,
@@ -30,7 +30,7 @@ impl Keys {
         }
     }
 
-    /// Inserts a position under a key, by its digest if that is free, or else by its text.
+    /// Inserts a position under the digest of a key, if that is free, or else under the key's text.
     pub fn insert(&mut self, alloc: Global, key: &Key, position: usize) -> Result<(), AllocError>
         ensures keeps { KeepsOtherKeys key.now self.old self.new }
         ensures ok { OnOk result (KeyHasPosition self.new key.now position) }
@@ -48,7 +48,7 @@ impl Keys {
         self.numbers.get(&digest_of(key)).copied()
     }
 
-    /// Returns the position under the key's text, if another key has its digest.
+    /// Returns the position under the key's text; there is one only if the digest was taken.
     pub fn position_by_text(&self, key: &Key) -> Option<usize>
         ensures { result ≡ tree.get (slice_cmp nat_cmp) self.now.rest key.now }
     {
@@ -56,7 +56,8 @@ impl Keys {
     }
 }
 
-// Inserts a position under the digest if it has none yet, and returns whether it was inserted.
+// Inserts the position of a posting under the digest `number` of its key, if there is none yet, and
+// returns whether there was none.
 fn insert_digest(
     numbers: &mut HashMap<u64, usize>,
     number: u64,

@@ -11,7 +11,8 @@ use thes_base::data::{Link, LinkKind};
 use thes_tables::change::Change;
 use thes_tables::rows::HierRow;
 
-// Returns the end under which a link is indexed: the member of a membership, or else the first end.
+// Returns the number of the end under which a link is indexed: the member of a membership, or else
+// the first end.
 fn indexed_end_of(link: &Link) -> u32
     ensures { result ≡ indexed_end_of link.now }
 {
@@ -21,6 +22,7 @@ fn indexed_end_of(link: &Link) -> u32
     }
 }
 
+/// A label is indexed under its owner.
 impl IndexedRow for PackedLabel {
     ghost use Rattle.thes_store.specs.Numbers.{owner_of, is_same_label};
     ghost use Rattle.thes_store.specs.SameRows.{owners_agree};
@@ -47,6 +49,7 @@ impl IndexedRow for PackedLabel {
     }
 }
 
+/// A membership is indexed under its member, another link under its first end.
 impl IndexedRow for Link {
     ghost use Rattle.thes_store.specs.Numbers.{is_same_link};
     ghost use Rattle.thes_store.specs.SameRows.{ends_agree};
@@ -73,6 +76,7 @@ impl IndexedRow for Link {
     }
 }
 
+/// A hierarchical link is indexed under its narrower concept.
 impl IndexedRow for HierRow {
     ghost use Rattle.thes_store.specs.Numbers.{narrower_end_of, is_same_hier};
     ghost use Rattle.thes_store.specs.SameRows.{narrower_agree};

@@ -218,6 +218,7 @@ fn yield_postings<S: PostingSink>(
     Ok(())
 }
 
+/// Storage in memory is always up, and counts no failures.
 impl Keeper for MemKeeper {
     ghost use Rattle.std.specs.Prelude.{◌≡◌};
     ghost use Rattle.thes_tables.specs.Cells.{cells_of_tables};
@@ -240,7 +241,8 @@ impl Keeper for MemKeeper {
     fn commit(&mut self, delta: Delta) -> Result<(), Fault> {
         let changes = delta.into_changes();
         let given = changes.as_slice();
-        // Before any row changes: what follows can't fail (DECISIONS.md, Storage).
+        // All memory is allocated before any row changes, so that the changes can't fail
+        // (DECISIONS.md, Storage).
         self.tables.make_room(given)?;
         let moves = self.tables.steps.len();
         cover_all(&mut self.indexes, self.alloc, given, moves)?;

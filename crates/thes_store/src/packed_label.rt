@@ -11,12 +11,13 @@ use thes_base::number::ResNo;
 use thes_tables::change::Change;
 use thes_tables::rows::LabelRow;
 
-/// A row of table label. A block for each text would take more than the texts, which are short.
+/// A row of table label, with its tag and its text in one block: they are short, and two blocks
+/// would take more memory than the texts.
 #[derive(Drop)]
 pub struct PackedLabel {
     owner: ResNo,
     kind: LabelKind,
-    // The length of the tag.
+    // The length of the tag in bytes.
     tag_len: u8,
     // The tag, followed by the text.
     bytes: String,
@@ -41,7 +42,7 @@ impl Model for PackedLabel {
 }
 
 impl PackedLabel {
-    /// Allocates a copy of a row; fails only if memory runs out.
+    /// Copies a row of table label, with its tag and its text into one block.
     pub fn pack(alloc: Global, row: &LabelRow) -> Result<PackedLabel, AllocError>
         ensures { IfOk result (λ packed. packed ≡ row.now) }
     {
@@ -95,7 +96,7 @@ impl PackedLabel {
     }
 }
 
-// Returns the two texts as one, in a block of exactly their length.
+// Returns the tag of a label followed by its text, in a block of exactly their length.
 fn concatenation(alloc: Global, first: &str, second: &str) -> Result<String, AllocError>
     requires { length first.now ≤ 35 }
     ensures { IfOk result (λ bytes. string_bytes bytes ≡ first.now ++ second.now) }

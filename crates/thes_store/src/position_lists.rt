@@ -29,7 +29,7 @@ impl Model for RowPositions {
 }
 
 impl RowPositions {
-    // Appends a position.
+    // Appends the position of a row, even if the list has it already.
     fn push(&mut self, position: usize) -> Result<(), AllocError>
         ensures keeps { (q : ℕ) → has_position q self.old ≡ true → has_position q self.new ≡ true }
         ensures ok { OnOk result (has_position position self.new ≡ true) }
@@ -37,7 +37,7 @@ impl RowPositions {
         append(&mut self.positions, position)
     }
 
-    // Removes a position, if it is there.
+    // Removes the position of a row, as often as the list has it.
     fn remove(&mut self, position: usize)
         ensures keeps { (q : ℕ) → q ≢ position → has_position q self.old ≡ true
             → has_position q self.new ≡ true }
@@ -46,7 +46,7 @@ impl RowPositions {
         self.positions.retain(|q| *q != position);
     }
 
-    // Returns the positions.
+    // Returns the positions of the rows, in the order in which they were inserted.
     fn as_slice(&self) -> &[usize]
         ensures { result.now ≡ self.now }
     {
@@ -72,7 +72,7 @@ impl PositionLists {
         self.insert_in(n, position)
     }
 
-    // Adds empty lists until the number has one; does nothing if it has one already.
+    // Adds empty lists of positions until the number has one; does nothing if it has one already.
     fn open(&mut self, n: u32) -> Result<(), AllocError>
         ensures keeps { KeepsListedPositions self.old self.new }
         ensures list { OnOk result (HasPositionList self.new n) }
@@ -85,7 +85,7 @@ impl PositionLists {
         Ok(())
     }
 
-    // Inserts a position into the list of a number that has one.
+    // Appends the position of a row to the list of a number that has a list.
     fn insert_in(&mut self, n: u32, position: usize) -> Result<(), AllocError>
         requires { HasPositionList self.old n }
         ensures keeps { KeepsListedPositions self.old self.new }
@@ -118,8 +118,8 @@ impl PositionLists {
     }
 }
 
-// Appends a position. A full list grows by three positions and a quarter: the allocator has no
-// block for fewer than three.
+// Appends the position of a row to a list of positions. A full list of n positions gets room for 3
+// + n / 4 more: the allocator has no block for fewer than three.
 fn append(positions: &mut Vec<usize>, position: usize) -> Result<(), AllocError>
     ensures ok { OnOk result (positions.new.items ≡ positions.old.items ++ position ∷ []) }
     ensures err { OnErr result (positions.new.items ≡ positions.old.items) }

@@ -36,7 +36,7 @@ impl PositionSets {
         self.insert_in(n, position)
     }
 
-    // Adds empty sets until the number has one; does nothing if it has one already.
+    // Adds empty sets of positions until the number has one; does nothing if it has one already.
     fn open(&mut self, n: u32) -> Result<(), AllocError>
         ensures keeps { KeepsPositions self.old self.new }
         ensures set { OnOk result (HasSet self.new n) }
@@ -47,7 +47,7 @@ impl PositionSets {
         Ok(())
     }
 
-    // Inserts a position into the set of a number that has one.
+    // Inserts the position of a row into the set of a number that has a set.
     fn insert_in(&mut self, n: u32, position: usize) -> Result<(), AllocError>
         requires { HasSet self.old n }
         ensures keeps { KeepsPositions self.old self.new }
@@ -92,7 +92,7 @@ impl PositionSets {
     }
 }
 
-// Returns the elements of a set in ascending order, as a list.
+// Returns the positions of rows in a set as a list, in ascending order.
 fn collect_positions(alloc: Global, set: &BTreeSet<usize>) -> Result<Vec<usize>, AllocError>
     ensures positions { IfOk result (λ positions. positions.items ≡ set.now.keys) }
     ensures rises { IsStrictlySortedBy nat_cmp set.now.keys }

@@ -29,8 +29,8 @@ impl PostingIndexes {
     }
 
     /// Inserts the positions of the posting or move that a change will insert, and of the postings
-    /// that it will assign to another concept. A move that it inserts will have position `step`.
-    /// Returns the position of the next move.
+    /// that the change will assign to another concept. A move that it inserts will have position
+    /// `step`. Returns the position of the next move.
     pub fn cover(
         &mut self,
         alloc: Global,

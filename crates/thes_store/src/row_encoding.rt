@@ -27,6 +27,7 @@ use thes_tables::rows::{HierRow, MoveRow, OutsideRow, PostingRow};
 
 /// A row that can be encoded as cells.
 pub trait AsCells {
+    // The cells of the row, in the order of the columns of its table.
     ghost cells_of: { Self → List Cell };
 
     /// Encodes the row as cells, and passes them to a sink as a row of the table `name`.
@@ -69,6 +70,7 @@ fn yield_row<S: RowSink>(name: Table, row: &[Cell], sink: &mut S) -> Result<(), 
     sink.row(name, row)
 }
 
+/// Encodes the number and the IRI.
 impl AsCells for OutsideRow {
     ghost use Rattle.thes_tables.specs.Cells.{outside_cells};
 
@@ -80,6 +82,7 @@ impl AsCells for OutsideRow {
     }
 }
 
+/// Encodes the owner, the kind, the tag and the text.
 impl AsCells for PackedLabel {
     ghost use Rattle.thes_tables.specs.Cells.{label_cells};
 
@@ -97,6 +100,7 @@ impl AsCells for PackedLabel {
     }
 }
 
+/// Encodes the kind and the two ends.
 impl AsCells for Link {
     ghost use Rattle.thes_tables.specs.Cells.{link_cells};
 
@@ -112,6 +116,7 @@ impl AsCells for Link {
     }
 }
 
+/// Encodes the narrower concept, the broader one and the type.
 impl AsCells for HierRow {
     ghost use Rattle.thes_tables.specs.Cells.{hier_cells};
 
@@ -127,6 +132,8 @@ impl AsCells for HierRow {
     }
 }
 
+/// Encodes the number, the key, the record, the first concept, the place, and 1 if the posting is
+/// withdrawn or else 0.
 impl AsCells for PostingRow {
     ghost use Rattle.thes_tables.specs.Cells.{posting_cells};
 
@@ -143,6 +150,7 @@ impl AsCells for PostingRow {
     }
 }
 
+/// Encodes the number, the posting, the source and the target.
 impl AsCells for MoveRow {
     ghost use Rattle.thes_tables.specs.Cells.{move_cells};
 
@@ -216,7 +224,7 @@ fn yield_slot<R: AsCells, S: RowSink>(
     }
 }
 
-/// Passes the only row of table meta to a sink: the version of the schema and the base.
+/// Passes the only row of table meta to a sink: key 1, version 2 and the base.
 pub fn yield_meta<S: RowSink>(alloc: Global, base: &Base, sink: &mut S) -> Result<(), Fault>
     ensures yields { SinkOutcome S.gives sink.old
         (sink_rows_of_table table.Meta (Some (meta_cells base.now ∷ [])))

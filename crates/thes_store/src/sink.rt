@@ -21,7 +21,7 @@ pub trait RowSink {
         ensures gives { gives self.old (table, Some row.now) result self.new }
         ensures err { IfErr result (λ fault. fault ≡ Fault.OutOfMemory) };
 
-    /// Records, in place of a table's rows, that it can't be queried or isn't declared as in a
+    /// Records, in place of its rows, that a table can't be queried or isn't declared as in a
     /// store.
     fn report_unqueried(&mut self, table: Table) -> Result<(), Fault>
         ensures gives { gives self.old (table, None) result self.new }

@@ -76,7 +76,7 @@ impl<T: IndexedRow + Drop> Slots<T> {
         self.expect(changes)
     }
 
-    // Indexes the positions that the rows of the changes will get.
+    // Indexes the positions that the rows which the changes insert will get.
     fn expect(&mut self, changes: &[Change]) -> Result<(), AllocError>
         requires { vec_len self.old.rows + length changes.now < 2 ^ 64 }
         ensures keeps { GrowsIndex self.old self.new }
@@ -141,7 +141,7 @@ impl<T: IndexedRow + Drop> Slots<T> {
         None
     }
 
-    // Checks whether the row at a position is equal to this one; a gap isn't.
+    // Checks whether the row at a position is equal to this one; false for a gap and past the end.
     fn has(&self, position: usize, row: &T) -> bool
         ensures { result ≡ is_same_row T.same (slice_get self.now.rows.items position) row.now }
     {

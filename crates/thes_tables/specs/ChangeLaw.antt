@@ -1,5 +1,5 @@
--- The law of row changes: the changes of an accepted request turn the rows of the state before it into those of the
--- next state.
+-- The law of row changes: the changes of a request that a legal state accepts turn the rows of that state into those of
+-- the next state.
 use Rattle.std.specs.Prelude.{List, ℕ, None}
 use Rattle.thes_base.specs.declared.request.Command.{Command}
 use Rattle.thes_base.specs.State.{State}

@@ -14,7 +14,7 @@ use Rattle.thes_tables.specs.declared.change.Change.{Change}
 use Rattle.thes_tables.specs.declared.change.Change.TheVariants as change
 use Rattle.thes_tables.specs.Tables.{Tables, IsIn, hier_link}
 
--- The rows after `f` is applied to the row numbered `n`; unchanged if there is none.
+-- The rows of table posting after `f` is applied to that of posting `n`; unchanged if there is none.
 abbrev pub with_posting : (PostingRow → PostingRow) → ℕ → List PostingRow → List PostingRow
 with_posting f n rows = elim (entry_at rows n) [ None ↦ rows | Some row ↦ set_entry_at rows n (f row) ]
 
@@ -31,7 +31,7 @@ row_at_place place row = record row { place = place }
 abbrev pub row_after_move_all : ℕ → ℕ → PostingRow → PostingRow
 row_after_move_all source target row = if not row.withdrawn && row.place == source then row_at_place target row else row
 
--- The rows without those equal to `row`.
+-- The rows of a table without those equal to `row` in the order `cmp`.
 abbrev pub without_row : {K : Type 0} → (K → K → Ordering) → K → List K → List K
 without_row cmp row rows = filter (λ x. not (eq_by_cmp cmp x row)) rows
 

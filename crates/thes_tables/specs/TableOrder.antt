@@ -4,13 +4,13 @@ use Rattle.thes_base.specs.declared.fault.Table.{Table}
 use Rattle.thes_base.specs.declared.fault.Table.TheVariants as table
 use Rattle.thes_tables.specs.Cells.{Raw, RawTable}
 
--- The eight tables in their order.
+-- The eight tables in the order of a load.
 abbrev pub table_order : List Table
 table_order =
     table.Meta ∷ table.Resource ∷ table.Outside ∷ table.Label ∷ table.Link ∷ table.Hier ∷ table.Posting ∷ table.Move
     ∷ []
 
--- The index of a table in this order.
+-- The index of a table in the order of a load, from 0.
 abbrev pub table_no : Table → ℕ
 table_no table.Meta = 0
 table_no table.Resource = 1
@@ -21,7 +21,7 @@ table_no table.Hier = 5
 table_no table.Posting = 6
 table_no table.Move = 7
 
--- The table after this one; the last is its own successor.
+-- The table after this one in the order of a load; the last is its own successor.
 abbrev pub next_table : Table → Table
 next_table table.Meta = table.Resource
 next_table table.Resource = table.Outside
@@ -32,7 +32,7 @@ next_table table.Hier = table.Posting
 next_table table.Posting = table.Move
 next_table table.Move = table.Move
 
--- The rows of the table with this name.
+-- The rows of cells of one table.
 abbrev pub raw_rows_of : Table → Raw → RawTable
 raw_rows_of table.Meta raw = raw.meta
 raw_rows_of table.Resource raw = raw.resource
@@ -43,7 +43,7 @@ raw_rows_of table.Hier raw = raw.hier
 raw_rows_of table.Posting raw = raw.posting
 raw_rows_of table.Move raw = raw.move
 
--- The rows of all tables, with those of one table replaced.
+-- The rows of cells of all tables after those of one table are replaced by `rows`.
 abbrev pub with_rows : Table → RawTable → Raw → Raw
 with_rows table.Meta rows raw = record raw { meta = rows }
 with_rows table.Resource rows raw = record raw { resource = rows }
@@ -54,7 +54,7 @@ with_rows table.Hier rows raw = record raw { hier = rows }
 with_rows table.Posting rows raw = record raw { posting = rows }
 with_rows table.Move rows raw = record raw { move = rows }
 
--- The rows of all tables, each given by its name.
+-- The rows of cells of all tables, where `rows_of` gives those of each.
 abbrev pub raw_by_table : (Table → RawTable) → Raw
 raw_by_table rows_of =
     record {

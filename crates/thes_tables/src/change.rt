@@ -6,8 +6,8 @@ use thes_base::data::{Link, Resource};
 use thes_base::number::{PostNo, ResNo};
 use thes_base::text::Iri;
 
-/// A change of one row of a table, except `MoveAll`: it changes the rows of all postings assigned
-/// to a concept.
+/// A change of one row of a table; but `MoveAll` changes the rows of all postings assigned to a
+/// concept.
 #[derive(Debug, Drop)]
 pub enum Change {
     /// Inserts the row of a resource; the resource has the next number.
@@ -43,8 +43,8 @@ pub enum Change {
     AddMove(MoveRow),
 }
 
-/// No effect; states for the proof that the changes of an accepted request turn the rows of the
-/// state before it into those of the next state.
+/// No effect; states for the proof that the changes of a request that a legal state accepts turn
+/// that state's rows into those of the next.
 pub fn changes_lead()
     ensures { ChangesLead }
 {}

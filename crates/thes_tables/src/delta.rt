@@ -21,7 +21,7 @@ impl Model for Delta {
 }
 
 impl Delta {
-    /// Creates an empty list without allocating.
+    /// Creates an empty list of changes, without allocating.
     pub fn new(alloc: Global) -> Delta
         ensures { result ≡ [] }
     {
@@ -45,7 +45,8 @@ impl Delta {
         changes
     }
 
-    /// Appends a change; if memory runs out, the list is unchanged and the change is dropped.
+    /// Appends a change of a row; if memory runs out, the list is unchanged and the change is
+    /// dropped.
     pub fn push(&mut self, change: Change) -> Result<(), AllocError>
         ensures ok { OnOk result (self.new ≡ self.old ++ change ∷ []) }
         ensures err { OnErr result (self.new ≡ self.old) }

@@ -5,7 +5,7 @@ ghost use Rattle.thes_tables.specs.Cells.{resource_kind_no, hier_type_no};
 use crate::rows::HierType;
 use thes_base::data::ResourceKind;
 
-/// Returns the number that encodes a flag: 1 if it is set, and 0 otherwise.
+/// Returns the number that encodes a flag in a cell: 1 if the flag is set, and 0 otherwise.
 pub fn flag_number(is_set: bool) -> u32
     ensures { result ≡ cond is_set 1 0 }
 {

@@ -4,7 +4,7 @@ ghost use Rattle.thes_tables.specs.TableOrder as order;
 
 use thes_base::fault::Table;
 
-/// Returns the eight tables in their order.
+/// Returns the eight tables in the order in which a load reads them.
 pub fn tables_in_order() -> [Table; 8]
     ensures { result ≡ order.table_order }
 {
@@ -20,7 +20,7 @@ pub fn tables_in_order() -> [Table; 8]
     ]
 }
 
-/// Returns the table after this one. The last table is its own successor.
+/// Returns the table that a load reads after this one. The last table is its own successor.
 pub fn next_table(table: Table) -> Table
     ensures { result ≡ order.next_table table }
 {
@@ -35,7 +35,7 @@ pub fn next_table(table: Table) -> Table
     }
 }
 
-/// Returns the index of a table in the order, from 0.
+/// Returns the index of a table in the order of a load, from 0.
 pub fn table_number(table: Table) -> u32
     ensures { result ≡ order.table_no table }
 {

@@ -59,12 +59,12 @@ pub record RowsAfterInsertions (old new : LabelRows) (owner : ℕ) (inserted : L
   pub own : (l : LabelData) → has_own (owner_row new owner) l ≡ (has_own inserted l || has_own (owner_row old owner) l)
   pub others : (n : ℕ) → n ≢ owner → owner_row new n ≡ owner_row old n
 
--- Each owner has the same row, or the same lack of labels, in both.
+-- Each owner has the same row in both, where a missing row is the same as an empty one.
 abbrev pub AreSameLabelRows : LabelRows → LabelRows → Type 0
 AreSameLabelRows old new = (n : ℕ) → owner_row new n ≡ owner_row old n
 
--- The outcome of inserting a label for the owner: Ok with whether it is new, and the owner has it; or Err, and each
--- owner has the same row.
+-- The outcome of inserting a label for the owner: Ok with whether the label is new, and the owner then has it; or Err,
+-- and each owner has the same row.
 pub record InsertsInRow {E : Type 0} (old new : LabelRows) (owner : ℕ) (l : LabelData) (result : Result Bool E)
     : Type 0 where
   pub answer : IfOk result (λ is_new. is_new ≡ not (has_own (owner_row old owner) l))

@@ -1,4 +1,5 @@
--- The index of preferred labels: for each label of a concept, an entry with a digest of the label and the concept.
+-- The index of preferred labels: for each of those of live concepts, an entry with a digest of the scheme, the language
+-- and the text, and with the concept.
 use Rattle.std.specs.Prelude.{◌≡◌, ◌<◌, ◌%◌, ◌^◌, ◌&&◌, ◌==◌, ℕ, List, Bool, true, Option, Some, fold, length}
 use Rattle.std.specs.declared.cmp.Ordering.{Ordering}
 use Rattle.std.specs.Ordering.{nat_cmp, ordering_then}
@@ -39,8 +40,8 @@ HasEntryInScheme names in_scheme tag text n =
 abbrev pub HasLabelEntry : Names → Option ℕ → LabelData → ℕ → Type 0
 HasLabelEntry names in_scheme l n = l.kind ≡ Pref → HasEntryInScheme names in_scheme l.tag l.text n
 
--- The new index has the entries of the old one for other concepts, and those for this concept with the preferred
--- labels of its list in its scheme.
+-- The new index has the entries of the old one for other concepts, and those for this concept with the preferred labels
+-- of the list `own` in its scheme.
 abbrev pub KeepsOtherNames : Names → Names → Option ℕ → ℕ → List LabelData → Type 0
 KeepsOtherNames old new in_scheme concept own =
     (scheme n : ℕ) (tag text : List ℕ) → (n ≡ concept → (in_scheme ≡ Some scheme) × HasOwnPreferred own tag text)
@@ -56,8 +57,8 @@ AreHoldersIndexed resources labels names =
     (scheme n : ℕ) (tag text : List ℕ) → IsHolder resources labels scheme tag text n
     → HasNameEntry names scheme tag text n
 
--- The index leads to the one live concept of a scheme that has a preferred label: there are few resources, each such
--- concept has an entry, and no two of a scheme have the same label.
+-- The index leads to the one live concept of a scheme that has a preferred label: there are fewer than 2 ^ 32
+-- resources, each such concept has an entry, and no two of a scheme have the same label.
 pub record LeadsToHolders (resources : List Resource) (labels : Labels) (names : Names) : Type 0 where
   pub few : length resources < 2 ^ 32
   pub entries : AreHoldersIndexed resources labels names

@@ -186,7 +186,7 @@ impl Vocab {
                 .has_lexical_label(target, &label.tag, label.text())
     }
 
-    // Removes the entry of a label that the owner has lost from the index of preferred labels.
+    // Removes from the index of preferred labels the entry of a label that the owner has lost.
     #[tactic(auto, using(crate::proofs::ConsistencyLemmas::kept_forgotten))]
     fn forget_name(&mut self, owner: ResNo, tag: &Tag, text: &str)
         ensures { self.new ≡ self.old }

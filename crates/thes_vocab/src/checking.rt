@@ -146,7 +146,7 @@ impl Vocab {
 
     /// Checks whether the text may replace the live owner's preferred label in the language:
     /// whether there is one, and the text breaks neither S13 nor the uniqueness of preferred
-    /// labels.
+    /// labels. If `keep` is true, the old one would stay as an alternative label.
     pub fn check_relabel(&self, owner: ResNo, tag: &Tag, text: &Text, keep: bool) -> Option<Refusal>
         requires { IsLiveOwner self.now.resources owner }
         ensures { let after = labels_after_relabel owner tag.now text.now keep self.now.labels in

@@ -35,9 +35,9 @@ pub(crate) struct LabelledConcept<'a> {
     pub(crate) labels: &'a [Label],
 }
 
-// For each preferred label of a concept, an entry with a digest of the scheme, the language and the
-// text, and the concept. A look-up checks the labels of the concepts under a digest, so further
-// entries do no harm.
+// For each preferred label of a live concept, an entry with a digest of the scheme, the language
+// and the text, and the concept. A look-up checks the labels of the concepts under a digest, so
+// further entries do no harm.
 #[derive(Drop)]
 pub(crate) struct Names {
     entries: BTreeSet<(u32, ResNo)>,
@@ -175,7 +175,7 @@ impl Names {
     }
 
     // Removes the entry for a label that the concept doesn't have, if there is a scheme, unless one
-    // of its preferred labels has the same digest.
+    // of the concept's preferred labels has the same digest.
     pub(crate) fn forget(
         &mut self,
         scheme: Option<ResNo>,
@@ -192,8 +192,8 @@ impl Names {
         }
     }
 
-    // Removes the entry for a label that the concept doesn't have in the scheme, unless one of its
-    // preferred labels has the same digest.
+    // Removes the entry in the scheme for a label that the concept doesn't have, unless one of the
+    // concept's preferred labels has the same digest.
     fn forget_in(&mut self, scheme: ResNo, tag: &Tag, text: &str, concept: &LabelledConcept<'_>)
         ensures keeps { KeepsOtherNames self.old self.new (Some scheme)
             concept.now.number concept.now.labels.now }

@@ -14,7 +14,7 @@ use Rattle.thes_links.specs.declared.edit.LinkEdit.TheVariants.{NoEdit, WithLink
 use Rattle.thes_links.specs.LinkEdit.{HeldAfter}
 use Rattle.thes_links.specs.Local.{AreSoundWith, BreakNone, CoversNear, IsFirstOfCycleAndS27, IsNearPivot}
 
--- The two nodes differ, and the links held break no rule, so that a link or a merge may join the nodes.
+-- The premise of the check of a link or a merge of two nodes: they differ, and the links held break no rule.
 pub record AreJoinable (held : Links) (a b : ℕ) : Type 0 where
   pub ends : a ≢ b
   pub unbroken : BreakNone (Holds held)
@@ -25,7 +25,7 @@ pub record AreSoundWithLevel (held : Links) (new : Link) : Type 0 where
   pub level : broader_direction new.kind ≡ Never
 
 -- The result of a check of a new link for Cycle and S27: the first of the two that the links held and the new one break
--- together, or none. The count grows by at most four visits for each link near the new one.
+-- together, or none. The count grows by at most four visits for each link near the new one's first end.
 pub record IsCycleAndS27Result (held : Links) (new : Link) (before after : ℕ) (answer : Option Refusal) : Type 0 where
   pub first : IsFirstOfCycleAndS27 (HeldAfter (WithLink new) held) answer
   pub count : (ns : List Link) → CoversNear (WithLink new) held new.a ns → after ≤ before + 4 * length ns

@@ -23,9 +23,10 @@ AreVisitsBounded held relation start before after =
     (ns : List Link) → ((n : ℕ) → Reaches (Steps relation (Holds held)) start n → CoversAt NoEdit held n ns)
     → after ≤ before + 2 * length ns
 
--- The state of the two searches, neither of which leads to the start of the other so far. The links that the second has
--- read, and the `left` that it may still read, are together at most as many as the first has read. The count has grown
--- from `before` by at most the number of links that the two have read.
+-- The state of the two searches, from `from` in the relation and from `to` in its converse, neither of which leads to
+-- the start of the other so far. The links that the second has read, and the `left` that it may still read, are
+-- together at most as many as the first has read. The count has grown from `before` by at most the number of links that
+-- the two have read.
 abbrev pub ArePairedSearches : Links → Relation → (from to : ℕ) → (first second : SideSearch)
     → (left before count : ℕ) → Type 0
 ArePairedSearches held relation from to first second left before count =

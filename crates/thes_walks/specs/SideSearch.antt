@@ -85,7 +85,8 @@ IsHierarchy along.Broader = Unit {0}
 IsHierarchy along.Narrower = Unit {0}
 IsHierarchy _ = ⊥
 
--- The range of the row, which has the links at the node, has exactly those on this side, and each link has two ends.
+-- The row has exactly the links held at the node, and its range exactly those on this side. Each link held has two
+-- different ends.
 pub record IsPartAt (held : Links) (row : List Link) (at : ℕ) (side : Side) (part : Part) : Type 0 where
   pub two_ends : HaveTwoEnds (Holds held)
   pub is_row : IsRow held at row
@@ -121,7 +122,8 @@ HasNextPart held rows relation side_search part =
     side_search.next < length side_search.nodes
     → IsPartAt held (rows (next_node side_search)) (next_node side_search) (side_in relation) part
 
--- The edit is valid, the relation is broader or narrower, and the range has the links of the next node.
+-- The edit is valid, the relation is broader or narrower, and there is a next node, whose links on the side of the
+-- relation are in the range.
 pub record CanAdvance (edit : LinkEdit) (held : Links) (rows : ℕ → List Link) (relation : Relation)
     (side_search : SideSearch) (part : Part) : Type 0 where
   pub fit : IsValidEdit edit
@@ -129,7 +131,8 @@ pub record CanAdvance (edit : LinkEdit) (held : Links) (rows : ℕ → List Link
   pub more : side_search.next < length side_search.nodes
   pub ready : HasNextPart held rows relation side_search part
 
--- The state of a search after `read` visits: the first `next` nodes were read, and none of them leads to a goal.
+-- The state of a search after `read` visits, at most the cost of reading its first `next` nodes: these were read, and
+-- none of them leads to a goal.
 pub record IsSideSearch (edit : LinkEdit) (held : Links) (kind : Relation) (goals : List ℕ) (start : ℕ)
     (side_search : SideSearch) (read : ℕ) : Type 0 where
   pub closed : IsSearchedUpTo (Steps kind (HeldAfter edit held)) start side_search.nodes side_search.next

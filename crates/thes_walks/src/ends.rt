@@ -97,8 +97,9 @@ fn is_loose(kind: LinkKind) -> bool
     }
 }
 
-// Returns true only if a link to a broader concept breaks no rule, because its narrower end is a
-// lowest node or its broader end a highest one; false decides nothing.
+// Returns true only if a link to a broader concept breaks no rule, because its narrower end has
+// neither narrower nor related concepts, or its broader end neither broader nor related ones; false
+// decides nothing.
 fn is_outermost<L: Links>(links: &L, new: &Link) -> bool
     requires joins { AreJoinable (L.net links.now).links new.now.a new.now.b }
     requires up { LeadsUp new.now.kind }
@@ -110,8 +111,9 @@ fn is_outermost<L: Links>(links: &L, new: &Link) -> bool
     is_highest(links, new.b)
 }
 
-/// Returns true only if the link breaks no rule, because of its kind, or because its narrower end
-/// is a lowest node or its broader end a highest one; false decides nothing.
+/// Returns true only if the link breaks no rule, because no rule concerns its kind, or its narrower
+/// end has neither narrower nor related concepts, or its broader end neither broader nor related
+/// ones; false decides nothing.
 pub fn is_harmless<L: Links>(links: &L, new: &Link) -> bool
     requires { AreJoinable (L.net links.now).links new.now.a new.now.b }
     ensures { result ≡ true → BreakNone (HeldAfter (WithLink new.now) (L.net links.now).links) }

@@ -68,8 +68,8 @@ fn first_broken_at<L: Links>(
 /// Returns the first rule that the links held break, if those without an end at the pivot break
 /// none.
 ///
-/// The visits are bounded by the links near the pivot: those with an end at it, or at a node above
-/// it, below it or in its class of exact matches.
+/// Makes at most six visits for each link with an end at the pivot, or at a node above it, below it
+/// or in its class of exact matches.
 pub fn check_at<L: Links>(
     alloc: Global,
     links: &mut L,
@@ -89,7 +89,7 @@ pub fn check_at<L: Links>(
 /// Checks a new link: returns LinkThere if it is held, or else the first rule that the links with
 /// it would break.
 ///
-/// The visits are bounded by the links near its first end, and the new link itself.
+/// Makes at most six visits for each link near the first end of the new one, which is among them.
 pub fn judge_add<L: Links>(
     alloc: Global,
     links: &mut L,
@@ -137,8 +137,8 @@ fn check_normal_link<L: Links>(
 /// Checks a merge of the source into the target: returns the first rule that the links after it
 /// would break.
 ///
-/// The visits are bounded by the links near the two concepts. The searches are those of the target
-/// alone (DECISIONS.md, Links).
+/// Makes at most six visits for each link near the two concepts. Searches from the target alone
+/// (DECISIONS.md, Links).
 pub fn judge_contract<L: Links>(
     alloc: Global,
     links: &mut L,

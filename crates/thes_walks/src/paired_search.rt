@@ -38,8 +38,8 @@ struct PairedSearch {
     allowance: u64,
 }
 
-// Advances the first search up to this limit. Returns whether it met the second, and the number of
-// links that it has read.
+// Advances the first search to this limit on its nodes and its next node's links. Returns whether
+// it met the second, and the number of links that it read in this turn.
 fn advance_first<L: Links>(
     links: &mut L,
     relation: Relation,
@@ -64,8 +64,8 @@ fn advance_first<L: Links>(
     Ok((met, links.visits().saturating_sub(before)))
 }
 
-// Advances the second search as long as `allowance` is large enough for its next node, and
-// subtracts the number of links that it reads. Returns whether it met the first.
+// Advances the second search as long as its next node has at most `allowance` links to read, and
+// subtracts their number from `allowance`. Returns whether it met the first.
 fn advance_second<L: Links>(
     links: &mut L,
     relation: Relation,
@@ -95,9 +95,9 @@ fn advance_second<L: Links>(
     Ok(false)
 }
 
-// Advances the second search within its allowance, and then the first up to this limit, until one
-// is done or they meet, and returns whether they have met. So no link is read if the second search
-// has none to read.
+// Advances the second search within its allowance, and then the first to this limit, until one is
+// done or they meet, and returns whether they have met. The second comes first, so that no link is
+// read if it has none to read.
 fn take_paired_turns<L: Links>(
     links: &mut L,
     relation: Relation,

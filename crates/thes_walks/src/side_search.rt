@@ -19,8 +19,8 @@ use thes_links::nodes::Nodes;
 use thes_links::relation::{Relation, step};
 use thes_links::side::{Part, side_for};
 
-/// The number of nodes and links by which a search may advance in its turn. Choosing at each node
-/// costs more than links read in vain (DECISIONS.md, Links).
+/// The number by which two searches that take turns raise their limit on nodes and links after each
+/// turn. Choosing a search at each node costs more than links read in vain (DECISIONS.md, Links).
 pub const TURN: usize = 16;
 
 /// A relation between nodes, as links state it after an edit.
@@ -30,8 +30,8 @@ pub struct EditedRelation {
     pub relation: Relation,
 }
 
-// A range of the links held at the node `at`, which lead from `x` after an edit: the node itself,
-// or the target of a merge of which it is the source.
+// A range of the links held at the node `at`, which lead from `x` after an edit: `x` is `at`, or
+// the target of a merge whose source is `at`.
 #[derive(Clone, Copy)]
 struct LinkRange {
     at: ResNo,
@@ -70,8 +70,8 @@ fn other_end(link: &Link, n: ResNo) -> ResNo
 }
 
 // Returns the node to which a held link at `at` leads from `x` after the edit, where `x` replaces
-// `at`; None if a merge drops the link. The link may be of any kind: those on one side of a node
-// all lead to their other ends.
+// `at`; None if a merge drops the link. The link's kind doesn't matter: in the relation of a side,
+// all links on that side of a node lead to their other ends.
 #[inline(always)]
 fn far_node(edit: &LinkEdit, link: &Link, at: ResNo, x: ResNo) -> Option<ResNo>
     ensures { result ≡ far_node_after edit.now at x link.now }
@@ -106,8 +106,8 @@ fn step_at_place<L: Links>(
     far_node(edit, &link, at, x)
 }
 
-// Appends the next node, if there is one, to the nodes met, unless it is a goal. Returns whether it
-// is a goal.
+// Adds to the nodes met the node to which a link leads, if there is one, unless that node is a goal
+// of the search. Returns whether it is a goal.
 #[inline(always)]
 fn take(nodes: &mut Nodes, next: Option<ResNo>, goals: &Nodes) -> Result<bool, AllocError>
     ensures { IfOk result
@@ -123,8 +123,8 @@ fn take(nodes: &mut Nodes, next: Option<ResNo>, goals: &Nodes) -> Result<bool, A
     Ok(false)
 }
 
-// Appends the nodes to which this range of links leads after the edit, up to the first goal.
-// Returns whether there is a goal.
+// Adds to the nodes met those to which this range of links leads after the edit. Stops before the
+// first one that is a goal of the search, and returns whether there is one.
 #[inline(always)]
 fn follow_part<L: Links>(
     links: &mut L,
@@ -159,9 +159,10 @@ pub fn part_along<L: Links>(links: &L, relation: Relation, n: ResNo) -> Part
     links.part(n, side_for(relation))
 }
 
-// Appends the nodes to which this range of links leads after the edit, up to the first goal.
-// Returns whether there is a goal. If the range has the links on the side of a relation, these are
-// the nodes to which the node leads in that relation.
+// Adds to the nodes met those to which this range of links leads after the edit. Stops before the
+// first one that is a goal of the search, and returns whether there is one. If the range has the
+// links on the side of a relation, they lead to the nodes to which `range.x` leads in that
+// relation.
 fn follow<L: Links>(
     links: &mut L,
     nodes: &mut Nodes,
@@ -186,9 +187,10 @@ fn follow<L: Links>(
     Ok(found)
 }
 
-// Appends the nodes to which the target of a merge leads in the relation after it, up to the first
-// goal. Returns whether there is a goal. Reads the range of the links held at the target, and then
-// those held at the source.
+// Adds to the nodes met those to which the target of a merge leads in the relation after the merge.
+// Stops before the first one that is a goal of the search, and returns whether there is one. Reads
+// the links held at the target in the range `merge.part`, and then those held at the source on the
+// side of the relation.
 fn follow_merged<L: Links>(
     links: &mut L,
     nodes: &mut Nodes,
@@ -226,9 +228,9 @@ fn follow_merged<L: Links>(
     Ok(found)
 }
 
-/// Appends the nodes to which a node leads in the relation after the edit, up to the first goal,
-/// and returns whether there is a goal. The node's range has its held links on the side of the
-/// relation.
+/// Adds to the nodes met those to which `from.node` leads in the relation after the edit. Stops
+/// before the first one that is a goal, and returns whether there is one. The range `from.part` has
+/// the node's held links on the side of the relation.
 pub fn follow_after_edit<L: Links>(
     links: &mut L,
     nodes: &mut Nodes,
@@ -302,9 +304,9 @@ impl SideSearch {
         self.nodes.as_slice().len() <= self.next
     }
 
-    /// Reads the links that lead from the next node in the relation after the edit, of which the
-    /// range has those held there. Appends the nodes to which they lead, up to the first goal, and
-    /// returns whether there is a goal.
+    /// Reads the links that lead from the next node in the relation after the edit; `part` is the
+    /// range of those held at the node. Adds the nodes to which they lead to those met, stops
+    /// before the first one that is a goal, and returns whether there is one.
     #[inline(always)]
     pub fn advance<L: Links>(
         &mut self,
@@ -340,8 +342,9 @@ impl SideSearch {
         }
     }
 
-    /// Reads this range of the next node's held links. Appends the nodes to which they lead, up to
-    /// the first goal, and returns whether there is a goal.
+    /// Reads this range of the next node's held links, without an edit. Adds the nodes to which
+    /// they lead to those met, stops before the first one that is a goal, and returns whether there
+    /// is one.
     #[inline(always)]
     pub fn advance_at<L: Links>(
         &mut self,
@@ -366,7 +369,8 @@ impl SideSearch {
     }
 
     /// Advances the search until all nodes are read, one leads to a goal, or the nodes met and the
-    /// links held at the next one are more than `limit`. Returns whether there is a goal.
+    /// next one's links on the side of the relation are together more than `limit`. Returns whether
+    /// one leads to a goal.
     pub fn advance_to<L: Links>(
         &mut self,
         links: &mut L,

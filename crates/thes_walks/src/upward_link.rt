@@ -22,9 +22,10 @@ use thes_links::links::Links;
 use thes_links::nodes::Nodes;
 use thes_links::relation::Relation;
 
-// Advances the search up to this limit, and then the search down, until one is done or they meet,
-// and returns whether they have met. The limit is on the nodes that a search has met and the links
-// of its next one, so that neither reads a node with many links while the other has few to read.
+// Advances the upward search to this limit, and then the downward one, until one is done or they
+// meet, and returns whether they have met. The limit is on the nodes that a search has met and the
+// links of its next one, so that neither reads a node with many links while the other has few to
+// read.
 fn take_turns<L: Links>(
     links: &mut L,
     edit: &LinkEdit,
@@ -129,7 +130,7 @@ fn are_tied<L: Links>(
 }
 
 // Returns which of Cycle and S27 would be broken, given `ended`, all nodes that the first search
-// could reach. Finishes the other search only if a related link may lead from one of them.
+// could reach. Finishes the other search only if a related link may lead from one of these nodes.
 fn check_second_search<L: Links>(
     alloc: Global,
     links: &mut L,

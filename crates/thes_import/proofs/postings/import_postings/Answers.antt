@@ -1,6 +1,6 @@
 use Rattle.std.proofs.Common.{◌++◌, inr, refl}
-use Rattle.thes_import.proofs.ImportLemmas.{all_read, counts_read, fewer_left, halted_in, importing_more, importing_none}
-use Rattle.thes_import.proofs.ImportLemmas.{text_after}
+use Rattle.thes_import.proofs.ImportLemmas.{all_read, counts_read, fewer_left, halted_in, importing_more}
+use Rattle.thes_import.proofs.ImportLemmas.{importing_none, text_after}
 use Rattle.thes_import.proofs.postings.import_postings.Goals as goal
 
 pub loop-reader-init : goal.loop-reader-init

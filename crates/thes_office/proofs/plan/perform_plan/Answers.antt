@@ -1,7 +1,5 @@
-use Rattle.std.proofs.Common.{refl, subst, sym, ◌∙◌}
+use Rattle.std.proofs.Common.{refl, sym, ◌∙◌}
 use Rattle.thes_plans.specs.declared.plan.PlanOutcome.TheVariants.{Done}
-use Rattle.thes_office.specs.declared.plan.PlanDecision.{PlanDecision}
-use Rattle.thes_office.specs.PlanDecisions.{IsPlanDecision, IsUsableAfter}
 use Rattle.thes_office.proofs.PlanDecisionLemmas.{copy_after_plan, copy_after_refusal, plan_is_done, plan_is_refused}
 use Rattle.thes_office.proofs.StateTableLemmas.{changes_fit}
 use Rattle.thes_office.proofs.plan.perform_plan.Goals as goal

@@ -3,7 +3,6 @@ use Rattle.std.specs.Prelude.{None}
 use Rattle.thes_base.specs.declared.data.Link.{Link}
 use Rattle.thes_base.specs.declared.request.Command.TheVariants as request
 use Rattle.thes_graph.specs.MergeAdditions.{AreNew, with_all}
-use Rattle.thes_links.specs.GraphView.{GraphView}
 use Rattle.thes_vocab.specs.Vocabulary.{vocabulary_of}
 use Rattle.thes_core.specs.Losses.{IsLostFromParts}
 use Rattle.thes_core.specs.declared.losses.Lost.{Lost}
