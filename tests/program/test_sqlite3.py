@@ -3,10 +3,13 @@ test_store reads the dump of that store after it is restored, and stores that SQ
 change of their files. `rt try` runs test_store, or with --built the program that `rt ci` built."""
 from __future__ import annotations
 
+import fcntl
 import re
 import shutil
 import subprocess
-from collections.abc import Mapping
+import tempfile
+from collections.abc import Iterator, Mapping
+from contextlib import contextmanager, nullcontext
 from pathlib import Path
 from typing import NamedTuple
 
@@ -62,10 +65,19 @@ def sqlite3(path: Path, *commands: str) -> str:
     return ran.stdout
 
 
+@contextmanager
+def one_at_a_time() -> Iterator[None]:
+    """Waits until no other lane compiles the crate."""
+    with open(Path(tempfile.gettempdir(), "thesaurus-test-store.lock"), "w", encoding="ascii") as lock:
+        fcntl.flock(lock, fcntl.LOCK_EX)
+        yield
+
+
 def run_test_store(*words: str | Path) -> str:
     built = program_of("test_store")
     program = [str(built)] if built else ["rt", "try", "--"]
-    ran = subprocess.run([*program, *map(str, words)], cwd=CRATE, capture_output=True, text=True, check=False)
+    with nullcontext() if built else one_at_a_time():
+        ran = subprocess.run([*program, *map(str, words)], cwd=CRATE, capture_output=True, text=True, check=False)
     return ran.stdout.partition("checked:")[0]
 
 
