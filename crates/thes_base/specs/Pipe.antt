@@ -12,15 +12,15 @@ use Rattle.thes_base.specs.declared.pipe.Pipe.{Pipe}
 abbrev pub device_of : {T : Type 0} → Pipe T → T
 device_of p = p.device
 
--- A read or a write of the device has failed.
+-- Whether a read or a write of the device has failed.
 abbrev pub failed_of : {T : Type 0} → Pipe T → Bool
 failed_of p = p.failed
 
--- A read has reached the end of the input.
+-- Whether a read has reached the end of the input.
 abbrev pub ended_of : {T : Type 0} → Pipe T → Bool
 ended_of p = p.ended
 
--- A read or write was denied because no budget was left.
+-- Whether a read or write was denied because no budget was left.
 abbrev pub denied_of : {T : Type 0} → Pipe T → Bool
 denied_of p = p.denied
 

@@ -37,8 +37,8 @@ pub record WriteFrame {W T : Type 0} (old new : Pipe W) (before after : ℕ) (re
   pub calls : PaysCalls old new before after
 
 module _ {R : Type 0} (remaining : R → Option Bytes) (old new : Pipe R) where
-  -- The effect of one call of a reader: the end is recorded exactly if the call returned no byte, a failure exactly if
-  -- it returned an error other than Interrupted.
+  -- The effect of one call of a reader: it records the end exactly if it returned no byte, and a failure exactly if it
+  -- returned an error other than Interrupted; what was recorded before stays.
   pub record ReadsOnce (buf : Bytes) (result : Result ℕ Error) : Type 0 where
     pub size : ReadsAtMost result buf
     pub bytes : ReadConsumes (unread_bytes remaining old) (unread_bytes remaining new) result buf

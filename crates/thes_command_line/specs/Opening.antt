@@ -77,7 +77,7 @@ preparation_of New true reads_only = MakeTables
 preparation_of New false reads_only = if reads_only then Nothing else RemoveMark
 preparation_of Existing is_blank reads_only = if reads_only then Nothing else RemoveMark
 
--- The mark of an unfinished store is void if no database was made, unless another program has the file open.
+-- Whether the mark of an unfinished store is void: no database was made, and no other program has the file open.
 abbrev pub is_mark_void : StoreTrouble → FileState → Bool
 is_mark_void troubles.InUse left = false
 is_mark_void _ found.Absent = true

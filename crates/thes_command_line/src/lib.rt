@@ -1,4 +1,4 @@
-//! Parses the command line of the program into a job, prints faults and refusals, escapes what a
+//! Parses the program's command line into a job, prints faults and refusals, escapes what a
 //! terminal would obey, and determines exit statuses.
 #![tactic(auto)]
 

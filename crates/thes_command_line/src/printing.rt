@@ -48,7 +48,8 @@ fn form_line(fault: FormFault) -> ArrayString<64>
     line
 }
 
-/// Prints a text, and returns whether all of it was written.
+/// Prints a text of the program, such as its help or a fault, and returns whether all of it was
+/// written.
 pub fn print<W: Write>(writer: &mut Pipe<W>, text: &[u8]) -> bool
     requires { IsFresh writer.old }
     ensures { HasPrinted W.contents writer.old writer.new text.now result }

@@ -38,7 +38,8 @@ impl<W: Write> TerminalOutput<W> {
     }
 }
 
-// Returns the lower-case hexadecimal digit, for an escape, of a number up to 15.
+// Returns the lower-case hexadecimal digit of a number up to 15, for the escape of a character that
+// a terminal may obey.
 fn hex_digit(number: u8) -> &'static str
     ensures { length result.now ≡ 1 }
 {
@@ -62,8 +63,8 @@ fn hex_digit(number: u8) -> &'static str
     }
 }
 
-// Returns the escape of the first character of a text, and the length of that character in bytes,
-// if a terminal may obey it.
+// Returns the escape of the first character of a text, and that character's length in bytes; None
+// if no terminal obeys the character.
 fn escape_of(text: &[u8]) -> Option<(ArrayString<8>, usize)>
     ensures { IfSome result (λ x. x.1 ≤ length text.now) }
 {

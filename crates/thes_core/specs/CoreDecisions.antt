@@ -36,8 +36,8 @@ IsVerdict setting s command (Settled answer) = Step setting s command answer s
 IsVerdict setting s command (Accepted answer changes) = AcceptedVerdict setting s command answer changes
 
 -- The result of a decision: OutOfMemory, or a verdict that is right in each state of which the core is a view, if the
--- facts are those of its histories: a settled answer is that of a machine's step that leaves the state unchanged; an
--- accepted verdict has the machine's answer, and changes of rows that lead to its next state.
+-- facts are those of that state's histories: a settled answer is that of a machine's step that leaves the state
+-- unchanged; an accepted verdict has the machine's answer, and changes of rows that lead to its next state.
 abbrev pub DecideResult : CoreView → Command → Facts → Result Verdict Fault → Type 0
 DecideResult core command facts (Ok verdict) =
     (s : State) → IsViewOf core s → AreFacts command s.histories facts → IsVerdict core.setting s command verdict

@@ -19,7 +19,8 @@ pub record CoreView : Type 0 where
   pub links : Links
   pub posting_counts : PostingCounts
   pub setting : Setting
-  -- Whether the core is unusable: running out of memory has left the state half changed, or it was marked so.
+  -- Whether the core is unusable: running out of memory has left the state half changed, or the core was marked as
+  -- unusable.
   pub spent : Bool
 
 -- The state that has the core's parts and these histories.

@@ -59,8 +59,8 @@ CountsAfter command histories old new =
 abbrev pub PartsAfter : Command → Thesaurus → Thesaurus → Type 0
 PartsAfter command old new = PartsOfState old (without_postings (next_state command (parts_state old []))) new
 
--- The new parts are those of the machine's next state, and count its postings for all histories with which the request
--- is accepted.
+-- The new parts are those of the machine's next state. They count its postings for all histories that the old parts
+-- count and with which the request is accepted.
 pub record IsChangedBy (command : Command) (old new : Thesaurus) : Type 0 where
   pub becomes : PartsAfter command old new
   pub counts : (histories : List History) → PartsAccept old histories command → ArePostingCounts histories old.book

@@ -44,20 +44,20 @@ pub record ArePartsAfterCreation (tag text : List ℕ) (s : State) (t : Thesauru
   pub state : parts_state t [] ≡ without_postings (state_after_creation resource tag text s)
   pub outside : MarksOutside t.vocab.resources t.graph
 
--- Postings aside, if the old parts are those after the request, and the loss is what it takes, the new ones are those
--- of the state `s` before it.
+-- Postings aside: if the old parts are those after the request, and `lost` is what the request takes or adds without
+-- naming it, the new parts are those of the state `s` before the request.
 abbrev pub ArePartsTakenBack : Command → State → Lost → Thesaurus → Thesaurus → Type 0
 ArePartsTakenBack command s lost old new = ArePartsAfter command s old → IsLostFromParts command s lost
     → PartsOfState old (without_postings s) new
 
--- If the old parts count the postings of the state after the accepted request, and the loss is what it takes from them,
--- the new ones count those of the state before it.
+-- If the old parts count the postings of the state after the accepted request, and `lost` is what the request changes
+-- in the postings without naming it, the new parts count the postings of the state `s` before the request.
 abbrev pub AreCountsTakenBack : Command → State → Lost → Thesaurus → Thesaurus → Type 0
 AreCountsTakenBack command s lost old new = IsAccepted (setting_of old) s command → IsLostFromPostings command s lost
     → ArePostingCounts (next_state command s).histories old.book → ArePostingCounts s.histories new.book
 
--- The step leads from the legal state `s` to the state `t`: its request is accepted in `s`, and its loss is what the
--- request takes.
+-- The step leads from the legal state `s` to the state `t`: its request is accepted in `s`, and its `lost` is what the
+-- request takes from `s`, or adds to it, without naming it.
 pub record IsUndoStep (setting : Setting) (s : State) (step : UndoStep) (t : State) : Type 0 where
   pub legal : IsLegalState setting.base s
   pub accepts : IsAccepted setting s step.command
@@ -70,7 +70,8 @@ abbrev pub StepsLead : (State → UndoStep → State → Type 0) → State → L
 StepsLead Leads s [] t = t ≡ s
 StepsLead Leads s (step ∷ steps) t = (mid : State) × Leads s step mid × StepsLead Leads mid steps t
 
--- The step leads from one state without postings to another, and the loss is what it takes from the first.
+-- The step leads from one state without postings to another, and its `lost` is what its request takes from the first,
+-- or adds to it, without naming it.
 pub record LeadsWithoutPostings (setting : Setting) (before : State) (step : UndoStep) (after : State) : Type 0 where
   pub application : IsAppliedWithoutPostings setting before step.command after
   pub lost : IsLostFromParts step.command before step.lost
@@ -80,8 +81,8 @@ abbrev pub IsLogOf : List UndoStep → CoreView → Type 0
 IsLogOf steps core =
     (s : State) × StepsLead (LeadsWithoutPostings core.setting) s steps (with_histories [] core)
 
--- The setting is the same. If the steps led from one state to another, of which the core was a view, the core is now a
--- view of the first.
+-- The setting is unchanged. If the steps led from a state `s` to a state `t`, and the old core was a view of `t`, the
+-- new core is a view of `s`.
 abbrev pub IsTakenBack : List UndoStep → CoreView → CoreView → Type 0
 IsTakenBack steps old new = (new.setting ≡ old.setting)
     × ((s t : State) → StepsLead (IsUndoStep old.setting) s steps t → IsViewOf old t → IsViewOf new s)

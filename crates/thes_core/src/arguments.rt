@@ -29,7 +29,7 @@ pub fn check_owner(vocab: &Vocab, owner: ResNo) -> Option<Refusal>
     None
 }
 
-/// Checks whether the number is that of a live concept.
+/// Checks whether the number in a request is that of a live concept.
 pub fn check_live_concept(vocab: &Vocab, concept: ResNo) -> Option<Refusal>
     ensures { unless_live_concept vocab.now.resources concept accepted result }
 {

@@ -1,5 +1,5 @@
-//! The machine over a vocabulary, links and counts of postings: the answer to each request, and the
-//! state after it.
+//! The machine over a vocabulary, links and counts of postings: each request's answer, next state,
+//! and changes of rows.
 #![tactic(auto)]
 
 mod applying;

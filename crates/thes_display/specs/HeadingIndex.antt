@@ -13,7 +13,7 @@ use Rattle.thes_display.specs.Order.{Term, term_cmp}
 use Rattle.thes_display.specs.declared.heading.Heading.{Heading}
 use Rattle.thes_display.specs.declared.heading_index.HeadingIndex.{HeadingIndex}
 
--- The heading at the place `k` is the own one of the concept `n`.
+-- The heading at the place `k` is the own heading of the concept `n`, not that of a lead-in term.
 pub record IsOwnAt (headings : List Heading) (n k : ℕ) : Type 0 where
   pub heading : Heading
   pub heading_at : slice_get headings k ≡ Some heading
@@ -24,7 +24,7 @@ pub record IsOwnAt (headings : List Heading) (n k : ℕ) : Type 0 where
 abbrev pub ArePlaces : List Heading → (ℕ → Option ℕ) → Type 0
 ArePlaces headings place = (n k : ℕ) → place n ≡ Some k → IsOwnAt headings n k
 
--- The headings are sorted, and have texts of the state in the language; the places are those of concepts' own ones.
+-- The headings are sorted, and have texts of the state in the language; the places are those of concepts' own headings.
 pub record IsHeadingIndex (s : State) (tag : List ℕ) (index : HeadingIndex) : Type 0 where
   pub rises : IsStrictlySortedBy heading_cmp index.headings.items
   pub texts : (h : Heading) → Contains index.headings.items h → IsHeadedBy s tag h.lead_in h.term

@@ -16,7 +16,7 @@ heading_key x y =
     ordering_then (nat_cmp (cond x.lead_in 1 0) (cond y.lead_in 1 0))
     (ordering_then (nat_cmp x.term.concept y.term.concept) (text_cmp x.term.text y.term.text))
 
--- The heading is the own one of a concept with the property `P`.
+-- The heading is the own heading of a concept with the property `P`.
 pub record IsOwnHeading (s : State) (tag : List ℕ) (P : ℕ → Type 0) (h : Heading) : Type 0 where
   pub own : h.lead_in ≡ false
   pub concept : P h.term.concept

@@ -1,5 +1,4 @@
-//! The answers to queries as lines of JSON: totals, a concept, the postings of a concept, and a
-//! posting.
+//! The answers to queries as lines of JSON: totals, a concept, a concept's postings, and a posting.
 #![tactic(auto)]
 
 pub mod concept;

@@ -373,7 +373,7 @@ fn place_of(history: &History) -> ResNo
     }
 }
 
-// Returns a JSON string of the text.
+// Returns a JSON string of a text of a view.
 fn text_value(alloc: Global, text: &str) -> Result<Value, AllocError>
     ensures { IfOk result (λ v. view v ≡ string text.now) }
 {

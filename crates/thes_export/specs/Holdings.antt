@@ -25,19 +25,19 @@ module _ (core : CoreView) where
   IsTopScheme n None = (m : ℕ) → IsTopIn n m → ⊥
   IsTopScheme n (Some m) = IsTopIn n m
 
-  -- Of the resources up to `most`, `n` is a top concept of the scheme `m`.
+  -- The number `n` is at most `most`, and is that of a top concept of the scheme `m`.
   abbrev pub IsTopUpTo : ℕ → ℕ → ℕ → Type 0
   IsTopUpTo most m = IsUpTo most (λ n. IsTopIn n m)
 
-  -- Of the resources up to `most`, `n` is a member of the collection `k`.
+  -- The number `n` is at most `most`, and is that of a member of the collection `k`.
   abbrev pub IsMemberUpTo : ℕ → ℕ → ℕ → Type 0
   IsMemberUpTo most k = IsUpTo most (HasLink core.links kind.Member k)
 
-  -- Under the number of each scheme are its top concepts, of the resources up to `most`.
+  -- Under the number of each scheme are those of its top concepts whose numbers are at most `most`.
   pub record AreTopsUpTo (most : ℕ) (lists : Lists ℕ) : Type 0 where
     pub listings : AreListings nat_cmp (IsTopUpTo most) lists
 
-  -- Under the number of each collection are its members, of the resources up to `most`.
+  -- Under the number of each collection are those of its members whose numbers are at most `most`.
   pub record AreMembersUpTo (most : ℕ) (lists : Lists ℕ) : Type 0 where
     pub listings : AreListings nat_cmp (IsMemberUpTo most) lists
 

@@ -30,7 +30,7 @@ fn insert(lists: &mut Lists<ResNo>, holder: ResNo, n: ResNo) -> Result<(), Alloc
     Ok(())
 }
 
-/// Returns the number of the core's resources, of all kinds.
+/// Returns the number of the core's resources of all kinds, which an export goes through.
 pub(crate) fn resource_count(core: &Core) -> usize
     requires { core.now.spent ≡ false }
     ensures { result ≡ length core.now.resources }
@@ -79,7 +79,7 @@ fn add_member(
     Ok(())
 }
 
-// Lists the top concepts of each scheme.
+// Lists the top concepts of each scheme, for the lines of an export.
 fn tops_by_scheme(alloc: Global, core: &Core) -> Result<Lists<ResNo>, AllocError>
     requires { core.now.spent ≡ false }
     ensures { IfOk result (AreTopsUpTo core.now (length core.now.resources)) }
@@ -91,7 +91,7 @@ fn tops_by_scheme(alloc: Global, core: &Core) -> Result<Lists<ResNo>, AllocError
     Ok(tops)
 }
 
-// Lists the members of each collection.
+// Lists the members of each collection, for the lines of an export.
 fn members_by_collection(alloc: Global, core: &Core) -> Result<Lists<ResNo>, AllocError>
     requires { core.now.spent ≡ false }
     ensures { IfOk result (AreMembersUpTo core.now (length core.now.resources)) }

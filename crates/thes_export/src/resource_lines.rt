@@ -34,14 +34,14 @@ fn scheme_in(resource: &Resource) -> Option<ResNo>
     resource.scheme
 }
 
-// Returns the replacement of a concept, if it was merged.
+// Returns the replacement of a concept to export (`dct:isReplacedBy`), if it was merged.
 fn replacement_in(resource: &Resource) -> Option<ResNo>
     ensures { result ≡ resource.now.replaced }
 {
     resource.replaced
 }
 
-/// Checks whether the resource is a concept, live or deprecated.
+/// Checks whether the resource is exported as a concept, live or deprecated.
 pub(crate) fn is_concept(resource: &Resource) -> bool
     ensures { result ≡ is_concept_kind resource.now.kind }
 {
@@ -51,14 +51,14 @@ pub(crate) fn is_concept(resource: &Resource) -> bool
     }
 }
 
-// Checks whether the resource is a concept that isn't deprecated.
+// Checks whether the resource is exported as a concept that isn't deprecated.
 fn is_live_concept(resource: &Resource) -> bool
     ensures { result ≡ (is_concept_kind resource.now.kind && resource.now.live) }
 {
     is_concept(resource) && resource.live
 }
 
-// Checks whether the resource is a deprecated concept.
+// Checks whether the resource is exported as a deprecated concept (`owl:deprecated`).
 fn is_dead_concept(resource: &Resource) -> bool
     ensures { result ≡ (is_concept_kind resource.now.kind && not resource.now.live) }
 {

@@ -2,8 +2,8 @@
 use Rattle.std.specs.declared.io.ErrorKind.{ErrorKind}
 use Rattle.std.specs.declared.io.ErrorKind.TheVariants.{Interrupted, TimedOut, WouldBlock}
 
--- The error of a wait, given that of its stream: a wait that ended becomes `Interrupted`, so that
--- the caller tries again.
+-- The error of a single wait, given that of its stream: a time-out becomes `Interrupted`, so that the caller tries
+-- again.
 abbrev pub error_after_wait : ErrorKind → ErrorKind
 error_after_wait WouldBlock = Interrupted
 error_after_wait TimedOut = Interrupted

@@ -29,7 +29,8 @@ abbrev pub is_complete : ConnectionEnd → Bool
 is_complete (Answered status) = true
 is_complete outcome = false
 
--- The outcome of an accept: its stream; None if the client closed the connection before; any other error.
+-- The outcome of an accept: its stream; None if the client closed the connection before it was accepted; any other
+-- error.
 abbrev pub IsAcceptOutcome : {T A : Type 0} → Result (T × A) Error → Result (Option T) Error → Type 0
 IsAcceptOutcome (Ok (stream, address)) result = result ≡ Ok (Some stream)
 IsAcceptOutcome (Err e) result =

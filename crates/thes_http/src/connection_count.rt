@@ -9,10 +9,10 @@ use std::marker::Model;
 use std::net::{Net, OpenListener, OpenStream, SocketAddr};
 use std::rt::Clock;
 
-/// The number of connections that were accepted and served; one that its client closed before, or
-/// whose stream can't be cloned, counts as well. Contracts see the number alone, which can't be
-/// copied or set: only an accept that yields no stream, and closing a stream that was served, raise
-/// it. So a server that drops its streams doesn't reach the number asked for.
+/// The number of connections that were accepted and served; one that its client closed before it
+/// was accepted, or whose stream can't be cloned, counts as well. Contracts see the number alone,
+/// which can't be copied or set: only an accept that yields no stream, and closing a stream that
+/// was served, raise it. So a server that drops its streams doesn't reach the number asked for.
 #[derive(Drop)]
 pub struct ConnectionCount {
     count: u32,
@@ -26,8 +26,8 @@ impl Model for ConnectionCount {
     ghost view = { λ connections. connections.count };
 }
 
-// Returns the stream of an accept, or `None` if the client closed its connection before; any other
-// error is final.
+// Returns the stream of an accept, or `None` if the client closed its connection before it was
+// accepted; any other error is final.
 fn accepted_stream<T: Drop>(accept: io::Result<(T, SocketAddr)>) -> io::Result<Option<T>>
     ensures { IsAcceptOutcome accept result }
 {
@@ -60,8 +60,8 @@ impl ConnectionCount {
         ConnectionCount { count: 0 }
     }
 
-    /// Accepts the next connection, or counts it and returns `None` if its client closed it before
-    /// or its stream can't be cloned.
+    /// Accepts the next connection. Returns `None`, and counts the connection, if its client closed
+    /// it before it was accepted, or if its stream can't be cloned.
     pub(crate) fn accept<N: Net>(
         &mut self,
         listener: &N::Listener,

@@ -43,8 +43,8 @@ fn wait_within(left: Duration) -> Duration
     left.min(Duration::from_secs(1))
 }
 
-// Turns the error of a wait that ended into `Interrupted`, so that the caller tries again; the
-// clock decides whether the time is over.
+// Turns the time-out of a single wait into `Interrupted`, so that the caller tries again; the clock
+// decides whether the client's time is over.
 fn after_wait(error: io::Error) -> io::Error
     ensures { error_kind result ≡ error_after_wait (error_kind error) }
 {

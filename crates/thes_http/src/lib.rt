@@ -1,5 +1,5 @@
-//! An HTTP/1.0 and HTTP/1.1 server over any service: it has requests read, which thes_http_request
-//! does, has them performed, and writes responses.
+//! An HTTP/1.0 and HTTP/1.1 server over any service: reads requests (by thes_http_request), has
+//! them performed, and writes responses.
 #![tactic(auto)]
 
 mod act;

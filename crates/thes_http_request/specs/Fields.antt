@@ -8,11 +8,11 @@ use Rattle.std.specs.Str.Parse.{digits_value}
 use Rattle.thes_http_request.specs.declared.problem.Problem.{Problem}
 use Rattle.thes_http_request.specs.declared.problem.Problem.TheVariants.{BadHead, NoLength, TooLong}
 
--- Whether the field has this name in any case; `name` is in lower case.
+-- Whether the field has this name, whatever the case of its letters; `name` is in lower case.
 abbrev pub is_named : List ℕ → List ℕ × List ℕ → Bool
 is_named name field = bytes_eq (map to_ascii_lowercase field.0) name
 
--- Whether some field has this name in any case; `name` is in lower case.
+-- Whether some field has this name, whatever the case of its letters; `name` is in lower case.
 unfoldable pub has_field : List ℕ → List (List ℕ × List ℕ) → Bool
 has_field name fields = list_any (is_named name) fields
 

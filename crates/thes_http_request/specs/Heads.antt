@@ -63,8 +63,8 @@ is_open_target line =
 abbrev pub ends_in_target : List ℕ → Bool
 ends_in_target bytes = is_open_target (without_blank_lines bytes)
 
--- The bytes have no complete head and no more than 65 complete lines. More bytes may complete a
--- head, or the bytes end within a target, which any bytes may follow.
+-- The bytes have no complete head, and at most 65 complete lines: a request line and 64 header lines. More bytes may
+-- complete a head, or the bytes end within a target, of which more may follow.
 pub record IsUnfinished (bytes : List ℕ) : Type 0 where
   pub none : HasNoRequest bytes
   pub few : whole_lines bytes ≤ fields_limit + 1

@@ -29,7 +29,7 @@ pub record IsHeadAt (bytes : List ℕ) (headers : List HeaderSpan) (spans : Requ
   pub within : IsRequestWithin bytes headers spans
   pub few : length head.fields ≤ fields_limit
 
--- Whether the spans of a field cover this name, in any case.
+-- Whether the spans of a field cover this name, whatever the case of its letters.
 abbrev pub spans_named : List ℕ → List ℕ → HeaderSpan → Bool
 spans_named name bytes header = is_named (map to_ascii_lowercase name) (header_bytes bytes header)
 

@@ -10,7 +10,7 @@ ghost use Rattle.thes_http_request.specs.Inbox.{spans_named, first_named};
 use crate::problem::Problem;
 use httparse::spans::HeaderSpan;
 
-/// Returns whether some header field has this name, in any case.
+/// Returns whether some header field has this name, whatever the case of its letters.
 pub fn has_field(bytes: &[u8], headers: &[HeaderSpan], name: &[u8]) -> bool
     requires { All (IsHeaderWithin (length bytes.now)) headers.now }
     ensures { result ≡ has_field (map to_ascii_lowercase name.now)
@@ -52,7 +52,7 @@ fn length_named(
     length_of(headers[at].value.of(bytes), limit)
 }
 
-// Returns the index of the first header field with this name, in any case.
+// Returns the index of the first header field with this name, whatever the case of its letters.
 fn find_field(bytes: &[u8], headers: &[HeaderSpan], name: &[u8]) -> Option<usize>
     requires { All (IsHeaderWithin (length bytes.now)) headers.now }
     ensures { MatchOption result (first_named name.now bytes.now headers.now ≡ length headers.now)
@@ -66,7 +66,7 @@ fn find_field(bytes: &[u8], headers: &[HeaderSpan], name: &[u8]) -> Option<usize
     None
 }
 
-// Returns whether the header field has this name, in any case.
+// Returns whether the header field has this name, whatever the case of its letters.
 fn is_named(bytes: &[u8], header: HeaderSpan, name: &[u8]) -> bool
     requires { IsHeaderWithin (length bytes.now) header }
     ensures { result ≡ spans_named name.now bytes.now header }

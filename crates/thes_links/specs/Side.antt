@@ -41,7 +41,7 @@ pub record IsPart (row : List Link) (n : ℕ) (side : Side) (part : Part) : Type
   pub on_side : (k : ℕ) (l : Link) → slice_get row k ≡ Some l → part.from ≤ k → k < part.to → side_at n l ≡ side
   pub has : (k : ℕ) (l : Link) → slice_get row k ≡ Some l → side_at n l ≡ side → (part.from ≤ k) × (k < part.to)
 
--- The links of the relation lie on one side of each node; those of `Apart` don't.
+-- At each node, the links of the relation all lie on one side; this is so for all relations but `Apart`.
 abbrev pub IsOneSided : Relation → Type 0
 IsOneSided relation.Apart = ⊥
 IsOneSided _ = Unit {0}

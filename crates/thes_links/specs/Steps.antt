@@ -18,7 +18,8 @@ reverse_of Backward = Forward
 reverse_of Either = Either
 reverse_of Never = Never
 
--- The direction in which links of this kind lead in the relation: in Broader, to a broader concept.
+-- The direction in which links of this kind lead in the relation; in Broader, for example, the direction to the broader
+-- concept.
 abbrev pub direction_of : Relation → LinkKind → Direction
 direction_of Broader kind = broader_direction kind
 direction_of Narrower kind = reverse_of (broader_direction kind)
@@ -26,7 +27,7 @@ direction_of Related kind = related_direction kind
 direction_of Exact kind = exact_direction kind
 direction_of Apart kind = disjoint_direction kind
 
--- Links of the link's kind have a part in the relation.
+-- Links of this link's kind lead somewhere in the relation.
 abbrev pub HasDirection : Relation → Link → Type 0
 HasDirection relation l = direction_of relation l.kind ≢ Never
 

@@ -50,8 +50,8 @@ fn reverse_direction(direction: Direction) -> Direction
     }
 }
 
-/// Returns the direction in which links of this kind lead in the relation: in `Broader`, to a
-/// broader concept.
+/// Returns the direction in which links of this kind lead in the relation; in `Broader`, for
+/// example, the direction to the broader concept.
 #[inline(always)]
 pub fn direction(relation: Relation, kind: LinkKind) -> Direction
     ensures { result ≡ direction_of relation kind }
@@ -91,7 +91,7 @@ pub fn step(relation: Relation, link: &Link, x: ResNo) -> Option<ResNo>
     lead(direction(relation, link.kind), link, x)
 }
 
-/// Checks whether links of this link's kind have a part in the relation, in either direction.
+/// Checks whether links of this link's kind lead somewhere in the relation, in either direction.
 pub fn has_direction(relation: Relation, link: &Link) -> bool
     ensures { MatchBool result (HasDirection relation link.now)
         (HasDirection relation link.now → ⊥) }

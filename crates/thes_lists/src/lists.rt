@@ -73,7 +73,8 @@ impl<T: Ord + Drop> Lists<T> {
         Ok(())
     }
 
-    /// Reserves room for one more value under the number, so that `insert` can't fail.
+    /// Reserves room for one more value under the number, so that the next `insert` there can't
+    /// fail.
     pub fn make_room(&mut self, n: ResNo) -> Result<(), AllocError>
         ensures same { HaveSameValues self.old self.new }
         ensures rooms { KeepsSpare self.old self.new }

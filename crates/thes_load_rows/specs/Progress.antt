@@ -161,11 +161,11 @@ ReadsRow old new cells false =
     (raw : Raw) → HasRead old raw
     → HasRead (stage.Stopped (BadStore (stage_table old)) (stage_table old)) (raw_with_row (stage_table old) cells raw)
 
--- At the end of the old stage's table the new stage has read what it should, and its table is the next one.
+-- The new stage is at the table after that of the old one, and is right for all rows for which the old one is.
 abbrev pub Closes : Stage → Stage → Type 0
 Closes old new = (stage_table new ≡ next_table (stage_table old)) × ((raw : Raw) → HasRead old raw → HasRead new raw)
 
--- The new stage has read what it should of the same rows as the old one, and its table is `table`.
+-- The new stage is at this table, and is right for all rows for which the old one is.
 abbrev pub ReachesTable : Stage → Stage → Table → Type 0
 ReachesTable old new table = (stage_table new ≡ table) × ((raw : Raw) → HasRead old raw → HasRead new raw)
 
@@ -177,12 +177,13 @@ empty_raw = raw_by_table (λ name. Some [])
 abbrev pub raw_without_table : Table → Raw → Raw
 raw_without_table name raw = with_rows name None raw
 
--- The new stage has read what it should of the rows in which this table can't be queried, and this is its table.
+-- The new stage is at this table, and is right for all rows for which the old one is, but with this table as one that
+-- can't be queried.
 abbrev pub HasUnqueried : Stage → Stage → Table → Type 0
 HasUnqueried old new table =
     (stage_table new ≡ table) × ((raw : Raw) → HasRead old raw → HasRead new (raw_without_table table raw))
 
--- With one more row of this table the new stage has read what it should, and this is its table.
+-- The new stage is at this table, and is right for all rows for which the old one is, with one more row of this table.
 abbrev pub HasRow : Stage → Stage → Table → List Cell → Type 0
 HasRow old new table cells =
     (stage_table new ≡ table) × ((raw : Raw) → HasRead old raw → HasRead new (raw_with_row table cells raw))

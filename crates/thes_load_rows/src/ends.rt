@@ -7,7 +7,7 @@ use thes_base::data::{Link, Resource, ResourceKind};
 use thes_base::number::ResNo;
 use thes_vocab::resource_at;
 
-/// Checks whether the number is that of a concept, live or dead.
+/// Checks whether the number in a row is that of a concept, live or dead.
 pub fn is_concept(resources: &[Resource], n: ResNo) -> bool
     ensures { IsTrue result ↔ IsConcept resources.now n }
 {
@@ -17,7 +17,7 @@ pub fn is_concept(resources: &[Resource], n: ResNo) -> bool
     }
 }
 
-/// Checks whether the number is that of a live concept.
+/// Checks whether the number in a row is that of a live concept.
 pub fn is_live(resources: &[Resource], n: ResNo) -> bool
     ensures { result ≡ is_live_concept resources.now n }
 {

@@ -134,7 +134,7 @@ fn kind_of(typ: HierType) -> LinkKind
     }
 }
 
-// Returns the link that a row of table hier encodes.
+// Returns the link that a loaded row of table hier encodes.
 fn link_of(row: &HierRow) -> Link
     ensures { result ≡ hier_link row.now }
 {

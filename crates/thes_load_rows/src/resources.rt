@@ -71,7 +71,7 @@ impl ResourceLoad {
     }
 }
 
-// Checks whether each resource is legal, and replacements form no cycle.
+// Checks whether each loaded resource is legal, and replacements form no cycle.
 fn are_legal(alloc: Global, resources: &[Resource]) -> Result<bool, AllocError>
     requires { length resources.now < 2 ^ 32 }
     ensures { IfOk result (λ good. IsTrue good ↔ ResourceRule resources.now) }

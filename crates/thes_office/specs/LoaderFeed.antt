@@ -22,7 +22,8 @@ pub record IsBegun (limits : Limits) (loader : Loader) : Type 0 where
   pub none : KnowsRows loader empty_raw
   pub limits_are : loader.limits ≡ limits
 
--- The loader after a row or report; after running out of memory, it has stopped with that fault.
+-- The loader after a row, or after the report that the table can't be queried; after running out of memory, the loader
+-- has stopped with that fault.
 abbrev pub FeedResult : Loader → Table × Option (List Cell) → Result (Unit {0}) Fault → Loader → Type 0
 FeedResult old news (Ok done) new = (new.limits ≡ old.limits) × NextStage news.0 news.1 old.stage new.stage
 FeedResult old news (Err fault) new =

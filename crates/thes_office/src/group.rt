@@ -47,7 +47,7 @@ impl Decided {
     }
 }
 
-// Checks whether a request is a Post with the key.
+// Checks whether a request of a group is a Post with the key.
 fn is_post_of(key: &Key, command: &Command) -> bool
     ensures { IsTrue result ↔ IsPostOf key.now command.now }
 {
@@ -100,8 +100,8 @@ fn is_new_post(earlier: &[Command], marks: &mut [bool], command: &Command) -> bo
     earlier.iter().all(|other| !is_post_of(key, other))
 }
 
-// Checks whether the first `count` requests, which are a group, and the next one are a group; marks
-// the key of the next one if it is a Post.
+// Checks whether the group of the first `count` requests is still a group with the next request;
+// marks the key of the next request if it is a Post.
 #[tactic(auto, using(crate::proofs::GroupLemmas::group_grows, std::proofs::lemmas::Option::slice_get_read))]
 fn may_grow(commands: &[Command], marks: &mut [bool], count: usize) -> bool
     requires within { count ≤ length commands.now }

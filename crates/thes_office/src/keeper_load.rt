@@ -31,8 +31,8 @@ pub fn load<K: Keeper>(alloc: Global, keeper: &mut K, limits: Limits) -> Result<
     }
 }
 
-// Returns a loader's fault unchanged. A loader never reports Store, which only the storage does; it
-// would become BadStore of table meta.
+// Returns a loader's fault unchanged. A loader never reports Store, which only the storage does;
+// Store would become BadStore of table meta.
 fn verdict(fault: Fault) -> Fault
     ensures same { fault ≢ Fault.Store → result ≡ fault }
     ensures never { result ≢ Fault.Store }

@@ -1,5 +1,5 @@
-//! Performs requests and answers queries over the tables of a store, with a copy in memory of all
-//! but the postings.
+//! Performs requests, groups and plans, and answers queries over a store's tables, with a copy in
+//! memory of all but postings.
 #![tactic(auto)]
 
 mod facts;

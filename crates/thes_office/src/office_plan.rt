@@ -15,7 +15,7 @@ impl<K: Keeper> Office<K> {
     /// earlier request made. If each is accepted or repeats a known key, all changes are committed
     /// in one transaction; else the outcome is the first refusal, and nothing is changed. On a
     /// fault the tables are unchanged, if the storage is still up. Any list may be a plan; a
-    /// reference to nothing leaves the number in whose place it is.
+    /// reference to nothing leaves the command's own number.
     pub fn run_plan(&mut self, plan: Vec<PlanRequest>) -> Result<PlanOutcome, Fault>
         ensures fault_behaviour { FaultBehaviour K.view self.old self.new result }
         ensures performed { RunPlanResult K.view self.old plan.items result self.new }

@@ -59,14 +59,14 @@ fn last_refusal(answers: &[Answer]) -> Option<Refusal>
     }
 }
 
-// Returns the number of changes of rows.
+// Returns the number of changes of rows that the requests of a plan make so far.
 fn change_count(delta: &Delta) -> usize
     ensures { result ≡ length delta.now }
 {
     delta.as_slice().len()
 }
 
-// Returns the changes of rows from an index on.
+// Returns the changes of rows of a plan from an index on.
 fn changes_from(delta: &Delta, index: usize) -> &[Change]
     requires { index ≤ length delta.now }
     ensures { result.now ≡ drop index delta.now }

@@ -63,12 +63,13 @@ abbrev pub is_assigned_by : Number → Bool → Option Placement → Bool
 is_assigned_by concept by_tables None = by_tables
 is_assigned_by concept by_tables (Some x) = not x.withdrawn && x.place == concept
 
--- The list has the number.
+-- Whether the list has the number.
 abbrev pub has_number : List ℕ → ℕ → Bool
 has_number numbers n = list_any (nat_eq n) numbers
 
--- The candidates have the number, and its posting is assigned to the concept with the changes of the plan so far. For a
--- posting that the plan hasn't changed, `by_tables` says whether the tables have it assigned to the concept.
+-- Whether the candidates have the number, and the posting with that number is assigned to the concept after the changes
+-- of the plan so far. For a posting that the plan hasn't changed, `by_tables` says whether the tables have it assigned
+-- to the concept.
 abbrev pub is_assigned_candidate : PlanPostings → List ℕ → Number → Bool → ℕ → Bool
 is_assigned_candidate postings candidates concept by_tables n =
     has_number candidates n && is_assigned_by concept by_tables (placement_of postings n)

@@ -1,5 +1,5 @@
-//! The postings that the requests of a plan have changed so far, over the tables of the storage, in
-//! which nothing is changed yet.
+//! The postings that the requests of a plan have changed so far, over tables in which nothing is
+//! changed yet.
 #![tactic(auto)]
 
 pub mod plan_postings;

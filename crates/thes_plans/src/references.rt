@@ -36,7 +36,7 @@ fn request_at(plan: &[PlanRequest], place: u32) -> Option<&PlanRequest>
     plan.get((place as usize).checked_sub(1)?)
 }
 
-// Checks that there is no reference, or that it is to an earlier request that creates a resource.
+// Returns whether there is no reference, or one to an earlier request that creates a resource.
 fn refers_to_resource(earlier: &[PlanRequest], reference: Option<u32>) -> bool
     ensures { IsTrue result ↔ IsGoodReference MakesResource earlier.now reference }
 {
@@ -49,7 +49,7 @@ fn refers_to_resource(earlier: &[PlanRequest], reference: Option<u32>) -> bool
     }
 }
 
-// Checks that there is no reference, or that it is to an earlier request that makes or finds a
+// Returns whether there is no reference, or one to an earlier request that makes or finds a
 // posting.
 fn refers_to_posting(earlier: &[PlanRequest], reference: Option<u32>) -> bool
     ensures { IsTrue result ↔ IsGoodReference MakesPosting earlier.now reference }
@@ -63,7 +63,7 @@ fn refers_to_posting(earlier: &[PlanRequest], reference: Option<u32>) -> bool
     }
 }
 
-// Checks that the command's first number has no reference, or one to an earlier request that
+// Returns whether the command's first number has no reference, or one to an earlier request that
 // creates a resource, or, for a Withdraw, makes or finds a posting.
 fn has_good_first(earlier: &[PlanRequest], asked: &PlanRequest) -> bool
     ensures { IsTrue result ↔ IsGoodReference (MakesFirst asked.now.command) earlier.now asked.now.first }
@@ -74,7 +74,8 @@ fn has_good_first(earlier: &[PlanRequest], asked: &PlanRequest) -> bool
     }
 }
 
-// Checks that each reference of the request is to an earlier request that makes what is asked for.
+// Returns whether each reference of the request is to an earlier request that makes what is asked
+// for.
 fn has_good_references(earlier: &[PlanRequest], asked: &PlanRequest) -> bool
     ensures { IsTrue result ↔ HasGoodReferences earlier.now asked.now }
 {

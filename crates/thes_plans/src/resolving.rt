@@ -70,9 +70,9 @@ fn postings_for(
     Ok(numbers)
 }
 
-/// Returns the command of a request, with each reference replaced by the number that the answers to
-/// the requests before it have. A number stays, if the answers have none for its reference. Texts
-/// are moved, not copied.
+/// Returns the command of a plan's request, with each reference replaced by the number in the
+/// answer to which it leads. The command's own number stays if `answers`, those to the requests
+/// before it, have none. Texts are moved, not copied.
 pub fn resolve(alloc: Global, answers: &[Answer], asked: PlanRequest) -> Result<Command, AllocError>
     ensures { IfOk result (λ command. command ≡ resolved_command answers.now asked) }
 {

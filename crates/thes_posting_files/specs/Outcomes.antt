@@ -28,15 +28,15 @@ abbrev pub fault_of_row : CsvRow → Option FormFault
 fault_of_row (row.Post key rec concept) = None
 fault_of_row (row.Bad fault) = Some fault
 
--- The outcomes of rows with these faults, where the postings, which have no fault, have these
--- answers. They end before the first posting without an answer.
+-- The outcomes of rows, given the fault of each row (None for a posting) and the answers to the postings, in order. The
+-- outcomes end before the first posting without an answer.
 abbrev pub outcomes_of : List (Option FormFault) → List Answer → List Outcome
 outcomes_of [] answers = []
 outcomes_of (Some fault ∷ faults) answers = outcome.Bad fault ∷ outcomes_of faults answers
 outcomes_of (None ∷ faults) [] = []
 outcomes_of (None ∷ faults) (answer ∷ answers) = outcome.Reply answer ∷ outcomes_of faults answers
 
--- The answer in an outcome, if the row is a posting.
+-- The answer in the outcome of a row; None if the outcome is a fault, since the row isn't a posting.
 abbrev pub answer_in : Outcome → Option Answer
 answer_in (outcome.Reply answer) = Some answer
 answer_in (outcome.Bad fault) = None

@@ -1,4 +1,4 @@
-//! Reads the rows of posting files, which are CSV, and makes the lines of reports.
+//! Reads rows of posting files (CSV), and makes lines of reports.
 #![tactic(auto)]
 
 pub mod block;

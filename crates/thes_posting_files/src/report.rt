@@ -87,7 +87,7 @@ impl Report {
         })
     }
 
-    /// Reserves memory for this number of lines.
+    /// Reserves memory for this number of further lines, at most 1,000.
     pub fn make_room(&mut self, lines: usize) -> Result<(), AllocError>
         requires { lines ≤ 1000 }
         ensures text { self.new.text.items ≡ self.old.text.items }

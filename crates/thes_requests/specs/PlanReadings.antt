@@ -93,7 +93,7 @@ pub record IsPlanRequest (d : Data) (asked : PlanRequest) : Type 0 where
   pub second : asked.second ≡ reference_at (second_name verb) d
   pub postings : asked.postings.items ≡ listed_references verb d
 
--- The value isn't a request of a plan, for this fault.
+-- The value isn't a request of a plan, and this is the fault that reading it returns.
 abbrev pub IsNoPlanRequest : Data → FormFault → Type 0
 IsNoPlanRequest d f = ReadsAs (plan_command_in d) (Err f)
 
@@ -104,7 +104,7 @@ AreRequests [] (asked ∷ plan) = ⊥
 AreRequests (d ∷ ds) [] = ⊥
 AreRequests (d ∷ ds) (asked ∷ plan) = IsPlanRequest d asked × AreRequests ds plan
 
--- The value at this place, from 1, isn't a request, for this fault, and those before it are.
+-- The value at this place, counted from 1, isn't a request, and this is its fault; all values before it are requests.
 pub record IsFirstMalformed (ds : List Data) (place : ℕ) (f : FormFault) : Type 0 where
   pub before : List Data
   pub d : Data

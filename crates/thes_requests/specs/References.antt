@@ -22,8 +22,8 @@ begins_place (b ∷ c ∷ bs) = not (b == 48)
 abbrev pub is_place : List ℕ → Bool
 is_place bytes = list_all is_ascii_digit bytes && begins_place bytes
 
--- The place to which a text refers: a dollar sign, and the digits of the place. A greater place than the greatest one
--- is read as that.
+-- The place to which a text refers: a dollar sign, and the digits of the place. A place beyond `greatest_place` is read
+-- as `greatest_place`.
 abbrev pub place_in : List ℕ → Option ℕ
 place_in [] = None
 place_in (b ∷ digits) =

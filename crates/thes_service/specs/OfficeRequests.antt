@@ -15,7 +15,7 @@ use Rattle.thes_exchange.specs.QueryAnswers.{IsQueryAnswer}
 use Rattle.thes_requests.specs.RequestBehaviour.{RequestBehaviour}
 use Rattle.thes_requests.specs.Serving.{LineBehaviour, Serves}
 
--- An office accepts calls at any time, since it reloads a stale copy of its tables.
+-- Whether an office accepts calls: always, since it reloads a stale copy of its tables.
 abbrev pub is_always_open : {K : Type 0} → OfficeView K → Bool
 is_always_open office = true
 

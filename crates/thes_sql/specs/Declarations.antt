@@ -31,64 +31,64 @@ abbrev pub is_binary : Collation → Bool
 is_binary Binary = true
 is_binary _ = false
 
--- The column has this name, in upper or lower case, takes only values of its declared type, and compares texts by their
--- bytes.
+-- Whether the column has this name, in upper or lower case, takes only values of its declared type, and compares texts
+-- by their bytes.
 abbrev pub is_strict : List ℕ → Column → Bool
 is_strict name c = same_name c.name name && (c.is_strict && is_binary c.collation)
 
--- The column has this name, and takes only integers or NULL.
+-- Whether the column has this name, and takes only integers or NULL.
 abbrev pub is_key : List ℕ → Column → Bool
 is_key name c = is_strict name c && (is_integer c.kind && not c.not_null)
 
--- The column has this name, and takes only integers.
+-- Whether the column has this name, and takes only integers.
 abbrev pub is_number : List ℕ → Column → Bool
 is_number name c = is_strict name c && (is_integer c.kind && c.not_null)
 
--- The column has this name, and takes only texts.
+-- Whether the column has this name, and takes only texts.
 abbrev pub is_words : List ℕ → Column → Bool
 is_words name c = is_strict name c && (is_text c.kind && c.not_null)
 
--- The column mustn't be NULL.
+-- Whether the column is declared NOT NULL.
 abbrev pub needs_value : Column → Bool
 needs_value c = c.not_null
 
--- Each of the columns may be NULL.
+-- Whether each of the columns may be NULL.
 abbrev pub are_optional : List Column → Bool
 are_optional columns = not (list_any needs_value columns)
 
--- The columns are those of table meta, perhaps followed by columns that may be NULL.
+-- Whether the columns are those of table meta, perhaps followed by columns that may be NULL.
 abbrev pub has_meta_columns : List Column → Bool
 has_meta_columns (one ∷ version ∷ base ∷ more) =
     is_key (codes "one") one && (is_number (codes "version") version &&
     (is_words (codes "base") base && are_optional more))
 has_meta_columns _ = false
 
--- The columns are those of table resource, perhaps followed by columns that may be NULL.
+-- Whether the columns are those of table resource, perhaps followed by columns that may be NULL.
 abbrev pub has_resource_columns : List Column → Bool
 has_resource_columns (num ∷ kind ∷ scheme ∷ live ∷ replaced ∷ more) =
     is_key (codes "num") num && (is_number (codes "kind") kind && (is_key (codes "scheme") scheme
     && (is_number (codes "live") live && (is_key (codes "replaced") replaced && are_optional more))))
 has_resource_columns _ = false
 
--- The columns are those of table outside, perhaps followed by columns that may be NULL.
+-- Whether the columns are those of table outside, perhaps followed by columns that may be NULL.
 abbrev pub has_outside_columns : List Column → Bool
 has_outside_columns (num ∷ iri ∷ more) = is_key (codes "num") num && (is_words (codes "iri") iri && are_optional more)
 has_outside_columns _ = false
 
--- The columns are those of table label, perhaps followed by columns that may be NULL.
+-- Whether the columns are those of table label, perhaps followed by columns that may be NULL.
 abbrev pub has_label_columns : List Column → Bool
 has_label_columns (owner ∷ kind ∷ tag ∷ text ∷ more) =
     is_number (codes "owner") owner && (is_number (codes "kind") kind && (is_words (codes "tag") tag
     && (is_words (codes "text") text && are_optional more)))
 has_label_columns _ = false
 
--- The columns are three columns of integers with these names, perhaps followed by columns that may be NULL.
+-- Whether the columns are three columns of integers with these names, perhaps followed by columns that may be NULL.
 abbrev pub has_three_columns : List ℕ → List ℕ → List ℕ → List Column → Bool
 has_three_columns first second third (a ∷ b ∷ c ∷ more) =
     is_number first a && (is_number second b && (is_number third c && are_optional more))
 has_three_columns first second third _ = false
 
--- The columns are those of table posting, perhaps followed by columns that may be NULL.
+-- Whether the columns are those of table posting, perhaps followed by columns that may be NULL.
 abbrev pub has_posting_columns : List Column → Bool
 has_posting_columns (num ∷ pkey ∷ record_name ∷ first ∷ place ∷ withdrawn ∷ more) =
     is_key (codes "num") num && (is_words (codes "pkey") pkey && (is_words (codes "record") record_name
@@ -96,13 +96,13 @@ has_posting_columns (num ∷ pkey ∷ record_name ∷ first ∷ place ∷ withdr
     && (is_number (codes "withdrawn") withdrawn && are_optional more)))))
 has_posting_columns _ = false
 
--- The columns are those of table move, perhaps followed by columns that may be NULL.
+-- Whether the columns are those of table move, perhaps followed by columns that may be NULL.
 abbrev pub has_move_columns : List Column → Bool
 has_move_columns (num ∷ more) =
     is_key (codes "num") num && has_three_columns (codes "posting") (codes "source") (codes "target") more
 has_move_columns _ = false
 
--- The columns are those that a store's table of this name has, perhaps followed by columns that may be NULL.
+-- Whether the columns are those that a store's table of this name has, perhaps followed by columns that may be NULL.
 abbrev pub has_columns : Table → List Column → Bool
 has_columns table.Meta columns = has_meta_columns columns
 has_columns table.Resource columns = has_resource_columns columns
@@ -113,55 +113,57 @@ has_columns table.Hier columns = has_three_columns (codes "a") (codes "b") (code
 has_columns table.Posting columns = has_posting_columns columns
 has_columns table.Move columns = has_move_columns columns
 
--- The first column of the table is its rowid; `at` is the position of the column that is the rowid, counted from 0.
+-- Whether the first column of the table is its rowid; `at` is the position of the column that is the rowid, counted
+-- from 0.
 abbrev pub is_numbered : Option ℕ → Bool
 is_numbered (Some at) = at == 0
 is_numbered None = false
 
--- The table has no key other than its rowid; the lists are the other keys, each with the positions of its columns.
+-- Whether the table has no key other than its rowid; the lists are the other keys, each with the positions of its
+-- columns.
 abbrev pub has_no_key : List (List ℕ) → Bool
 has_no_key [] = true
 has_no_key _ = false
 
--- The key has only the second column, by the positions of its columns, counted from 1.
+-- Whether the key has only the second column, by the positions of its columns, counted from 1.
 abbrev pub is_second : List ℕ → Bool
 is_second (a ∷ []) = a == 2
 is_second _ = false
 
--- The key has exactly the first three columns, in order, by their positions, counted from 1.
+-- Whether the key has exactly the first three columns, in order, by their positions, counted from 1.
 abbrev pub are_three : List ℕ → Bool
 are_three (a ∷ b ∷ c ∷ []) = a == 1 && (b == 2 && c == 3)
 are_three _ = false
 
--- The key has exactly the first four columns, in order, by their positions, counted from 1.
+-- Whether the key has exactly the first four columns, in order, by their positions, counted from 1.
 abbrev pub are_four : List ℕ → Bool
 are_four (a ∷ b ∷ c ∷ d ∷ []) = a == 1 && (b == 2 && (c == 3 && d == 4))
 are_four _ = false
 
--- The second column is the only key of the table other than its rowid.
+-- Whether the second column is the only key of the table other than its rowid.
 abbrev pub has_second_as_key : List (List ℕ) → Bool
 has_second_as_key (key ∷ []) = is_second key
 has_second_as_key _ = false
 
--- The first three columns together are the only key of the table other than its rowid.
+-- Whether the first three columns together are the only key of the table other than its rowid.
 abbrev pub has_three_as_key : List (List ℕ) → Bool
 has_three_as_key (key ∷ []) = are_three key
 has_three_as_key _ = false
 
--- The first four columns together are the only key of the table other than its rowid.
+-- Whether the first four columns together are the only key of the table other than its rowid.
 abbrev pub has_four_as_key : List (List ℕ) → Bool
 has_four_as_key (key ∷ []) = are_four key
 has_four_as_key _ = false
 
--- The rowid is the only key of the table.
+-- Whether the rowid is the only key of the table.
 abbrev pub has_number_alone : FoundTable → Bool
 has_number_alone t = is_numbered t.key && has_no_key t.uniques
 
--- The rowid and the second column are the only keys of the table.
+-- Whether the rowid and the second column are the only keys of the table.
 abbrev pub has_number_and_second : FoundTable → Bool
 has_number_and_second t = is_numbered t.key && has_second_as_key t.uniques
 
--- The keys of the table are those that a store's table of this name has.
+-- Whether the keys of the table are those that a store's table of this name has.
 abbrev pub has_keys : Table → FoundTable → Bool
 has_keys table.Meta t = has_number_alone t
 has_keys table.Resource t = has_number_alone t
@@ -172,42 +174,42 @@ has_keys table.Hier t = has_three_as_key t.uniques
 has_keys table.Posting t = has_number_and_second t
 has_keys table.Move t = has_number_alone t
 
--- The table has no foreign keys.
+-- Whether the table has no foreign keys.
 abbrev pub has_no_reference : List Reference → Bool
 has_no_reference [] = true
 has_no_reference _ = false
 
--- The table has neither foreign keys nor AUTOINCREMENT.
+-- Whether the table has neither foreign keys nor AUTOINCREMENT.
 abbrev pub is_plain : FoundTable → Bool
 is_plain t = has_no_reference t.references && not t.is_counted
 
--- The name of the index begins with `sqlite_`, like the names that SQLite gives to the indexes of keys.
+-- Whether the name of the index begins with `sqlite_`, like the names that SQLite gives to the indexes of keys.
 abbrev pub is_automatic : List ℕ → Bool
 is_automatic (a ∷ b ∷ c ∷ d ∷ e ∷ f ∷ g ∷ rest) =
     a == 115 && (b == 113 && (c == 108 && (d == 105 && (e == 116 && (f == 101 && g == 95)))))
 is_automatic _ = false
 
--- The index was made by a statement CREATE UNIQUE INDEX on the table in this tree, and so adds a key to it.
+-- Whether the index was made by a statement CREATE UNIQUE INDEX on the table in this tree, and so adds a key to it.
 abbrev pub adds_key : ℕ → Index → Bool
 adds_key tree index = index.table == tree && (index.is_unique && not (is_automatic index.name))
 
--- The table is declared as a store's table of this name. It has the columns and keys of that table, and perhaps further
--- columns that may be NULL. It has no foreign keys and no AUTOINCREMENT, and none of the schema's indexes adds a key to
--- it.
+-- Whether the table is declared as a store's table of this name: it has the columns and keys of that table, and perhaps
+-- further columns that may be NULL; it has no foreign keys and no AUTOINCREMENT, and none of the schema's indexes adds
+-- a key to it.
 abbrev pub is_as_created : Table → List Index → FoundTable → Bool
 is_as_created name indexes t =
     has_columns name t.columns && (has_keys name t && (is_plain t && not (list_any (adds_key t.tree) indexes)))
 
--- There is a table, and it is declared as a store's table of this name.
+-- Whether there is a table, and it is declared as a store's table of this name.
 abbrev pub is_found_as_created : Table → List Index → Option FoundTable → Bool
 is_found_as_created name indexes (Some t) = is_as_created name indexes t
 is_found_as_created name indexes None = false
 
--- The schema has a table at this position, and declares it as a store's table of this name.
+-- Whether the schema has a table at this position, and declares it as a store's table of this name.
 abbrev pub declares_at : Schema → Table → Option ℕ → Bool
 declares_at schema name (Some at) = is_found_as_created name schema.indexes (slice_get schema.tables at)
 declares_at schema name None = false
 
--- The schema declares a table of this name as a store does.
+-- Whether the schema declares a table of this name as a store does.
 unfoldable pub declares : Schema → Table → Bool
 declares schema name = declares_at schema name (table_named schema (table_name name))

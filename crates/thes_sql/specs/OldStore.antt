@@ -81,7 +81,7 @@ HasMovedLinks t db = IsMigrating db (tables_after_migration t)
 abbrev pub IsMigratedStore : Tables → Database → Type 0
 IsMigratedStore t db = KeepsIn store_schema db (tables_after_migration t)
 
--- The database has the schema of version 1, or that of version 2, perhaps with a user's additions.
+-- The database has exactly the schema of version 1, or that of version 2 with or without a user's additions.
 abbrev pub HasKnownSchema : Database → Type 0
 HasKnownSchema db = IsStoreSchema db.schema ⊎ (db.schema ≡ old_schema)
 

@@ -19,18 +19,18 @@ use Rattle.sqlite_resolve.specs.declared.compiled.Compiled.{Compiled}
 use Rattle.sqlite_trees.specs.declared.error.StoreError.{StoreError}
 use Rattle.sqlite_trees.specs.declared.store.Store.{Ghosts}
 
--- The statement is a query.
+-- Whether the statement is a query.
 abbrev pub reads_rows : Statement → Bool
 reads_rows (Select s) = true
 reads_rows _ = false
 
--- The result of parsing a text is a query that doesn't read the time; an error isn't one.
+-- Whether the result of parsing a text is a query that doesn't read the time; an error isn't one.
 abbrev pub is_query_text : Result Parsed CompileError → Bool
 is_query_text (Ok p) = reads_rows p.statement && length p.formats == 0
 is_query_text (Err e) = false
 
--- The result of parsing a text of this size is a statement without parameters, after which nothing comes; an error
--- isn't one.
+-- Whether the result of parsing a text of this size is a statement without parameters, after which nothing comes; an
+-- error isn't one.
 abbrev pub is_whole_text : ℕ → Result Parsed CompileError → Bool
 is_whole_text size (Ok p) = length p.names == 0 && leb size p.tail
 is_whole_text size (Err e) = false
@@ -43,7 +43,7 @@ IsQuery sql = is_query_text (first sql) ≡ true
 abbrev pub IsWholeQuery : List ℕ → Type 0
 IsWholeQuery sql = IsQuery sql × (is_whole_text (length sql) (first sql) ≡ true)
 
--- The query compiles: the schema has all tables and columns that it names.
+-- Whether the query compiles: the schema has all tables and columns that it names.
 abbrev pub compiles : Schema → List ℕ → Bool
 compiles schema sql = is_ok (understood schema sql)
 
@@ -62,7 +62,7 @@ Finds sql db None =
 abbrev pub IsStoreFault : State → State → Error → Type 0
 IsStoreFault old new e = (cause : StoreError) × (e ≡ store_error cause) × HasCause old new ⊥ cause
 
--- The error says that a query doesn't compile, or that its values have no result.
+-- Whether the error says that a query doesn't compile, or that its values have no result.
 abbrev pub finds_nothing : Error → Bool
 finds_nothing (SqlInputError fault) = true
 finds_nothing (SqliteFailure TypeMismatch) = true

@@ -19,31 +19,31 @@ use Rattle.thes_tables.specs.declared.rows.MoveRow.{MoveRow}
 use Rattle.thes_tables.specs.Tables.{Tables, hier_link}
 use Rattle.thes_sql.specs.StoredRows.{Keeps, numbered_from}
 
--- A resource has the number.
+-- Whether a resource has the number.
 abbrev pub has_resource : ℕ → Tables → Bool
 has_resource n t = list_any (λ (row : ℕ × Resource). row.0 == n) (numbered_from 1 t.resource)
 
--- The resource with the number is dead.
+-- Whether the resource with the number is dead.
 abbrev pub has_dead : ℕ → Tables → Bool
 has_dead n t = list_any (λ (row : ℕ × Resource). row.0 == n && not row.1.live) (numbered_from 1 t.resource)
 
--- An outside concept has the number.
+-- Whether an outside concept has the number.
 abbrev pub has_outside : ℕ → Tables → Bool
 has_outside n t = list_any (λ (row : ℕ × List ℕ). row.0 == n) t.outside
 
--- A posting has the number.
+-- Whether a posting has the number.
 abbrev pub has_posting : ℕ → Tables → Bool
 has_posting n t = list_any (λ (x : PostingRow). x.number == n) t.posting
 
--- The posting with the number is withdrawn.
+-- Whether the posting with the number is withdrawn.
 abbrev pub has_withdrawn : ℕ → Tables → Bool
 has_withdrawn n t = list_any (λ (x : PostingRow). x.number == n && x.withdrawn) t.posting
 
--- A move has the number.
+-- Whether a move has the number.
 abbrev pub has_move : ℕ → Tables → Bool
 has_move n t = list_any (λ (x : MoveRow). x.number == n) t.move
 
--- Both rows of table hier encode the same link.
+-- Whether both rows of table hier encode the same link.
 abbrev pub is_same_hier : HierRow → HierRow → Bool
 is_same_hier a b = eq_by_cmp link_cmp (hier_link a) (hier_link b)
 
@@ -51,7 +51,7 @@ is_same_hier a b = eq_by_cmp link_cmp (hier_link a) (hier_link b)
 abbrev pub ListedRow : Type 0
 ListedRow = Label ⊎ (Link ⊎ HierRow)
 
--- The tables have the row.
+-- Whether the tables have the row.
 abbrev pub has_listed : ListedRow → Tables → Bool
 has_listed (inl label) t = list_any (λ x. eq_by_cmp label_cmp x label) t.label
 has_listed (inr (inl link)) t = list_any (λ x. eq_by_cmp link_cmp x link) t.link
@@ -67,13 +67,13 @@ row_of (change.AddHier row) = Some (inr (inr row))
 row_of (change.DropHier row) = Some (inr (inr row))
 row_of _ = None
 
--- The tables have the row; false for None.
+-- Whether the tables have the row; false for None.
 abbrev pub has_row : Option ListedRow → Tables → Bool
 has_row None t = false
 has_row (Some row) t = has_listed row t
 
--- The tables show the change: they have the row that it inserts, found by its number if it has one, lack the row that
--- it deletes, or have the mark that it sets. A change of places shows nowhere.
+-- Whether the tables show the change: they have the row that it inserts, found by its number if it has one, lack the
+-- row that it deletes, or have the mark that it sets. False for a change of places, which no table shows.
 abbrev pub shows_change : Change → Tables → Bool
 shows_change (change.AddResource n r) t = has_resource n t
 shows_change (change.Retire n) t = has_dead n t

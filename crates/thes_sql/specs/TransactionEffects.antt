@@ -83,7 +83,8 @@ StaysInside g old new =
     → KeepsCommit (state g old.now) (state g new.now))
     × Survives (state g old.now) (state g new.now) (λ _. ⊥)
 
--- The call is a transaction of its own; if one is open already, it returns false and changes nothing.
+-- The call runs in a transaction of its own, and returns true; if a transaction is open already, it returns false and
+-- changes nothing.
 pub record IsOwnTransaction {S E : Type 0} (g : Ghosts S) (old new : Held S) (r : Result Bool E) : Type 0 where
   pub busy : old.in_transaction ≡ true → (r ≡ Ok false) × (new ≡ old)
   pub begins : old.in_transaction ≡ false → IfOk r (λ done. IsTrue done)

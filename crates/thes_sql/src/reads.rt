@@ -26,16 +26,16 @@ pub fn table_query(table: Table) -> &'static str
     }
 }
 
-/// Returns the query for the rows of the postings that are assigned to the concept that is its
-/// parameter, sorted by number.
+/// Returns the query for the rows of the postings that are assigned to a concept, the query's
+/// parameter; the rows are sorted by number.
 pub fn assigned_query() -> &'static str
     ensures { result.now ≡ assigned_text }
 {
     "SELECT num, pkey, record, first_at, at, withdrawn FROM posting WHERE at = ?1 AND withdrawn = 0 ORDER BY num"
 }
 
-/// Returns the query for the numbers of the postings that are assigned to the concept that is its
-/// parameter, in increasing order.
+/// Returns the query for the numbers of the postings that are assigned to a concept, the query's
+/// parameter; the numbers are in increasing order.
 pub fn assigned_numbers_query() -> &'static str
     ensures { result.now ≡ assigned_numbers_text }
 {

@@ -8,7 +8,7 @@ ghost use Rattle.thes_sql.specs.Queries.{FindResult, CompileResult, KeepsDatabas
 
 use sqlite::{Alter, Connection, Error, Row};
 
-/// Reads the rows of table meta, of which a store of either version has one.
+/// Reads the rows of table meta; a store of either version has exactly one.
 pub fn version_rows<S: Alter>(conn: &mut Connection<S>) -> Result<Vec<Row>, Error>
     ensures finds { FindResult S.Store (read_text table.Meta) conn.old conn.new result
         (λ rows. rows.items) }

@@ -29,14 +29,15 @@ error_cause (SqliteFailure codes.DatabaseCorrupt) = causes.Damaged
 error_cause (SqliteFailure codes.DiskFull) = causes.Full
 error_cause _ = causes.Other
 
--- The cause of an error of opening a database, by how far it got: to the schema, or to the rows, which must obey it.
+-- The cause of an error of opening a database. NotADatabase becomes a more exact cause by how far the opening got:
+-- UnknownSchema if to the schema, Damaged if to the rows, which must obey the schema.
 abbrev pub cause_at : {D : Type 0} {g : disk.Ghosts D} → Cause → Leftover D g → Cause
 cause_at causes.NotADatabase (left.Files files) = causes.NotADatabase
 cause_at causes.NotADatabase (left.Unopened files) = causes.UnknownSchema
 cause_at causes.NotADatabase (left.Store store) = causes.Damaged
 cause_at cause _ = cause
 
--- The cause of an error of opening a database, of which this is left.
+-- The cause of an error of opening a database, given what the failed opening left.
 abbrev pub opening_cause : {D : Type 0} {g : disk.Ghosts D} → Error → Leftover D g → Cause
 opening_cause error rest = cause_at (error_cause error) rest
 

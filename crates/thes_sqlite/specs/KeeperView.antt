@@ -81,7 +81,7 @@ raw_of_keeper g k = raw_in (state g k.conn).now.trees
 abbrev pub IsKeeperUp : {S : Type 0} → Ghosts S → KeeperView S → Type 0
 IsKeeperUp g k = IsStore (state g k.first) × IsUp (state g k.conn)
 
--- The storage as any storage is seen.
+-- The view that contracts have of any storage: here, of storage in a database.
 abbrev pub storage_view : {S : Type 0} → Ghosts S → KeeperView S → StorageView
 storage_view g k = record { rows = raw_of_keeper g k; is_up = IsKeeperUp g k; failures = k.failures }
 

@@ -14,7 +14,7 @@ use Rattle.thes_tables.specs.Tables.{Tables}
 use Rattle.thes_sql.specs.StoredRows.{Keeps}
 use Rattle.thes_sql.specs.Traces.{ListedRow, is_same_hier, row_of, has_row, shows_change}
 
--- The change inserts a row that is never deleted.
+-- Whether the change inserts a row that is never deleted.
 abbrev pub inserts_for_good : Change → Bool
 inserts_for_good (change.AddResource n r) = true
 inserts_for_good (change.AddOutside n iri) = true
@@ -22,32 +22,32 @@ inserts_for_good (change.AddPosting row) = true
 inserts_for_good (change.AddMove row) = true
 inserts_for_good _ = false
 
--- The change marks a row, and no change removes the mark.
+-- Whether the change marks a row, and no change removes the mark.
 abbrev pub marks_for_good : Change → Bool
 marks_for_good (change.Retire n) = true
 marks_for_good (change.Replace n by) = true
 marks_for_good (change.Withdraw n) = true
 marks_for_good _ = false
 
--- The change sets the places of postings, and inserts no move.
+-- Whether the change sets the places of postings, and inserts no move.
 abbrev pub sets_places : Change → Bool
 sets_places (change.SetPlace n place) = true
 sets_places (change.MoveAll source target) = true
 sets_places _ = false
 
--- Both are the same row of label, link or hier.
+-- Whether both are the same row of label, link or hier.
 abbrev pub is_equal_row : ListedRow → ListedRow → Bool
 is_equal_row (inl a) (inl b) = eq_by_cmp label_cmp a b
 is_equal_row (inr (inl a)) (inr (inl b)) = eq_by_cmp link_cmp a b
 is_equal_row (inr (inr a)) (inr (inr b)) = is_same_hier a b
 is_equal_row _ _ = false
 
--- There are two rows of label, link or hier, and they are the same.
+-- Whether there are two rows of label, link or hier, and they are the same.
 abbrev pub are_same : Option ListedRow → Option ListedRow → Bool
 are_same (Some a) (Some b) = is_equal_row a b
 are_same _ _ = false
 
--- The changes insert or delete the row an odd number of times: insertions and deletions of a row alternate.
+-- Whether the changes insert or delete the row an odd number of times: insertions and deletions of a row alternate.
 abbrev pub turns : List Change → Option ListedRow → Bool
 turns [] row = false
 turns (c ∷ changes) row = cond (are_same (row_of c) row) (not (turns changes row)) (turns changes row)
@@ -64,7 +64,8 @@ abbrev pub telling : List Change → Option Change
 telling changes =
     option_or (find inserts_for_good changes) (option_or (find marks_for_good changes) (last_turning changes changes))
 
--- The change has an effect: the tables after it show it, and those before it don't; any change of places has one.
+-- The change has an effect: the tables after it show it, and those before it don't; a change of places always counts as
+-- having an effect.
 abbrev pub HasEffect : Change → Tables → Type 0
 HasEffect (change.SetPlace n place) t = Unit {0}
 HasEffect (change.MoveAll source target) t = Unit {0}

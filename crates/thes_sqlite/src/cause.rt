@@ -82,7 +82,7 @@ pub fn cause_of(error: Error) -> Cause
 }
 
 /// Returns the cause of an error of opening a database in files that are open. What is left of them
-/// shows how far the opening got: to the schema, or to the rows, which must obey it.
+/// shows how far the opening got: to the schema, or to the rows, which must obey the schema.
 pub(crate) fn cause_of_opening<D: Disk>(error: Error, left: &Leftover<D>) -> Cause
     ensures { result ≡ causes.opening_cause error left.now }
 {

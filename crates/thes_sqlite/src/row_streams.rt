@@ -104,7 +104,7 @@ fn yield_posting<P: PostingSink>(alloc: Global, row: &Row, sink: &mut P) -> Resu
     }
 }
 
-/// Passes the postings that are assigned to the concept to a sink as they are read, sorted by
+/// Passes to a sink the postings that are assigned to the concept, as they are read, sorted by
 /// number.
 pub(crate) fn yield_postings<S: Alter, P: PostingSink>(
     alloc: Global,

@@ -17,8 +17,8 @@ use thes_sql::outcome::has_change;
 use thes_tables::change::Change;
 use thes_tables::rows::{HierRow, LabelRow};
 
-// Returns whether a change inserts a row that is never deleted, and so shows after a failed commit
-// whether the change was made.
+// Returns whether a change inserts a row that is never deleted, so that the row shows after a
+// failed commit whether the change was made.
 fn inserts_for_good(change: &Change) -> bool
     ensures { result ≡ telling.inserts_for_good change.now }
 {
@@ -31,8 +31,8 @@ fn inserts_for_good(change: &Change) -> bool
     }
 }
 
-// Returns whether a change marks a row, and no other change removes the mark, which so shows after
-// a failed commit whether the change was made.
+// Returns whether a change marks a row, and no other change removes the mark, so that the mark
+// shows after a failed commit whether the change was made.
 fn marks_for_good(change: &Change) -> bool
     ensures { result ≡ telling.marks_for_good change.now }
 {
@@ -176,7 +176,7 @@ fn set_places(changes: &[Change]) -> bool
 
 /// Checks whether changes whose commit failed were made; None if the database can't be queried, or
 /// if places of postings are all that they change. Changes that leave the rows as they were count
-/// as made, but no changes don't.
+/// as made, an empty list of changes as not made.
 #[tactic(auto, using(crate::proofs::TellingLemmas::tells_by_change, crate::proofs::TellingLemmas::tells_nothing, crate::proofs::TellingLemmas::tells_without_change))]
 pub(crate) fn has_changes<S: Alter>(conn: &mut Connection<S>, changes: &[Change]) -> Option<bool>
     ensures tells { HasCleanDisk (state S.Store conn.new)

@@ -6,8 +6,8 @@ use Rattle.thes_tables.specs.declared.cells.Cell.{Cell}
 use Rattle.thes_tables.specs.Cells.{Raw}
 use Rattle.thes_store.specs.Sinks.{SinkAcceptsAll, sink_rows}
 
--- If the storage is still open after a load, it was before, and what might be found in its tables may still be found;
--- if the load succeeded, it has passed to the sink rows that might be found.
+-- If the storage is still open after a load, it was open before, all rows that might be found in its tables before may
+-- still be found, and a load that succeeded has passed such rows to the sink.
 pub record PassesFound {K S : Type 0} (is_open : K → Type 0) (finds : K → Raw → Type 0)
     (gives : S → Table × Option (List Cell) → Result (Unit {0}) Fault → S → Type 0) (old new : K) (before : S)
     (result : Result (Unit {0}) Fault) (after : S) : Type 0 where

@@ -1,4 +1,5 @@
-//! The trait `Keeper` for storage of the tables, and storage in memory.
+//! The trait `Keeper` for storage of the tables, and storage in memory, which yields its rows as
+//! cells.
 #![tactic(auto)]
 
 mod added_row;

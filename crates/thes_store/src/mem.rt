@@ -128,7 +128,7 @@ fn moves_at(
     Ok(moves)
 }
 
-// Appends a move, if there is one and it is a move of the posting.
+// Appends the move in `row`, unless `row` is None or the move is that of another posting.
 fn push_move(moves: &mut Moves, row: Option<&MoveRow>, posting: PostNo) -> Result<(), AllocError>
     ensures { OnOk result (moves.new
         ≡ moves.old
@@ -144,7 +144,8 @@ fn push_move(moves: &mut Moves, row: Option<&MoveRow>, posting: PostNo) -> Resul
     }
 }
 
-// Appends the number of a posting, if there is one and it is assigned to the concept.
+// Appends the number of the posting in `row`, unless `row` is None or the posting isn't assigned to
+// the concept.
 fn push_number(
     numbers: &mut Vec<PostNo>,
     row: Option<&PostingRow>,
@@ -180,7 +181,8 @@ fn numbers_at(
     Ok(numbers)
 }
 
-// Passes a posting to a sink, if there is one and it is assigned to the concept.
+// Passes the posting in `row` to a sink, unless `row` is None or the posting isn't assigned to the
+// concept.
 fn yield_if_assigned<S: PostingSink>(
     row: Option<&PostingRow>,
     concept: ResNo,
@@ -197,7 +199,7 @@ fn yield_if_assigned<S: PostingSink>(
     }
 }
 
-// Passes the postings at these positions that are assigned to the concept to a sink, in the order
+// Passes to a sink the postings at these positions that are assigned to the concept, in the order
 // of the positions.
 fn yield_postings<S: PostingSink>(
     rows: &[PostingRow],

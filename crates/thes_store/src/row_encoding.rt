@@ -38,7 +38,7 @@ pub trait AsCells {
         ensures err { IfErr result (λ fault. fault ≡ Fault.OutOfMemory) };
 }
 
-// Returns the integer cell of a number.
+// Returns the integer cell that encodes a number of a row in memory.
 fn int(n: u32) -> Cell
     ensures { result ≡ number_cell n }
 {
@@ -55,14 +55,14 @@ fn optional(n: Option<ResNo>) -> Cell
     }
 }
 
-// Returns a cell with a copy of a text.
+// Returns a cell with a copy of a text of a row in memory.
 fn text(alloc: Global, text: &str) -> Result<Cell, AllocError>
     ensures { IfOk result (λ cell. cell ≡ Text text.now) }
 {
     Ok(Cell::Text(CellText::new(alloc, text)?))
 }
 
-// Passes one row of cells to a sink.
+// Passes one row of a table in memory, as cells, to a sink.
 fn yield_row<S: RowSink>(name: Table, row: &[Cell], sink: &mut S) -> Result<(), Fault>
     ensures yields { SinkOutcome S.gives sink.old ((name, Some row.now) ∷ []) result sink.new }
     ensures err { IfErr result (λ fault. fault ≡ Fault.OutOfMemory) }

@@ -76,7 +76,7 @@ impl<T: IndexedRow + Drop> Slots<T> {
         self.expect(changes)
     }
 
-    // Indexes the positions that the rows which the changes insert will get.
+    // Indexes the positions of the rows that the changes will insert.
     fn expect(&mut self, changes: &[Change]) -> Result<(), AllocError>
         requires { vec_len self.old.rows + length changes.now < 2 ^ 64 }
         ensures keeps { GrowsIndex self.old self.new }

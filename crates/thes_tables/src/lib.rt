@@ -1,4 +1,4 @@
-//! The rows and cells of the eight tables, and the changes of rows that requests make.
+//! The rows, cells and order of the eight tables, and changes of rows as data.
 #![tactic(auto)]
 
 pub mod cells;

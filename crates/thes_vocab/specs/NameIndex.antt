@@ -1,5 +1,5 @@
--- The index of preferred labels: for each of those of live concepts, an entry with a digest of the scheme, the language
--- and the text, and with the concept.
+-- The index of preferred labels: for each preferred label of a live concept, an entry with a digest of the scheme, the
+-- language and the text, and with the concept.
 use Rattle.std.specs.Prelude.{◌≡◌, ◌<◌, ◌%◌, ◌^◌, ◌&&◌, ◌==◌, ℕ, List, Bool, true, Option, Some, fold, length}
 use Rattle.std.specs.declared.cmp.Ordering.{Ordering}
 use Rattle.std.specs.Ordering.{nat_cmp, ordering_then}

@@ -222,7 +222,7 @@ impl LabelTable {
         self.insert(owner, Label { tag, value })
     }
 
-    // Inserts labels of the owner; `gained` is the number of those that it doesn't have.
+    // Inserts labels of the owner; `gained` is the number of those that the owner doesn't have yet.
     pub(crate) fn insert_all(
         &mut self,
         owner: ResNo,

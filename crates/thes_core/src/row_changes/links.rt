@@ -23,7 +23,7 @@ use thes_tables::change::Change;
 use thes_tables::delta::Delta;
 use thes_tables::rows::LabelRow;
 
-// Appends, for each link, the deletion of its row.
+// Appends to the changes of a request, for each link, the deletion of its row.
 fn push_removals(delta: &mut Delta, links: &[Link]) -> Result<(), AllocError>
     ensures { OnOk result (delta.new ≡ delta.old ++ map drop_link links.now) }
 {
@@ -33,7 +33,7 @@ fn push_removals(delta: &mut Delta, links: &[Link]) -> Result<(), AllocError>
     Ok(())
 }
 
-// Appends, for each link, the insertion of its row.
+// Appends to the changes of a request, for each link, the insertion of its row.
 fn push_insertions(delta: &mut Delta, links: &[Link]) -> Result<(), AllocError>
     ensures { OnOk result (delta.new ≡ delta.old ++ map add_link links.now) }
 {
