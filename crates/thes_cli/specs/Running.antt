@@ -32,7 +32,7 @@ use Rattle.thes_cli.specs.declared.streams.Streams.{Streams}
 abbrev pub LeavesNoFiles : {C : Type 0} → Closed C → Type 0
 LeavesNoFiles closed = closed ≡ record { files = None; is_in_doubt = false; is_reopened = false }
 
--- The fault of a posting file, a socket or a store is printed, with which no work could begin, and the status is 3.
+-- The fault of a posting file, a socket or a store that kept work from beginning is printed, and the status is 3.
 pub record PrintsStartFault {E : Type 0} (err : E → Option (List ℕ)) (old new : Pipe E) (status : ℕ) : Type 0 where
   pub text : List ℕ
   pub is_fault : ((failure : OpenFailure) × (text ≡ open_failure_line failure))
@@ -40,9 +40,9 @@ pub record PrintsStartFault {E : Type 0} (err : E → Option (List ℕ)) (old ne
   pub prints_it : Prints err old new text
   pub status_is : status ≡ 3
 
--- How the files of a job end whose work began with the tables `t` in this schema. They hold a store with tables to
--- which a run of the machine leads from `t`; or `t` itself, after the fault of opening the store, or a migration. If
--- the work couldn't begin, files that held a store hold it still.
+-- What the files of a job hold at its end, if its work began with the tables `t` in this schema. They hold a store with
+-- tables to which a run of the machine leads from `t`; or `t` itself, after the fault of opening the store, or a
+-- migration. If the work couldn't begin, files that held a store hold it still.
 pub data EndsInFiles {E : Type 0} (err : E → Option (List ℕ)) (image : Image) (job : Job) (old new : Pipe E)
     (status : ℕ) (holds : Schema → Tables → Type 0) (schema : Schema) (t : Tables) : Type 0 where
   by_work : LeadsInFiles err old new status t (holds schema) → EndsInFiles err image job old new status holds schema t

@@ -73,7 +73,7 @@ EndsIfClosed image base is_clean closed Ends =
     closed.is_reopened ≡ false → IfSome closed.files (λ files. is_clean files → (schema : Schema) (t : Tables)
     → IsInitialStore image base schema t → Ends files schema t)
 
--- What a job leaves whose database no failure has shut: this connection, if there is one.
+-- What a job leaves if no failure has shut its database: this connection, if there is one.
 abbrev pub open_leaving : {S : Type 0} → Option (Held S) → Leaving S
 open_leaving conn = record { conn = conn; is_in_doubt = false; is_reopened = false }
 

@@ -17,7 +17,7 @@ number_option name most = record (option name) { parser = Some (Unsigned 1 most)
 abbrev pub flag : Text → Rule
 flag name = record (new_rule name) { long = Some name; action = Some SetTrue }
 
--- A rule for an option or argument that is required.
+-- The rule for the same option or argument, but as a required one.
 abbrev pub required_rule : Rule → Rule
 required_rule rule = record rule { required = true }
 

@@ -1,5 +1,5 @@
-//! Parses the program's command line into a job, prints faults and refusals, escapes what a
-//! terminal would obey, and determines exit statuses.
+//! Parses the program's command line into a job, decides whether a job makes its store, prints
+//! faults and refusals, escapes what a terminal would obey, and determines exit statuses.
 #![tactic(auto)]
 
 pub mod arguments;

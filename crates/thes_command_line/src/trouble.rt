@@ -5,7 +5,7 @@ ghost use Rattle.thes_command_line.specs.Opening.{words_of};
 
 use thes_base::fault::Fault;
 
-/// The reason for a Store fault of the store in a file.
+/// The reason for the fault `Store` of the store in a file.
 #[derive(Clone, Copy, Debug, PartialEq, Eq)]
 pub enum StoreTrouble {
     /// Another program has the file open.

@@ -139,8 +139,8 @@ fn write_concepts(
     }
 }
 
-// Appends the lines of the symbol for links of this type on a side. Without typed links all
-// concepts on the side are linked by untyped ones.
+// Appends the lines of the symbol for links of this type on a side. If no hierarchical link of the
+// concept has a type, all concepts on the side are listed under the symbol for untyped links.
 fn write_side(
     source: &EntrySource<'_>,
     text: &mut Vec<u8>,

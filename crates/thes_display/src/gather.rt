@@ -112,7 +112,7 @@ fn children_of(
     let n = terms[rank].concept();
     let narrower = core.narrower_of(alloc, n)?;
     let is_typed = has_typed_link(alloc, core, n)?;
-    // Without links to concepts that have no rank (DECISIONS.md, Displays and exports).
+    // Concepts without a rank are left out (DECISIONS.md, Displays and exports).
     let found = ranks_at(alloc, ranked.ranks, narrower.as_slice())?;
     let mut children = Vec::new(alloc);
     for child in &found {

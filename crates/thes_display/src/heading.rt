@@ -122,9 +122,9 @@ fn sort_headings(headings: &mut Vec<Heading>) -> Result<(), AllocError>
     Ok(())
 }
 
-/// Returns the headings of all live concepts of a scheme, in the order of the display. The terms
-/// are collected before the lead-in terms, since either are often in order already, and a sort is
-/// then fast.
+/// Returns the headings of all live concepts of a scheme, in the order of the display. Collects all
+/// terms before the lead-in terms, since each of these two lists is often in order already, and a
+/// sort is then fast.
 pub fn headings_of(
     alloc: Global,
     core: &Core,

@@ -135,13 +135,13 @@ class_in kinds.Concept = Some Concept
 class_in kinds.Collection = Some Collection
 class_in kinds.Outside = None
 
--- The text has exactly the lines about the resource `n`, in the order of their bytes, each once.
+-- The text is the part of an export about the resource `n`: exactly its lines, in the order of their bytes, each once.
 abbrev pub IsPartOf : CoreView → ℕ → List ℕ → Type 0
 IsPartOf core n text =
     (lines : List (List ℕ)) × IsListing (slice_cmp nat_cmp) (IsLineOf (IsResourceTriple core n)) lines
     × (text ≡ concat lines)
 
--- The texts are those of the resources with the numbers from 1 to `most`.
+-- The texts are exactly the parts about the resources with the numbers from 1 to `most`.
 pub record AreParts (core : CoreView) (most : ℕ) (texts : List (List ℕ)) : Type 0 where
   pub sound : (text : List ℕ) → Contains texts text → (n : ℕ) × IsUpTo most (λ m. IsPartOf core m text) n
   pub complete : (n : ℕ) → 1 ≤ n → n ≤ most → (text : List ℕ) × Contains texts text × IsPartOf core n text

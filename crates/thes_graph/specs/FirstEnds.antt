@@ -4,7 +4,7 @@ use Rattle.thes_base.specs.declared.data.Link.{Link}
 use Rattle.thes_base.specs.Links.{Links, Holds}
 use Rattle.thes_graph.specs.declared.sided_links.SidedLink.{SidedLink}
 
--- To the links of the list `old`, the list `new` adds links of the row, among them all whose first end is the node.
+-- The list `new` adds links of the row to the list `old`, among them all whose first end is the node.
 pub record AddsFirstEnds (node : ℕ) (row : List SidedLink) (old new : List Link) : Type 0 where
   pub sound : (l : Link) → Contains new l → Contains old l ⊎ ((s : SidedLink) × Contains row s × (s.link ≡ l))
   pub keeps : (l : Link) → Contains old l → Contains new l

@@ -22,8 +22,8 @@ abbrev pub added_link : GraphView → (source target : ℕ) → Link → Option 
 added_link net source target l = option_and_then (λ m. link_if_new net.links (normal_form (is_marked net) m))
     (link_after_merge source target l)
 
--- The links are exactly those that a merge adds: held after it, and not before. None is listed twice if both source and
--- target or neither are marked as outside concepts.
+-- The links are exactly those that a merge adds: held after it, and not before. None is listed twice if source and
+-- target are both marked as outside concepts, or neither is.
 pub record AreMergeAdditions (net : GraphView) (source target : ℕ) (ms : List Link) : Type 0 where
   pub sound : (m : Link) → Contains ms m → Holds (links_after_merge (is_marked net) source target net.links) m
       × (Holds net.links m → ⊥)

@@ -107,7 +107,8 @@ impl<'a, C: Clock, T> TimedStream<'a, C, T> {
         self.start = Some(start);
         match time_left(time_allowed(self.bytes), now.duration_since(start)) {
             Some(left) => Ok(wait_within(left)),
-            // A failed read or write: no contract of a connection has a clock (DECISIONS.md, HTTP).
+            // The read or write fails like any other, since no contract of a connection has a clock
+            // (DECISIONS.md, HTTP).
             None => Err(io::Error::from(ErrorKind::TimedOut)),
         }
     }

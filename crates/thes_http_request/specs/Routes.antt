@@ -18,7 +18,7 @@ abbrev pub with_scan : Result Scan InsertError → Endpoint → RouteRows → Ro
 with_scan (Ok s) endpoint rows = placed (s.pattern, route_from s endpoint) rows
 with_scan (Err e) endpoint rows = rows
 
--- The rows with one more route.
+-- The rows with one more route, which the text spells; unchanged if the text can't be parsed.
 unfoldable pub with_route : List ℕ → Endpoint → RouteRows → RouteRows
 with_route text endpoint rows = with_scan (parse_route text) endpoint rows
 

@@ -99,9 +99,9 @@ fn import_bytes<W: Write, K: Keeper>(
     write_report(writer, budget, &mut report)?;
     while reader.has_more {
         let done = import_block(alloc, office, &mut reader, &mut report);
-        // Before the next block, so that a killed import has reported all but one (DECISIONS.md,
-        // Posting files); and before a fault of the office is returned, since one of the writer
-        // comes first (The office).
+        // Written before the next block, so that a killed import has reported all blocks but one,
+        // and before a fault of the office is returned, since a fault of the writer comes first
+        // (DECISIONS.md, Posting files and The office).
         write_report(writer, budget, &mut report)?;
         if let Err(fault) = done {
             return Err(ImportStop {

@@ -27,7 +27,7 @@ pub(crate) fn import_block<K: Keeper>(
     // No effect; states for the proof that the tables encode a state.
     let _ = office.is_stale();
     let block = read_block(alloc, reader)?;
-    // Room for the lines before the posts: none is performed without its line.
+    // Room for the lines is made before the posts, so that none is performed without its line.
     report.make_room(block.faults.len())?;
     let mut answers = Vec::new(alloc);
     let ran = office.run(block.posts.as_slice(), &mut answers);

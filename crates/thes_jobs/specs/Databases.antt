@@ -29,7 +29,7 @@ pub record Settles (old new : State) : Type 0 where
   pub was : IsUp new → IsUp old
   pub is_settled : IsUp new → old.now ≡ old.committed → new.now ≡ new.committed
 
--- A database was closed that was up. If it was a store with a schema and some tables, and nothing in it was
+-- A database that was up was closed. If it was a store with a schema and some tables, and nothing in it was
 -- uncommitted, `holds` is true of these.
 pub record ClosesStore (holds : Schema → Tables → Type 0) (s : State) : Type 0 where
   pub was_up : IsUp s

@@ -51,8 +51,8 @@ abbrev pub job_in_memory : Task → StoreSetting → Job
 job_in_memory task setting = record { task = task; file = None; setting = setting }
 
 module _ {S : Type 0} (store : Ghosts S) (image : Image) where
-  -- The connection is that of a database that was opened for the task, and in which nothing was done but that the
-  -- tables of a new store were made, with this base, if it was to have them. It is ready for the task.
+  -- The connection is that of a database that was opened for the task, and is ready for it. Nothing was done in the
+  -- database, except that it got the tables of a new store with this base, if it was to have them.
   pub record IsPreparedFor (task : Task) (base : List ℕ) (conn : Held S) : Type 0 where
     pub database : StoreDatabase S
     pub opens_it : IsOpenedFor task database

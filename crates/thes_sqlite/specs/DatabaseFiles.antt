@@ -31,8 +31,8 @@ abbrev pub IsInitialStore : Image → List ℕ → Schema → Tables → Type 0
 IsInitialStore image base schema t =
     HoldsStore image schema t ⊎ (IsNewFile image × (schema ≡ store_schema) × (t ≡ empty_tables base))
 
--- Nothing in a database is uncommitted, and it is a store with this schema and some tables: with these, if files with
--- these contents hold them.
+-- The database is a store with this schema, and nothing in it is uncommitted. Its tables are these if files with these
+-- contents hold them.
 pub record ServesInitial (image : Image) (schema : Schema) (t : Tables) (s : State) : Type 0 where
   pub settled : s.now ≡ s.committed
   pub tables : Tables

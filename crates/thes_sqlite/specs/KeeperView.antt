@@ -41,8 +41,8 @@ pub record HasCommittedTables (s : State) : Type 0 where
 abbrev pub IsStore : State → Type 0
 IsStore s = IsUp s → HasCommittedTables s
 
--- If the database was opened in files that held a store with a schema and some tables, `held`, the disk hasn't failed
--- silently and the database is open, it is this store, and nothing in it is uncommitted.
+-- `held` states which store, of a schema and tables, the files of the database held when it was opened. If they held
+-- one, the disk hasn't failed silently and the database is open, it is this store, and nothing in it is uncommitted.
 abbrev pub ServesTables : (Schema → Tables → Type 0) → State → Type 0
 ServesTables held s = IsUp s → (schema : Schema) (t : Tables) → held schema t
     → (s.now ≡ s.committed) × KeepsIn schema s.now t

@@ -84,8 +84,8 @@ abbrev pub Judges : {S V : Type 0} → Ghosts S → (Database → Result V Fault
 Judges g Is old new r =
     HasCleanDisk (state g new) → IsErrAnd r (HasFailed (state g old) (state g new)) ⊎ Is (state g old).now r
 
--- What every verdict leaves: success keeps the database and what is committed of it, no result changes a database of
--- committed rows, and a fault is one that a migration returns.
+-- What every verdict leaves: success keeps the database and what is committed of it, no result changes a database in
+-- which nothing is uncommitted, and a fault is one that a migration returns.
 pub record JudgeFrame {S V : Type 0} (g : Ghosts S) (old new : Held S) (r : Result V Fault) : Type 0 where
   pub database : KeepsDatabase g old new r
   pub effect : LeavesAlone g old new

@@ -43,7 +43,7 @@ view_of_connection conn = record {
   is_in_doubt = false;
 }
 
--- The storage over the first connection: that over the open one, unless a failure has shut the first.
+-- The storage over the first connection: None if a failure has shut that, and else the storage over the open one.
 abbrev pub first_storage : {A : Type 0} → Bool → Option A → Option A
 first_storage true storage = None
 first_storage false storage = storage
@@ -133,7 +133,7 @@ pub record LosesShut {S : Type 0} (g : Ghosts S) (image : Image) (k : KeeperView
   pub kept : IsKeeperState (state g k.first) (state g k.conn)
   pub is_shut : HasCleanDisk (state g k.conn) → (state g k.conn).is_open ≡ false
 
--- The first connection is there, or it was lost, and shut before.
+-- The first connection is there (`false`), or it was lost because a failure had shut it (`true`).
 abbrev pub IsKeptOrLost : {S : Type 0} → Ghosts S → Image → Bool → Option (KeeperView S)
     → Option (KeeperView S) → Type 0
 IsKeptOrLost g image false None lost = ⊥

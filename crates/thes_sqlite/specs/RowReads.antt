@@ -12,7 +12,7 @@ use Rattle.thes_sqlite.specs.Faults.{IsKeeperFault}
 use Rattle.thes_sqlite.specs.FoundRows.{PassesTable}
 use Rattle.thes_sqlite.specs.KeeperView.{raw_table}
 
--- What every read of rows keeps: the tables are unchanged, and a fault is one that the storage returns.
+-- What every read of rows keeps: the tables are unchanged, and a fault is OutOfMemory or Store.
 pub record RowReadFrame {S T : Type 0} (g : Ghosts S) (old new : Held S) (result : Result T Fault) : Type 0 where
   pub tables : LeavesTables g old new
   pub fault : IfErr result IsKeeperFault

@@ -1,4 +1,4 @@
--- Which change of a list shows whether all were made, as all were made or none was.
+-- Which change of a list shows whether all of them were made, given that all were or none was.
 use mathlib.Core.Logic.{inl, inr}
 use Rattle.std.specs.Prelude.{◌≡◌, Bool, true, false, not, cond, List, [], ◌∷◌, Option, None, Some}
 use Rattle.std.specs.List.{find}

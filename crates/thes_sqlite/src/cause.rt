@@ -53,7 +53,8 @@ impl Cause {
     }
 }
 
-/// Storage that remembers why it failed. A fault names no cause, so that each storage has the same.
+/// Storage that remembers why it failed. A fault names no cause, so that all storages return the
+/// same faults.
 pub trait FaultCause {
     /// Returns the cause of the last fault `Store` of a load or a migration; `Other` before the
     /// first.

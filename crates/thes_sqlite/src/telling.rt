@@ -1,5 +1,5 @@
-//! Whether a database shows that changes were made, and which of several changes shows it, as all
-//! are made or none is.
+//! Whether a database shows that changes were made, and which of several changes shows it, given
+//! that all were made or none was.
 ghost use mathlib.Core.Logic.{inl, inr};
 ghost use Rattle.std.specs.Prelude.{◌≡◌, Some};
 ghost use Rattle.std.specs.List.{list_any, find};
