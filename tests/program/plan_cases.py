@@ -408,6 +408,11 @@ ACCEPTED: list[tuple[str, list[Request], list[Answer]]] = [
         [concept("C"), link("related", 3, "$1"), link("related", "$1", 3, "unlink")],
         [ok(14), DONE, DONE],
     ),
+    (
+        "a link from an earlier concept and its end",
+        [concept("C"), link("broader", 3, "$1"), link("broader", 3, "$1", "unlink")],
+        [ok(14), DONE, DONE],
+    ),
     ("a member", [COLLECTION, concept("C"), link("member", "$1", "$2")], [ok(14), ok(15), DONE]),
     ("a mapping", [outside("http://example.org/y"), link("exact", 2, "$1")], [ok(14), DONE]),
     ("a concept and its end", [concept("C"), deprecate("$1")], [ok(14), DONE]),
