@@ -6,7 +6,7 @@ use Rattle.thes_post.specs.PostingCounts.{PostingCounts, ArePostingCounts}
 use Rattle.thes_vocab.specs.Vocabulary.{Vocabulary}
 
 -- The parts are those of the state: the vocabulary has its resources, IRIs and labels, the links are its links, and the
--- counts are of its histories.
+-- counts are those of its histories.
 pub record ArePartsOf (s : State) (vocab : Vocabulary) (links : Links) (posting_counts : PostingCounts) : Type 0 where
   pub resources : vocab.resources ≡ s.resources
   pub iris : vocab.iris ≡ s.iris

@@ -1,4 +1,4 @@
--- The parts of a thesaurus as a state and as contracts see them, with their invariant.
+-- The parts of a thesaurus as a state, and as the view of a core; and their invariant.
 use Rattle.std.specs.Prelude.{Bool, List}
 use Rattle.thes_base.specs.declared.data.History.{History}
 use Rattle.thes_base.specs.State.{State}

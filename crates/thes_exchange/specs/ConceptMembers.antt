@@ -1,4 +1,4 @@
--- The JSON members of a concept's view, put in group by group, for private contracts.
+-- The JSON members of a concept's view, put in group by group, for contracts of private functions.
 use Rattle.std.specs.Prelude.{codes}
 use Rattle.serde_json.specs.Data.{Members, boolean, put}
 use Rattle.thes_base.specs.Views.{ConceptDetails}

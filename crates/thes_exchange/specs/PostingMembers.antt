@@ -1,4 +1,4 @@
--- The JSON members of a posting's view, put in one by one, for private contracts.
+-- The JSON members of a posting's view, put in one by one, for contracts of private functions.
 use Rattle.std.specs.Prelude.{codes}
 use Rattle.serde_json.specs.Data.{Members, boolean, string, put}
 use Rattle.thes_base.specs.declared.data.History.{History}

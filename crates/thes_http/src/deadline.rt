@@ -36,7 +36,7 @@ fn time_left(allowed: Duration, passed: Duration) -> Option<Duration>
 }
 
 // Returns the time to wait for one read or write: all that is left, but at most a second, since the
-// system may end a wait late, by an eighth of its length.
+// system may end a wait late, by up to an eighth of its length.
 fn wait_within(left: Duration) -> Duration
     ensures { as_nanos result ≡ min (as_nanos left) 1_000_000_000 }
 {

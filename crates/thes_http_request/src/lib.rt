@@ -1,4 +1,4 @@
-//! Reads HTTP requests from bytes: where their heads end, which endpoint they name, their bodies.
+//! Reads HTTP requests from a connection: heads, the endpoints that they name, and bodies.
 #![tactic(auto)]
 
 pub mod body;

@@ -24,7 +24,7 @@ pub record PerformsRows (limits : Limits) (old : Raw) (rows : List CsvRow) (outc
   pub goes_on : TablesAfterRun limits old (posts_of rows) (answers_of outcomes) new
   pub same : AllByRecursion ChangesNothing (answers_of outcomes) → new ≡ old
 
--- The counts are of as many rows as were read of some file.
+-- The number of rows counted is that of the rows that the reader has read of some file.
 pub record CountsRowsRead (reader : RowReader) (counts : Counts) : Type 0 where
   pub file : List ℕ
   pub rows : List CsvRow

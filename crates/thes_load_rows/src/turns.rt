@@ -10,8 +10,8 @@ use std::mem;
 use thes_base::fault::{Fault, Table};
 use thes_tables::cells::Cell;
 
-// Returns the stopped stage after a row or report of this table, if the table is past or a fault
-// has already stopped the load; else None.
+// Returns the stopped stage after a row of this table, or the report that it can't be queried, if
+// the load is past the table or has already stopped with a fault; else None.
 fn stage_after_stop(stage: &Stage, table: Table) -> Option<Stage>
     ensures { MatchOption result
         (IsInTurn table stage.now × (is_stopped stage.now ≡ false))

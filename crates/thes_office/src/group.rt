@@ -218,7 +218,7 @@ pub fn commit_changes<K: Keeper>(keeper: &mut K, delta: Delta) -> Result<(), Fau
         → RawAfterChanges delta (K.view keeper.old).rows (K.view keeper.new).rows) }
     ensures keeps { CommitFrame (K.view keeper.old) (K.view keeper.new) result }
 {
-    // A request that is answered again needs no commit (DECISIONS.md, The office).
+    // Requests that change nothing need no commit (DECISIONS.md, The office).
     if delta.as_slice().is_empty() {
         return Ok(());
     }

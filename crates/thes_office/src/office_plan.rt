@@ -14,8 +14,8 @@ impl<K: Keeper> Office<K> {
     /// Performs the requests of a plan in order, with each reference replaced by the number that an
     /// earlier request made. If each is accepted or repeats a known key, all changes are committed
     /// in one transaction; else the outcome is the first refusal, and nothing is changed. On a
-    /// fault the tables are unchanged, if the storage is still up. Any list may be a plan; a
-    /// reference to nothing leaves the command's own number.
+    /// fault the tables are unchanged, if the storage is still up. Any list may be a plan; where a
+    /// reference leads to no number, the command's own number stays.
     pub fn run_plan(&mut self, plan: Vec<PlanRequest>) -> Result<PlanOutcome, Fault>
         ensures fault_behaviour { FaultBehaviour K.view self.old self.new result }
         ensures performed { RunPlanResult K.view self.old plan.items result self.new }

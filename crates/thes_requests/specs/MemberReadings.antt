@@ -1,4 +1,5 @@
--- Defines how the members of a request are read one by one and then joined, for private contracts.
+-- Defines how the members of a request are read one by one and then joined, for contracts of
+-- private functions.
 use Rattle.std.specs.Prelude.{◌≡◌, ◌≢◌, ℕ, Bool, true, false, if◌then◌else◌, List, Option, None, Some, Result, Ok, Err}
 use Rattle.std.specs.Prelude.{option_and_then, codes}
 use Rattle.serde_json.specs.Data.{Data}

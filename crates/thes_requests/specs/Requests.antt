@@ -170,7 +170,7 @@ members4 makes m n o p d = do
   f ← p.form u
   reads (makes a b e f)
 
--- The row of a label and its owner, where the kind of the label decides the form of its text.
+-- The row of `addLabel` and `dropLabel`: an owner and a label, whose kind decides the form of its text.
 unfoldable pub label_line : Data → RequestReading (ℕ × LabelData)
 label_line d = do
   _ ← present_or_bad_shape (counted_members 5 d)
@@ -183,7 +183,7 @@ label_line d = do
   x ← label_text_form kind text
   reads (n, record { kind = kind; tag = t; text = x })
 
--- The row of a link: its kind and its two ends.
+-- The row of `link` and `unlink`: a kind of link and its two ends.
 abbrev pub link_line : Data → RequestReading Link
 link_line d =
     members3 (λ kind a b. record { kind = kind; a = a; b = b })

@@ -1,4 +1,4 @@
--- The progress of a script line by line, for private contracts and proofs.
+-- The progress of a script line by line, for contracts of private functions and for proofs.
 use Rattle.std.specs.Prelude.{◌≡◌, ◌≢◌, ◌⊎◌, ◌≤◌, ◌+◌, ℕ, Bool, true, false, List, length, Option, Result, IfErr, IfOk}
 use Rattle.std.specs.Io.KnownBytes.{Appends, Consumes, IsAtEnd}
 use Rattle.thes_base.specs.Pipe.{IsFresh, failed_of, ended_of, denied_of, unread_bytes, written_bytes, AppendsPrefix}

@@ -37,7 +37,8 @@ use thes_store::keeper::Keeper;
 /// In contracts its value is that of the office.
 #[derive(Drop)]
 pub struct OfficeHandler<K: Keeper, M: PlanMode> {
-    // The crates of handlers and of the office don't know each other (DECISIONS.md, The office).
+    // Wrapped, since the crate of `RequestHandler` and that of `Office` don't know each other
+    // (DECISIONS.md, The office).
     pub office: Office<K>,
     pub mode: M,
 }
