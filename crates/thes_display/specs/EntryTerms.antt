@@ -49,7 +49,7 @@ HasNoTypedLink links n = (t : TypedKind × ℕ) → IsTypedLink links n t → �
 
 -- The record lists the concepts on both sides of its concept, and those related to it, and says that no hierarchical
 -- link has a type only if none has.
-pub record AreSides (links : Links) (sides : Sides) : Type 0 where
+pub record AreSidesOfConcept (links : Links) (sides : Sides) : Type 0 where
   pub each_side : (side : Side) → IsListing nat_cmp (IsOnSide links side sides.concept) (concepts_on sides side)
   pub each_associate : IsListing nat_cmp
       (λ m. HasLink links kinds.Related sides.concept m ⊎ HasLink links kinds.Related m sides.concept)

@@ -6,7 +6,7 @@ ghost use Rattle.thes_core.specs.CoreView.{IsViewOf, with_histories};
 ghost use Rattle.thes_core.specs.Terms.{term_text};
 ghost use Rattle.thes_display.specs.TextAppends.{AppendsText};
 ghost use Rattle.thes_display.specs.Alphabetical.{AreTexts, IsAlphabetical, IsEntry, entry_line, symbol_text, symbols};
-ghost use Rattle.thes_display.specs.EntryTerms.{AreLinkedUnder, AreSides, IsForLabels, symbol_on};
+ghost use Rattle.thes_display.specs.EntryTerms.{AreLinkedUnder, AreSidesOfConcept, IsForLabels, symbol_on};
 ghost use Rattle.thes_display.specs.EntrySource.{AreSourceLines, IsEntrySource};
 ghost use Rattle.thes_display.specs.HeadingIndex.{term_at};
 ghost use Rattle.thes_display.specs.LabelTexts.{label_lines, term_lines};
@@ -149,7 +149,7 @@ fn write_side(
     hierarchy: Hierarchy,
 ) -> Result<(), AllocError>
     requires source { IsEntrySource source.now }
-    requires sides { AreSides source.now.core.now.links sides.now }
+    requires sides { AreSidesOfConcept source.now.core.now.links sides.now }
     ensures { let are_lines = AreSourceLines source.now sides.now.concept (symbol_on side hierarchy)
         in OnOk result (AppendsText are_lines text.old.items text.new.items) }
 {
@@ -173,7 +173,7 @@ fn write_symbol(
     symbol: Symbol,
 ) -> Result<(), AllocError>
     requires source { IsEntrySource source.now }
-    requires sides { AreSides source.now.core.now.links sides.now }
+    requires sides { AreSidesOfConcept source.now.core.now.links sides.now }
     ensures { let are_lines = AreSourceLines source.now sides.now.concept symbol in
         OnOk result (AppendsText are_lines text.old.items text.new.items) }
 {
@@ -194,7 +194,7 @@ fn write_symbols(
     sides: &Sides,
 ) -> Result<(), AllocError>
     requires source { IsEntrySource source.now }
-    requires sides { AreSides source.now.core.now.links sides.now }
+    requires sides { AreSidesOfConcept source.now.core.now.links sides.now }
     ensures { let are_lines = AreTexts (AreSourceLines source.now sides.now.concept) symbols in
         OnOk result (AppendsText are_lines text.old.items text.new.items) }
 {

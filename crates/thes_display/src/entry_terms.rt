@@ -6,7 +6,7 @@ ghost use Rattle.thes_base.specs.Labels.{HasLabel};
 ghost use Rattle.thes_base.specs.Links.{IsHierarchical};
 ghost use Rattle.thes_base.specs.Listing.{IsListing};
 ghost use Rattle.thes_base.specs.Views.{HasLink};
-ghost use Rattle.thes_display.specs.EntryTerms.{AreSides, HasNoTypedLink, IsOnSide, IsLinkedOnSide, IsTermOf, concepts_on, symbol_on};
+ghost use Rattle.thes_display.specs.EntryTerms.{AreSidesOfConcept, HasNoTypedLink, IsOnSide, IsLinkedOnSide, IsTermOf, concepts_on, symbol_on};
 ghost use Rattle.thes_display.specs.LabelTexts.{AreSortedTexts, is_label_in, label_texts, text_cmp};
 ghost use Rattle.thes_display.specs.Order.{term_cmp};
 
@@ -153,7 +153,7 @@ pub(crate) fn has_typed_link(alloc: Global, core: &Core, n: ResNo) -> Result<boo
 pub fn sides_of(alloc: Global, core: &Core, n: ResNo) -> Result<Sides, AllocError>
     requires { core.now.spent ≡ false }
     ensures concept { IfOk result (λ sides. sides.concept ≡ n) }
-    ensures sides { IfOk result (λ sides. AreSides core.now.links sides) }
+    ensures sides { IfOk result (λ sides. AreSidesOfConcept core.now.links sides) }
 {
     Ok(Sides {
         concept: n,
@@ -181,7 +181,7 @@ impl Sides {
 fn is_linked(core: &Core, sides: &Sides, side: Side, kind: LinkKind, m: ResNo) -> bool
     requires unspent { core.now.spent ≡ false }
     requires hierarchical { IsHierarchical kind }
-    requires sides { AreSides core.now.links sides.now }
+    requires sides { AreSidesOfConcept core.now.links sides.now }
     requires on_side { IsOnSide core.now.links side sides.now.concept m }
     ensures { IsTrue result ↔ IsLinkedOnSide core.now.links side kind sides.now.concept m }
 {
@@ -204,7 +204,7 @@ pub(crate) fn linked_concepts(
 ) -> Result<Vec<ResNo>, AllocError>
     requires unspent { core.now.spent ≡ false }
     requires hierarchical { IsHierarchical kind }
-    requires sides { AreSides core.now.links sides.now }
+    requires sides { AreSidesOfConcept core.now.links sides.now }
     ensures { let is_linked = IsLinkedOnSide core.now.links side kind sides.now.concept in
         IfOk result (λ found. IsListing nat_cmp is_linked found.items) }
 {

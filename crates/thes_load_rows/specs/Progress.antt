@@ -170,8 +170,8 @@ abbrev pub ReachesTable : Stage → Stage → Table → Type 0
 ReachesTable old new table = (stage_table new ≡ table) × ((raw : Raw) → HasRead old raw → HasRead new raw)
 
 -- The tables without rows, all of which can be queried.
-abbrev pub empty_raw : Raw
-empty_raw = raw_by_table (λ name. Some [])
+abbrev pub raw_without_rows : Raw
+raw_without_rows = raw_by_table (λ name. Some [])
 
 -- The rows, but with this table as one that can't be queried.
 abbrev pub raw_without_table : Table → Raw → Raw

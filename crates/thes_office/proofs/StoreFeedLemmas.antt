@@ -9,7 +9,7 @@ use Rattle.thes_tables.specs.Cells.{Raw}
 use Rattle.thes_tables.specs.TableOrder.{raw_rows_of, table_no, table_order, with_rows}
 use Rattle.thes_store.specs.Sinks.{sink_rows_of_table, sink_rows_of_tables}
 use Rattle.thes_store.specs.Sinks as yields
-use Rattle.thes_load_rows.specs.Progress.{empty_raw, stage_table}
+use Rattle.thes_load_rows.specs.Progress.{raw_without_rows, stage_table}
 use Rattle.thes_office.specs.declared.loader.Loader.{Loader}
 use Rattle.thes_office.specs.LoaderFeed.{KnowsRows, FeedResult}
 use Rattle.thes_office.specs.LoaderLaw.{LoaderReadsStore}
@@ -53,7 +53,7 @@ tables_taken (name ∷ names) raw rest n old new (follows, none, come) turn know
 -- A loader that has accepted all rows of a store has received exactly these.
 pub loader_reads_all : LoaderReadsStore
 loader_reads_all limits raw old new begun takes =
-    let come : ComeInOrder 0 table_order raw empty_raw = (
+    let come : ComeInOrder 0 table_order raw raw_without_rows = (
       omega arith,
       refl,
       (
@@ -66,6 +66,6 @@ loader_reads_all limits raw old new begun takes =
         ),
       ),
     ) in
-    let all = tables_taken table_order raw empty_raw 0 old new come
+    let all = tables_taken table_order raw raw_without_rows 0 old new come
     (subst (λ (t : Table). table_no t ≤ 0) (sym begun.table_is) (omega arith)) begun.none takes in
     (all.0, all.1 ∙ begun.limits_are)

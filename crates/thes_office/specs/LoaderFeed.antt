@@ -8,7 +8,7 @@ use Rattle.thes_base.specs.declared.fault.Table.TheVariants as table
 use Rattle.thes_tables.specs.declared.cells.Cell.{Cell}
 use Rattle.thes_tables.specs.Cells.{Raw}
 use Rattle.thes_load_rows.specs.declared.stage.Stage.TheVariants as stage
-use Rattle.thes_load_rows.specs.Progress.{HasRead, stage_table, empty_raw}
+use Rattle.thes_load_rows.specs.Progress.{HasRead, stage_table, raw_without_rows}
 use Rattle.thes_load_rows.specs.Turns.{NextStage}
 use Rattle.thes_office.specs.declared.loader.Loader.{Loader}
 
@@ -19,7 +19,7 @@ KnowsRows loader raw = HasRead loader.stage raw
 -- The loader has received no row, and waits for those of the first table, meta.
 pub record IsBegun (limits : Limits) (loader : Loader) : Type 0 where
   pub table_is : stage_table loader.stage ≡ table.Meta
-  pub none : KnowsRows loader empty_raw
+  pub none : KnowsRows loader raw_without_rows
   pub limits_are : loader.limits ≡ limits
 
 -- The loader after a row, or after the report that the table can't be queried; after running out of memory, the loader

@@ -15,13 +15,13 @@ owner_of l = l.owner
 
 -- The end under which a link of the kind from a to b is indexed, as a rule the one with fewer links of the kind: the
 -- member of a membership, or else the first end.
-abbrev pub chosen_end : LinkKind → ℕ → ℕ → ℕ
-chosen_end kinds.Member a b = b
-chosen_end _ a b = a
+abbrev pub indexed_end : LinkKind → ℕ → ℕ → ℕ
+indexed_end kinds.Member a b = b
+indexed_end _ a b = a
 
 -- The number under which a link is indexed.
 abbrev pub indexed_end_of : Link → ℕ
-indexed_end_of l = chosen_end l.kind l.a l.b
+indexed_end_of l = indexed_end l.kind l.a l.b
 
 -- The number under which a hierarchical link is indexed: its narrower concept.
 abbrev pub narrower_end_of : HierRow → ℕ
