@@ -42,13 +42,14 @@ sides_rise links n i j d lt in_range = go (eq-or-lt_of_le lt)
         lower_side (number_of (get_or (sided_links_at links n) i d)) (number_of (get_or (sided_links_at links n) j d)) _
         (Less-from_sorted sided_link_cmp (sided_links_at links n) i j d (sided_links_sorted links n) below in_range)
 
--- If the first link of a partitioned row fails the test, all links do.
-pub none_pass : (p : SidedLink → Bool) (row : List SidedLink) (first : SidedLink) → slice_get row 0 ≡ Some first
-    → p first ≡ false → IsPartitionIndex p row 0
-none_pass p row first is off parted = (
-  λ k d _ lt. absurd (omega arith),
-  λ k d _ lt. false_from_ne_true (p (get_or row k d))
-      (λ on. both_ways _ (ap p (get_or_from_slice_get row 0 first d is) ∙ off) (parted 0 k d (omega arith) lt on)),
+-- If all links before an index of a partitioned row pass the test and the link there fails it, no other passes.
+pub passed_until : (p : SidedLink → Bool) (row : List SidedLink) (i : ℕ)
+    → ((k : ℕ) (d : SidedLink) → k < i → p (get_or row k d) ≡ true) → (s : SidedLink)
+    → ((d : SidedLink) → s ≡ get_or row i d) → p s ≡ false → IsPartitionIndex p row i
+passed_until p row i before s is off parted = (
+  λ k d _ lt. before k d lt,
+  λ k d le lt. false_from_ne_true (p (get_or row k d))
+      (λ on. both_ways _ (ap p (sym (is d)) ∙ off) (parted i k d le lt on)),
 )
 
 -- If the last link of a partitioned row passes the test, all links do.

@@ -152,6 +152,7 @@ impl Graph {
     }
 
     // Returns the range of the node's links that lie on this side, in logarithmic time.
+    #[inline(always)]
     fn part_at(&self, n: ResNo, side: Side) -> Part
         ensures part { IsPart (links_at self.now.links n) n side result }
         ensures two_ends { HaveTwoEnds (Holds self.now.links) }
@@ -517,6 +518,7 @@ impl<'a> Links for Walk<'a> {
         }
     }
 
+    #[inline(always)]
     fn part(&self, node: ResNo, side: Side) -> Part {
         self.graph.part_at(node, side)
     }

@@ -35,7 +35,12 @@ pub fn side_of(link: &Link, n: ResNo) -> Side
     }
 }
 
+// The number of links at the start of a row that are looked at one by one: most rows have no more
+// before the end of a side, and such a loop is faster there than a binary search.
+const FEW: usize = 4;
+
 // Checks whether the link lies on a side whose rank is less than `number`.
+#[inline(always)]
 fn is_before(sided_link: &SidedLink, number: u8) -> bool
     ensures { result ≡ ltb (side_no sided_link.now.side) number }
 {
@@ -43,36 +48,75 @@ fn is_before(sided_link: &SidedLink, number: u8) -> bool
 }
 
 // Checks whether the link lies on a side whose rank is at most `number`.
+#[inline(always)]
 fn is_at_most(sided_link: &SidedLink, number: u8) -> bool
     ensures { result ≡ leb (side_no sided_link.now.side) number }
 {
     sided_link.side.number() <= number
 }
 
+// Returns what `count_before` does, in logarithmic time.
+#[inline(never)]
+fn search_before(row: &[SidedLink], number: u8) -> usize
+    ensures bound { result ≤ length row.now }
+    ensures place { IsPartitionIndex (λ s. ltb (side_no s.side) number) row.now result }
+{
+    row.partition_point(|sided_link| is_before(sided_link, number))
+}
+
+// Returns what `count_until` does, in logarithmic time.
+#[inline(never)]
+fn search_until(row: &[SidedLink], number: u8) -> usize
+    ensures bound { result ≤ length row.now }
+    ensures place { IsPartitionIndex (λ s. leb (side_no s.side) number) row.now result }
+{
+    row.partition_point(|sided_link| is_at_most(sided_link, number))
+}
+
 /// Returns the number of links on sides whose rank is less than `number`, in a row that is sorted
 /// by side.
+#[inline(always)]
 pub fn count_before(row: &[SidedLink], number: u8) -> usize
     ensures bound { result ≤ length row.now }
     ensures place { IsPartitionIndex (λ s. ltb (side_no s.side) number) row.now result }
 {
-    match row.first() {
-        Some(first) if is_before(first, number) => {
-            row.partition_point(|sided_link| is_before(sided_link, number))
+    for i in 0..FEW {
+        let Some(sided_link) = row.get(i) else {
+            return i;
+        };
+        if !is_before(sided_link, number) {
+            return i;
         }
-        _ => 0,
     }
+    search_before(row, number)
+}
+
+// Returns what `count_until` does, by a look at the first links one by one.
+#[inline(always)]
+fn scan_until(row: &[SidedLink], number: u8) -> usize
+    ensures bound { result ≤ length row.now }
+    ensures place { IsPartitionIndex (λ s. leb (side_no s.side) number) row.now result }
+{
+    for i in 0..FEW {
+        let Some(sided_link) = row.get(i) else {
+            return i;
+        };
+        if !is_at_most(sided_link, number) {
+            return i;
+        }
+    }
+    search_until(row, number)
 }
 
 /// Returns the number of links on sides whose rank is at most `number`, in a row that is sorted by
 /// side.
+#[inline(always)]
 pub fn count_until(row: &[SidedLink], number: u8) -> usize
     ensures bound { result ≤ length row.now }
     ensures place { IsPartitionIndex (λ s. leb (side_no s.side) number) row.now result }
 {
     match row.last() {
-        Some(last) if !is_at_most(last, number) => {
-            row.partition_point(|sided_link| is_at_most(sided_link, number))
-        }
+        Some(last) if !is_at_most(last, number) => scan_until(row, number),
         _ => row.len(),
     }
 }

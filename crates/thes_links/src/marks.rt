@@ -37,6 +37,7 @@ pub fn with_shared_bit(word: u64, n: ResNo) -> u64
 }
 
 // Marks the node, and extends the marks if they end before it.
+#[inline(always)]
 fn mark(marks: &mut Vec<u64>, n: ResNo) -> Result<(), AllocError>
     ensures ok { OnOk result (IsOneMore marks.old.items marks.new.items n) }
     ensures err { OnErr result (marks.new.items ≡ marks.old.items) }
@@ -47,6 +48,8 @@ fn mark(marks: &mut Vec<u64>, n: ResNo) -> Result<(), AllocError>
 }
 
 // Marks exactly these nodes, and removes all other marks.
+#[cold]
+#[inline(never)]
 fn mark_all(marks: &mut Vec<u64>, nodes: &[ResNo]) -> Result<(), AllocError>
     ensures { OnOk result (AreMarked nodes.now marks.new.items) }
 {
@@ -59,6 +62,7 @@ fn mark_all(marks: &mut Vec<u64>, nodes: &[ResNo]) -> Result<(), AllocError>
 
 /// Updates the marks for a list to which the node `n` is to be appended; a list of at most `FEW`
 /// nodes needs none.
+#[inline(always)]
 pub fn mark_more(marks: &mut Vec<u64>, list: &[ResNo], n: ResNo) -> Result<(), AllocError>
     requires { IsNodeSet list.now marks.old.items }
     ensures ok { OnOk result (IsNodeSet (list.now ++ n ∷ []) marks.new.items) }

@@ -7,6 +7,10 @@ use std::alloc::{AllocError, Global};
 use std::marker::Model;
 use thes_base::number::ResNo;
 
+// The number of nodes for which a search makes room when it starts, so that most searches allocate
+// their list once.
+const USUAL: usize = 64;
+
 /// The distinct nodes that a search has met, in the order in which it met them. A long list also
 /// has marks for fast look-up, made anew for each search (DECISIONS.md, Links).
 #[derive(Drop)]
@@ -47,7 +51,7 @@ impl Nodes {
         ensures { IfOk result (λ nodes. nodes ≡ start ∷ []) }
     {
         let mut list = Vec::new(alloc);
-        list.reserve(FEW)?;
+        list.reserve(USUAL)?;
         list.push(start)?;
         Ok(Nodes {
             list,
@@ -73,16 +77,24 @@ impl Nodes {
         self.list.get(i).copied()
     }
 
-    /// Checks whether the node was met, in constant time.
+    // Checks whether the node was met, by its bit and a search of the list.
     #[inline(always)]
-    pub fn has(&self, n: ResNo) -> bool
+    fn is_listed(&self, n: ResNo) -> bool
         ensures { MatchBool result (Contains self.now n) (Contains self.now n → ⊥) }
     {
         if !has_shared_bit(self.bits, n) {
             return false;
         }
+        self.list.contains(&n)
+    }
+
+    /// Checks whether the node was met, in constant time.
+    #[inline(always)]
+    pub fn has(&self, n: ResNo) -> bool
+        ensures { MatchBool result (Contains self.now n) (Contains self.now n → ⊥) }
+    {
         if self.list.len() <= FEW {
-            return self.list.contains(&n);
+            return self.is_listed(n);
         }
         has_mark(&self.marks, n)
     }
@@ -99,7 +111,7 @@ impl Nodes {
         }
         self.list.reserve(1)?;
         mark_more(&mut self.marks, self.list.as_slice(), n)?;
-        self.list.push(n)?;
+        self.list.push_reserved(n);
         self.bits = with_shared_bit(self.bits, n);
         Ok(())
     }

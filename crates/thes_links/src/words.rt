@@ -1,5 +1,5 @@
 //! Bits in words of 64, in a list that is extended where it is written. A word past the end is 0.
-ghost use Rattle.std.specs.Prelude.{◌≡◌, ◌<◌, OnOk, OnErr, MatchBool};
+ghost use Rattle.std.specs.Prelude.{◌≡◌, ◌<◌, ◌≤◌, ℕ, OnOk, OnErr, MatchBool, length};
 ghost use Rattle.thes_links.specs.Words.{word_at, HasBit, HasBitsSet};
 
 use std::alloc::AllocError;
@@ -24,15 +24,32 @@ pub fn has_bit(words: &[u64], place: u32, j: usize) -> bool
     (word_of(words, place) >> j) & 1 == 1
 }
 
+// The number of words by which a list of words that ends too early is extended past the one that is
+// written, so that words in ascending order extend it seldom.
+const SPARE: usize = 16;
+
+// Extends the words by zeros past the index `place`, at which they end or before it.
+#[cold]
+#[inline(never)]
+fn extend_past(words: &mut Vec<u64>, place: u32) -> Result<(), AllocError>
+    requires { length words.old.items ≤ place }
+    ensures ok { OnOk result ((m : ℕ) → word_at words.new.items m ≡ word_at words.old.items m) }
+    ensures length { OnOk result (place < length words.new.items) }
+    ensures err { OnErr result (words.new.items ≡ words.old.items) }
+{
+    words.resize(place as usize + SPARE, 0)?;
+    Ok(())
+}
+
 /// Sets these bits in the word at the index `place`, and extends the words if they end before it.
+#[inline(always)]
 pub fn set_bits(words: &mut Vec<u64>, place: u32, bits: u64) -> Result<(), AllocError>
     ensures ok { OnOk result (HasBitsSet words.old.items words.new.items place bits) }
     ensures err { OnErr result (words.new.items ≡ words.old.items) }
 {
-    let place = place as usize;
-    if words.len() <= place {
-        words.resize(place + 1, 0)?;
+    if words.len() <= place as usize {
+        extend_past(words, place)?;
     }
-    words[place] |= bits;
+    words[place as usize] |= bits;
     Ok(())
 }

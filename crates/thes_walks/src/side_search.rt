@@ -163,6 +163,7 @@ pub fn part_along<L: Links>(links: &L, relation: Relation, n: ResNo) -> Part
 // first one that is a goal of the search, and returns whether there is one. If the range has the
 // links on the side of a relation, they lead to the nodes to which `range.x` leads in that
 // relation.
+#[inline(always)]
 fn follow<L: Links>(
     links: &mut L,
     nodes: &mut Nodes,
@@ -191,6 +192,7 @@ fn follow<L: Links>(
 // Stops before the first one that is a goal of the search, and returns whether there is one. Reads
 // the links held at the target in the range `merge.part`, and then those held at the source on the
 // side of the relation.
+#[inline(never)]
 fn follow_merged<L: Links>(
     links: &mut L,
     nodes: &mut Nodes,
@@ -231,6 +233,7 @@ fn follow_merged<L: Links>(
 /// Adds to the nodes met those to which `from.node` leads in the relation after the edit. Stops
 /// before the first one that is a goal, and returns whether there is one. The range `from.part` has
 /// the node's held links on the side of the relation.
+#[inline(always)]
 pub fn follow_after_edit<L: Links>(
     links: &mut L,
     nodes: &mut Nodes,

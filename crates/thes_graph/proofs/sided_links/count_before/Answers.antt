@@ -1,15 +1,9 @@
-use Rattle.std.proofs.Common.{rules, sym, ◌∙◌}
+use Rattle.std.proofs.Common.{sym, ◌∙◌}
 use Rattle.std.proofs.Math.Dec.{ltb}
-use Rattle.std.proofs.lemmas.List.Sorted.{IsPartitionPoint-from_clause}
-use Rattle.thes_graph.proofs.PartLemmas.{number_of, none_pass}
+use Rattle.thes_graph.proofs.PartLemmas.{number_of, passed_until}
 use Rattle.thes_graph.proofs.sided_links.count_before.Goals as goal
 
-pub returns-in-Some-clause-place : goal.returns-in-Some-clause-place
-returns-in-Some-clause-place c = λ by.
-    IsPartitionPoint-from_clause (λ s. ltb (number_of s) c.args.number) c.args.row.now c.partition_point.result
-    c.partition_point.ensures.partitioned by (λ a r g called. search rules)
-
-pub returns-in_default-clause-place : goal.returns-in_default-clause-place
-returns-in_default-clause-place c =
-    none_pass (λ s. ltb (number_of s) c.args.number) c.args.row.now c.in-Some.first.now (sym c.in-Some.ensures.value)
-    (sym c.is_before.ensures ∙ c.if-is_before.false)
+pub returns-then-not-is_before-clause-place : goal.returns-then-not-is_before-clause-place
+returns-then-not-is_before-clause-place c =
+    passed_until (λ s. ltb (number_of s) c.args.number) c.args.row.now c.loop-i.i c.loop-i.invariant.pass
+    c.in-Some.sided_link.now c.in-Some.ensures.lookup.3.1 (sym c.is_before.ensures ∙ c.if-not-is_before.true)
