@@ -1,6 +1,6 @@
 //! The JSON of a line as a tree, which borrows each text from the line or, if the text has escapes,
 //! from the scratch memory; `serde_json`'s would allocate each (DECISIONS.md, Requests in JSON).
-ghost use Rattle.std.specs.Prelude.{◌≡◌, ◌<◌, ◌⊎◌, length, option_map, Some, None, IfOk, IfErr, OnOk};
+ghost use Rattle.std.specs.Prelude.{◌≡◌, ◌<◌, ◌⊎◌, length, option_map, is_some, bytes_eq, Some, None, IfOk, IfErr, OnOk};
 ghost use Rattle.json.specs.Json.{items, members, read_key, value};
 ghost use Rattle.serde_json.specs.Data.{no_members, put};
 ghost use Rattle.serde_json.specs.Find.{get, as_array, as_bool, as_number, as_object, as_str, get_member};
@@ -20,7 +20,7 @@ pub const NOT_JSON: ReadStop = ReadStop::Form(FormFault::NotJson);
 
 const MAX_DEPTH: usize = 127;
 
-// The capacity reserved for the members of an object: the greatest number that a request has.
+// The first capacity for the members of an object: the greatest number that a request has.
 const USUAL_MEMBERS: usize = 5;
 
 /// A JSON value. An object lists its members in the order of the text; if a name repeats, its last
@@ -133,6 +133,39 @@ fn member<'v, 'a>(members: &'v [(&'a str, Value<'a>)], name: &str) -> Option<&'v
     None
 }
 
+// Returns whether two names are equal. This is apart from the comparison of their lengths, which
+// settles most searches.
+#[inline(never)]
+fn has_same_bytes(name: &str, other: &str) -> bool
+    ensures { result ≡ bytes_eq name.now other.now }
+{
+    name == other
+}
+
+// Returns whether two names are equal, where most have different lengths.
+#[tactic(auto, using(crate::proofs::TreeLemmas::other_length))]
+#[inline(always)]
+fn is_same_name(name: &str, other: &str) -> bool
+    ensures { result ≡ bytes_eq name.now other.now }
+{
+    name.len() == other.len() && has_same_bytes(name, other)
+}
+
+// Returns whether one of the members has this name.
+#[inline(always)]
+fn has_name<'a>(members: &[(&'a str, Value<'a>)], name: &str) -> bool
+    ensures { result ≡ is_some (get_member name.now (members_view members.now)) }
+{
+    let mut left = members.len();
+    while left > 0 {
+        left -= 1;
+        if is_same_name(name, members[left].0) {
+            return true;
+        }
+    }
+    false
+}
+
 // Returns whether the members have exactly `count` different names.
 //
 // A name is counted at its first member, from which a search backwards finds no equal one. For a
@@ -143,7 +176,7 @@ fn has_names<'a>(members: &[(&'a str, Value<'a>)], count: usize) -> bool
 {
     let mut names = 0;
     for index in 0..members.len() {
-        if member(&members[..index], members[index].0).is_none() {
+        if !has_name(&members[..index], members[index].0) {
             if names == count {
                 return false;
             }
@@ -153,9 +186,10 @@ fn has_names<'a>(members: &[(&'a str, Value<'a>)], count: usize) -> bool
     names == count
 }
 
-/// Appends a member of an object; before the first one, reserves capacity for all of a request.
+/// Appends a member of an object; before the first one, allocates capacity for all of a request.
 #[inline(always)]
 pub fn push_member<'a>(
+    alloc: Global,
     members: &mut Vec<(&'a str, Value<'a>)>,
     name: &'a str,
     value: Value<'a>,
@@ -164,7 +198,7 @@ pub fn push_member<'a>(
         ≡ put name.now (view value.entry) (members_view members.old.items)) }
 {
     if members.is_empty() {
-        members.reserve(USUAL_MEMBERS)?;
+        *members = Vec::with_capacity(alloc, USUAL_MEMBERS)?;
     }
     members.push((name, value)).map_err(AllocError::from)
 }
@@ -248,7 +282,7 @@ fn read_members<'a>(
     let mut found = Vec::new(alloc);
     'members: while let Some(name) = next_name(reader)? {
         let member = read(alloc, reader, depth)?;
-        push_member(&mut found, name, member)?;
+        push_member(alloc, &mut found, name, member)?;
     }
     Ok(found)
 }
