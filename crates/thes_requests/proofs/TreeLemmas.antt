@@ -2,12 +2,13 @@
 -- represent while they are parsed.
 use Rattle.std.proofs.lemmas.Grind.{common_steps}
 use Rattle.std.proofs.Common.{arith, ◌≡◌, ℕ, ◌+◌, ◌<◌, ◌≤◌, List, [], ◌∷◌, ◌++◌, Bool, length, map, take, drop}
-use Rattle.std.proofs.Common.{slice_index_or, Option, Some, option_map, is_none, Vec, Global, Bor, cond, bytes_eq, refl}
+use Rattle.std.proofs.Common.{slice_index_or, Option, Some, option_map, is_some, false, Vec, Global, Bor, cond, bytes_eq, refl}
 use Rattle.std.proofs.Common.{sym, ap, ◌∙◌, subst, add-one, rules}
 use Rattle.std.proofs.lemmas.List.{take-append-drop, take_more}
+use Rattle.std.proofs.lemmas.Slice.Eq.{bytes_eq-Decides}
 use Rattle.json.specs.Token.{Token}
 use Rattle.json.specs.Json.{parse_map}
-use Rattle.serde_json.specs.Data.{array, object, Items, no_items, item, no_members, put}
+use Rattle.serde_json.specs.Data.{Data, array, object, Items, no_items, item, no_members, put}
 use Rattle.serde_json.specs.Events.{members_len}
 use Rattle.serde_json.specs.Find.{get_member}
 use Rattle.thes_requests.specs.Tree.{view, items_view, members_view}
@@ -38,6 +39,10 @@ get_member-push : (name : List ℕ) (es : List Entry) (e : Entry) → get_member
     ≡ cond (bytes_eq name e.0.now) (Some (view e.1)) (get_member name (members_view es))
 get_member-push name es e = grind (arith, common_steps, members_view-push, get_after_put)
 
+-- Names of different lengths aren't equal.
+pub other_length : (name other : List ℕ) → (length name ≡ length other → ⊥) → bytes_eq name other ≡ false
+other_length name other h = grind (arith, common_steps, bytes_eq-Decides)
+
 -- A look-up among the first members finds the last of them, if it has the name, and else looks
 -- among those before it.
 pub get_member-take : (name : List ℕ) (es : List Entry) (k i : ℕ) (e : Entry) (b : Bool) → k ≡ i + 1 → i < length es
@@ -48,23 +53,23 @@ get_member-take name es k i e b next h is same = grind (arith, common_steps, tak
 AreOrderedMembers-members_view : (es : List Entry) → AreOrderedMembers (members_view es)
 AreOrderedMembers-members_view es = AreOrderedMembers-put_all no_members (map (λ m. (m.0, view m.1)) es) tt
 
-count_after_look_up : (r : Option (Bor Value)) (n : ℕ) → with_one (option_map (λ v. view v.now) r) n
-    ≡ cond (is_none r) (n + 1) n
-count_after_look_up r n = grind (arith, common_steps, add-one)
+count_after_look_up : (o : Option Data) (n : ℕ) → with_one o n ≡ cond (is_some o) n (n + 1)
+count_after_look_up o n = grind (arith, common_steps, add-one)
 
 module _ (xs : List Entry) (i : ℕ) where
-  -- The number of different names up to the next member, given a search for its name among the
-  -- members before it.
-  pub names_next : (d : Entry) (r : Option (Bor Value)) → i < length xs → option_map (λ v. view v.now) r
-      ≡ get_member (slice_index_or xs i d).0.now (members_view (take i xs))
-      → members_len (members_view (take (i + 1) xs)) ≡ cond (is_none r) (members_len (members_view (take i xs)) + 1)
-      (members_len (members_view (take i xs)))
-  names_next d r h e =
+  -- The number of different names up to the next member, given whether the members before it have
+  -- its name.
+  pub names_next : (d : Entry) (b : Bool) → i < length xs
+      → b ≡ is_some (get_member (slice_index_or xs i d).0.now (members_view (take i xs)))
+      → members_len (members_view (take (i + 1) xs)) ≡ cond b (members_len (members_view (take i xs)))
+      (members_len (members_view (take i xs)) + 1)
+  names_next d b h e =
       let before = members_view (take i xs) in
       let m = slice_index_or xs i d in
       ap (λ es. members_len (members_view es)) (take_more xs i d h) ∙ ap members_len (members_view-push (take i xs) m)
       ∙ members_len-put m.0.now (view m.1) before (AreOrderedMembers-members_view (take i xs))
-      ∙ ap (λ o. with_one o (members_len before)) (sym e) ∙ count_after_look_up r (members_len before)
+      ∙ count_after_look_up (get_member m.0.now before) (members_len before)
+      ∙ ap (λ c. cond c (members_len before) (members_len before + 1)) (sym e)
 
   pub names_of_prefix : members_len (members_view (take i xs)) ≤ members_len (members_view xs)
   names_of_prefix =

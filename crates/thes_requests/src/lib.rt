@@ -3,6 +3,7 @@
 #![tactic(auto)]
 
 pub mod answer;
+mod few_members;
 pub mod handler;
 mod keywords;
 pub mod laws;

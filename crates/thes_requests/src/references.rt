@@ -151,7 +151,7 @@ fn members_without_references<'a>(
     let mut found = Vec::new(alloc);
     for (name, value) in members {
         let value = member_without_references(alloc, name, value)?;
-        push_member(&mut found, name, value)?;
+        push_member(alloc, &mut found, name, value)?;
     }
     Ok(found)
 }

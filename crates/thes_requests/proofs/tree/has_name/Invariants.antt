@@ -1,0 +1,12 @@
+use Rattle.std.proofs.Common.{◌≡◌, ◌≤◌, length, take}
+use Rattle.serde_json.specs.Find.{get_member}
+use Rattle.thes_requests.specs.Tree.{members_view}
+use Rattle.thes_requests.proofs.tree.has_name.Given as goal
+
+abbrev pub invariant-loop-left : goal.invariant-loop-left
+invariant-loop-left l =
+    (get_member l.name (members_view l.members) ≡ get_member l.name (members_view (take l.left l.members)))
+    × (l.left ≤ length l.members)
+
+abbrev pub decreases-loop-left : goal.decreases-loop-left
+decreases-loop-left l = l.left
