@@ -27,7 +27,8 @@ pub made_unique : (rs : List Resource) (labels : Labels) (r : Resource) (tag tex
     → UniquePreferred rs labels → ((scheme : ℕ) → (is_concept_kind r.kind && r.live) ≡ true → r.scheme ≡ Some scheme
     → ¬ IsPreferredTaken rs labels scheme tag text) → UniquePreferred (rs ++ r ∷ [])
     (insert labels (label (length rs + 1) Pref tag text))
-made_unique rs labels r tag text owners p1 free m n scheme t x lm ln sm sn hm hn = grind (arith, common_steps, label_cases, numbered_bound, push_cases)
+made_unique rs labels r tag text owners p1 free m n scheme t x lm ln sm sn hm hn =
+    grind (arith, common_steps, label_cases, numbered_bound, push_cases)
 
 -- Preferred labels aren't unique after a creation if a live concept of the scheme already has the preferred label.
 pub taken_breaks : (rs : List Resource) (labels : Labels) (scheme : ℕ) (r : Resource) (tag text : List ℕ)

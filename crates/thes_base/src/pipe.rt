@@ -163,7 +163,8 @@ impl<R: Read> Pipe<R> {
     pub fn read(&mut self, budget: &mut Budget, buf: &mut [u8]) -> Result<usize, Stop>
         requires room { 0 < length buf.old }
         requires fresh { IsFresh self.old }
-        ensures reads { ReadsBytes R.remaining self.old self.new budget.old budget.new buf.new result }
+        ensures reads { ReadsBytes R.remaining self.old self.new budget.old budget.new buf.new
+            result }
         ensures frame { ReadFrame self.old self.new budget.old budget.new result }
     {
         while budget.left > 0 {

@@ -28,8 +28,8 @@ impl<W> TerminalOutput<W> {
 impl<W: Write> TerminalOutput<W> {
     // Writes an escape in place of the character that has `count` bytes, and returns `count`.
     fn write_escape(&mut self, escape: &str, count: usize) -> io::Result<usize>
-        ensures bytes { OnOk result (Appends (W.contents self.old.writer) (W.contents self.new.writer)
-            escape.now) }
+        ensures bytes { OnOk result (Appends (W.contents self.old.writer)
+            (W.contents self.new.writer) escape.now) }
         ensures count { IfOk result (λ n. n ≡ count) }
         ensures escapes { self.new.escapes ≡ self.old.escapes }
     {

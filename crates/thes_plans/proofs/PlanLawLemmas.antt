@@ -41,7 +41,8 @@ own_command answers (request.Link kind a b) = refl
 own_command answers (request.Unlink kind a b) = refl
 own_command answers (request.Deprecate concept) = refl
 own_command answers (request.Merge source target) = refl
-own_command answers (request.Split source tag text postings) = ap (request.Split source tag text) (own_numbers answers postings)
+own_command answers (request.Split source tag text postings) =
+    ap (request.Split source tag text) (own_numbers answers postings)
 own_command answers (request.Post key rec concept) = refl
 own_command answers (request.Withdraw posting) = refl
 

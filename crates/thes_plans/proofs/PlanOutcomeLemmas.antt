@@ -121,8 +121,8 @@ module _ (setting : Setting) (fit : IsSetting setting) where
         let within = refused_within place r is in
         let count = done.each in
         refusal_ends [] plan is.answers ys s is.state_before u is.state_before is.asked r forms legal
-        (omega (arith, within, count)) (omega (arith, count)) (refused_at place r is) (refused_run place r is) is.refused
-        done.run done.accepted
+        (omega (arith, within, count)) (omega (arith, count)) (refused_at place r is) (refused_run place r is)
+        is.refused done.run done.accepted
 
     earlier_refusal : (place other : ℕ) (r q : Refusal) → (x : PlanRefused setting s plan place r)
         → (y : PlanRefused setting s plan other q) → length x.answers < length y.answers → ⊥
@@ -143,7 +143,8 @@ module _ (setting : Setting) (fit : IsSetting setting) where
         x.at) in
         let step = subst (λ (z : State × List Answer × PlanRequest). Step setting z.0 (resolved_command z.1 z.2)
         (reply.No q) z.0) (λ i. (sym run.1 i, sym run.0 i, asked i)) y.refused in
-        let legal_there = run_legal setting fit [] plan x.answers s x.state_before forms legal (refused_run place r x) in
+        let legal_there = run_legal setting fit [] plan x.answers s x.state_before forms legal
+        (refused_run place r x) in
         let agree = one_step x.state_before x.state_before x.state_before (resolved_command x.answers x.asked)
         (reply.No r) (reply.No q) legal_there x.refused step in
         let answers_agree : reply.No r ≡ reply.No q = agree.0 in
@@ -163,7 +164,8 @@ pub one_plan_outcome : OnePlanOutcome
 one_plan_outcome setting fit s t u plan (Done xs) (Done ys) forms legal x y =
     let e = x.each in
     let f = y.each in
-    runs_agree setting fit [] plan xs.items ys.items s t u forms legal (omega (arith, e, f)) (omega (arith, e)) x.run y.run
+    runs_agree setting fit [] plan xs.items ys.items s t u forms legal (omega (arith, e, f)) (omega (arith, e)) x.run
+    y.run
 one_plan_outcome setting fit s t u plan (Done xs) (Refused place r) forms legal x y =
     absurd (done_or_refused setting fit s plan forms legal xs.items t place r x y.0)
 one_plan_outcome setting fit s t u plan (Refused place r) (Done ys) forms legal x y =
@@ -180,7 +182,8 @@ AcceptedFrom setting before plan s = (answers : List Answer) × (t : State) × (
 abbrev RefusedFrom : Setting → List Answer → List PlanRequest → State → Type 0
 RefusedFrom setting before plan s = (answers : List Answer) × (asked : PlanRequest) × (mid : State) × (r : Refusal)
     × (slice_get plan (length answers) ≡ Some asked) × Run setting s (resolved_commands before plan answers) answers mid
-    × AllByRecursion IsNoRefusal answers × Step setting mid (resolved_command (before ++ answers) asked) (reply.No r) mid
+    × AllByRecursion IsNoRefusal answers
+    × Step setting mid (resolved_command (before ++ answers) asked) (reply.No r) mid
 
 refused_or_not : (a : Answer) → ((r : Refusal) × (a ≡ reply.No r)) ⊎ IsNoRefusal a
 refused_or_not (reply.No r) = inl (r, refl)
@@ -198,7 +201,8 @@ some_from setting before (p ∷ plan) s none =
     setting (before ++ a ∷ []) plan mid) one.0 one.1 one.2 (refused_or_not one.0))
   where
     at : ((a : Answer) (mid : State) → ¬ (¬ (AcceptedFrom setting (before ++ a ∷ []) plan mid
-        ⊎ RefusedFrom setting (before ++ a ∷ []) plan mid))) → (a : Answer) (mid : State) → Step setting s (resolved_command before p) a mid
+        ⊎ RefusedFrom setting (before ++ a ∷ []) plan mid))) → (a : Answer) (mid : State)
+        → Step setting s (resolved_command before p) a mid
         → ((r : Refusal) × (a ≡ reply.No r)) ⊎ IsNoRefusal a → ⊥
     at later a mid step (inl (r, is)) =
         let refused = subst (λ (b : Answer). Step setting s (resolved_command before p) b mid) is step in

@@ -66,7 +66,8 @@ fn refers_to_posting(earlier: &[PlanRequest], reference: Option<u32>) -> bool
 // Returns whether the command's first number has no reference, or one to an earlier request that
 // creates a resource, or, for a Withdraw, makes or finds a posting.
 fn has_good_first(earlier: &[PlanRequest], asked: &PlanRequest) -> bool
-    ensures { IsTrue result ↔ IsGoodReference (MakesFirst asked.now.command) earlier.now asked.now.first }
+    ensures { IsTrue result
+        ↔ IsGoodReference (MakesFirst asked.now.command) earlier.now asked.now.first }
 {
     match &asked.command {
         Command::Withdraw(_) => refers_to_posting(earlier, asked.first),

@@ -60,7 +60,8 @@ fn postings_for(
     references: &[Option<u32>],
     own: &PostNos,
 ) -> Result<PostNos, AllocError>
-    ensures { IfOk result (λ numbers. numbers ≡ resolved_numbers answers.now references.now own.now) }
+    ensures { IfOk result
+        (λ numbers. numbers ≡ resolved_numbers answers.now references.now own.now) }
 {
     let mut numbers = PostNos::new(alloc);
     for (index, number) in own.as_slice().iter().enumerate() {

@@ -96,7 +96,8 @@ pub records_after : (cfg : Config) (s s' : State) (text unread : List ℕ) (firs
 unfolding Reached
 records_after cfg s s' text unread [] all h are = (all, refl, rw (← h.0, ← h.1) are)
 records_after cfg s s' text unread (r ∷ rs) [] h are = grind (arith, common_steps)
-records_after cfg s s' text unread (r ∷ rs) (q ∷ qs) h are = grind (arith, common_steps, records_after cfg h.0.1 s' h.0.2 unread rs qs h.3)
+records_after cfg s s' text unread (r ∷ rs) (q ∷ qs) h are =
+    grind (arith, common_steps, records_after cfg h.0.1 s' h.0.2 unread rs qs h.3)
 
 -- A file has no header if the first record read isn't the header.
 pub first_is_other : (bytes : List ℕ) (fields : List (List ℕ)) (reader : Reader (Bor (List ℕ)))

@@ -143,7 +143,8 @@ fits_same limit n = omega arith
 within_before : (setting : Setting) (key rec : List ℕ) (concept : ℕ) (s t : State) → IsLater s t
     → IsWithinLimits setting.limits t (state_after_post key rec concept t) → IsWithinLimits setting.limits s
     (state_after_post key rec concept s)
-within_before setting key rec concept s t a w = grind (arith, common_steps, count_posted, fits_before, fits_same, length-append, sum_by-append)
+within_before setting key rec concept s t a w =
+    grind (arith, common_steps, count_posted, fits_before, fits_same, length-append, sum_by-append)
 
 accepted_before : (setting : Setting) (key rec : List ℕ) (concept : ℕ) (s t : State) → IsLater s t
     → refusal_rule_of setting t (state_after_post key rec concept t) (request.Post key rec concept) None
@@ -184,7 +185,8 @@ refused_again setting key rec concept s mid t u a b r e (inl ((h, of_key, _), sa
 refused_again setting key rec concept s mid t u a b r e (inr (fresh, inl refused)) later (inr (new, inr consumes)) =
     absurd (accepted_before setting key rec concept s t (subst (λ (w : State). IsLater w t) refused.3 later)
     consumes.0 refused.0 refused.1)
-refused_again setting key rec concept s mid t u a b r e (inr (fresh, inr posts)) later (inr (new, inr consumes)) = grind (arith, common_steps)
+refused_again setting key rec concept s mid t u a b r e (inr (fresh, inr posts)) later (inr (new, inr consumes)) =
+    grind (arith, common_steps)
 
 -- A post is answered only with a number, a repetition or a refusal.
 pub not_answered : (setting : Setting) (key rec : List ℕ) (concept : ℕ) (s t : State) (a : Answer)

@@ -13,7 +13,8 @@ joined : (line : ℕ → Outcome → List ℕ) (lines : ℕ → List Outcome →
     → ((n : ℕ) (o : Outcome) (os : List Outcome) → lines n (o ∷ os) ≡ line n o ++ lines (n + 1) os)
     → (n : ℕ) (os qs : List Outcome) → lines n (os ++ qs) ≡ lines n os ++ lines (n + length os) qs
 joined line lines none one n [] qs = grind (arith, common_steps)
-joined line lines none one n (x ∷ os) qs = grind (arith, common_steps, append_assoc, joined line lines none one (n + 1) os qs)
+joined line lines none one n (x ∷ os) qs =
+    grind (arith, common_steps, append_assoc, joined line lines none one (n + 1) os qs)
 
 lines_joined : (n : ℕ) (os qs : List Outcome) → outcome_lines n (os ++ qs) ≡ outcome_lines n os
     ++ outcome_lines (n + length os) qs

@@ -55,7 +55,8 @@ utf8_from bs false e = inr (λ is. true≢false (sym (is_utf8-from_IsUtf8 bs is)
 
 key : (bs : List ℕ) → Decided (IsKey bs)
 key bs =
-    decided_by (λ p. record { least = p.0; short = p.1.0; visible = p.1.1 }) (λ (k : IsKey bs). (k.least, (k.short, k.visible)))
+    decided_by (λ p. record { least = p.0; short = p.1.0; visible = p.1.1 })
+    (λ (k : IsKey bs). (k.least, (k.short, k.visible)))
     (both (at_most 1 (length bs)) (both (at_most (length bs) 64)
     (all (λ b. (exclamation_mark ≤ b) × (b ≤ tilde)) (λ b. both (at_most exclamation_mark b) (at_most b tilde)) bs)))
 

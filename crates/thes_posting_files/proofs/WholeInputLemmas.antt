@@ -15,4 +15,5 @@ pub gives_more : {R : Type 0} (remaining : R → Option (List ℕ)) (limit : ℕ
     → Consumes (unread_bytes remaining old)
     (unread_bytes remaining new) (take count buf) → count ≤ length buf → limit < length bytes + count
     → GivesMore remaining limit start new
-gives_more remaining limit start old new bytes buf count read more in_limit over_limit = grind (arith, common_steps, Consumes-trans, length-append, length-take-le)
+gives_more remaining limit start old new bytes buf count read more in_limit over_limit =
+    grind (arith, common_steps, Consumes-trans, length-append, length-take-le)
