@@ -57,10 +57,9 @@ pub record OpensFiles (image : Image) (s : State) : Type 0 where
   pub serves : (schema : Schema) (t : Tables) → HoldsStore image schema t → KeepsIn schema s.now t
   pub empty : IsNewFile image → s.now.schema ≡ empty_schema
 
--- The two files were opened in this way, and the database in them failed to open. The cause is that of an error of the
--- database and of how far the opening got. If the disk hasn't failed silently, there was a reason for this error, and
--- the files hold what they held: whatever a crash leaves of them stands for the same database or, where there was none,
--- for an empty one.
+-- A failed opening keeps what the files hold, unless the disk fails silently. Whatever a crash leaves of them stands
+-- for the same database or, where there was none, for an empty one. The cause is that of an error of the database, for
+-- which its contract has a reason, and of how far the opening got. `AreOpened` says how the files were opened.
 pub record FailsToOpen {D : Type 0} {g : Ghosts D} (AreOpened : Files D → Type 0) (cause : Cause) (rest : Leftover D g)
     : Type 0 where
   pub files : Files D

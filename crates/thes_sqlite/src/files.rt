@@ -116,7 +116,7 @@ fn open_pair<S: Start>(rt: &HostRuntime, path: &str, start: S) -> Result<Files<F
 
 /// Opens the database in the files at a path; if they hold a store, it is this store. `start`
 /// represents their contents, which may be anything. Returns the cause of a failure with what is
-/// left of the files, if they were opened; these then hold what they held.
+/// left of the files, if they were opened: the database that they held.
 pub fn open_files<S: Start>(
     rt: &HostRuntime,
     path: &str,
