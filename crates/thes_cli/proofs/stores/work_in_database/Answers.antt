@@ -18,6 +18,7 @@ returns g c = record {
   back_is = c.leave.ensures.first;
   returns = c.leave.ensures.returns;
   certain = c.leave.ensures.certain;
+  doubt = c.leave.ensures.doubt;
 }
 
 pub new-keeper-requires-clause-of_files : goal.new-keeper-requires-clause-of_files
