@@ -129,6 +129,8 @@ module _ {F R W E : Type 0} (given : F → Option (List ℕ)) (remaining : R →
       pub back_is : IfSome keeper.first (λ k. (left.conn ≡ Some k.conn) × (left.is_reopened ≡ false))
       pub returns : left.is_reopened ≡ false → ReturnsFirst store image keeper left.conn
       pub certain : left.is_reopened ≡ false → left.is_in_doubt ≡ false
+      -- A request is in doubt if it is so for the storage at the end.
+      pub doubt : left.is_in_doubt ≡ keeper.is_in_doubt
 
     -- The work was done on the tables of the database, and the database was closed. If no failure has shut it, and the
     -- closed files are clean, they hold the store after the work, and so after a run of the machine.

@@ -5,7 +5,7 @@ ghost use Rattle.thes_cli.specs.Streams.{AreFresh};
 
 use crate::closing::Closed;
 use crate::streams::Streams;
-use crate::work::{work_over_keeper, work_with_progress};
+use crate::work::work_over_keeper;
 use sqlite::{Alter, Connection};
 use std::alloc::Global;
 use std::io::{Read, Write};
@@ -13,8 +13,8 @@ use std::net::Net;
 use std::rt::Clock;
 use thes_command_line::arguments::StoreSetting;
 use thes_jobs::databases::Databases;
-use thes_jobs::progress::Progress;
 use thes_jobs::work::{DatabaseWork, MemoryWork};
+use thes_sqlite::progress::Progress;
 use thes_sqlite::reopening::{HeldTables, Leaving, Reopen, ReopeningKeeper};
 use thes_store::mem::MemKeeper;
 
@@ -50,13 +50,12 @@ pub fn work_in_database<
         opener,
         progress,
     } = job;
-    let keeper = ReopeningKeeper::new(alloc, conn, opener);
-    let (status, keeper) = work_with_progress::<N, ReopeningKeeper<S, O>, P, F, R, W, E>(
+    let keeper = ReopeningKeeper::new(alloc, conn, opener, progress);
+    let (status, keeper) = work_over_keeper::<N, ReopeningKeeper<S, O, P>, F, R, W, E>(
         alloc,
         clock,
         work,
         keeper,
-        progress,
         setting.limits,
         Some(file),
         streams,

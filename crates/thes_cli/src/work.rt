@@ -19,8 +19,6 @@ use thes_base::data::Limits;
 use thes_base::pipe::Pipe;
 use thes_command_line::arguments::DisplayOptions;
 use thes_http::connection_count::ConnectionCount;
-use thes_jobs::progress::Progress;
-use thes_jobs::progress::reporting_keeper::ReportingKeeper;
 use thes_jobs::trouble::report_unopened_store;
 use thes_jobs::work::{OutputWork, Work};
 use thes_office::Office;
@@ -124,36 +122,4 @@ pub fn work_over_keeper<
             (status, office.into_keeper())
         }
     }
-}
-
-/// Works over a storage as `work_over_keeper` does, and reports its progress to a listener. It is
-/// generic over the storage, since the proof of a call sees all calls of the storage.
-pub fn work_with_progress<
-    N: Net + Clock,
-    K: Keeper + FaultCause,
-    P: Progress,
-    F: Read + Drop,
-    R: Read,
-    W: Write,
-    E: Write,
->(
-    alloc: Global,
-    clock: &N,
-    work: Work<F, N::Listener>,
-    keeper: K,
-    progress: P,
-    limits: Limits,
-    file: Option<String>,
-    streams: &mut Streams<R, W, E>,
-) -> (u8, K)
-    requires { AreFresh streams.old }
-    ensures { WorksOverKeeper K.view K.is_open K.finds F.remaining R.remaining W.contents E.contents
-        work (option_map string_bytes file) limits keeper streams.old result.0 result.1
-        streams.new }
-{
-    let keeper = ReportingKeeper::new(keeper, progress);
-    let (status, keeper) = work_over_keeper::<N, ReportingKeeper<K, P>, F, R, W, E>(
-        alloc, clock, work, keeper, limits, file, streams,
-    );
-    (status, keeper.into_keeper())
 }

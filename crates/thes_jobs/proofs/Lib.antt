@@ -1,4 +1,3 @@
 pub mod DatabaseLemmas
-pub mod PassingLemmas
 pub mod PreparedLemmas
 pub mod StartingLemmas

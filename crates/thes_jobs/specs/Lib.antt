@@ -2,7 +2,6 @@ pub mod Databases
 pub mod Trouble
 pub mod PlannedWork
 pub mod NewStore
-pub mod Passing
 pub mod Migrating
 pub mod OpenStore
 pub mod Starting

@@ -42,8 +42,9 @@ pub trait Databases {
     fn open(&self, image: Self::Image, file: &str) -> Result<Connection<Self::Engine>, Cause>
         ensures { IfOk result (OpensFrom Self.Engine.Store Self.Opener.image) };
 
-    /// Returns what opens the database in a file again. The file must be open.
-    fn reopener(&self, file: &str) -> Result<Self::Opener, Fault>;
+    /// Returns what opens the database in a file again. It takes the database's connection, since
+    /// nothing may be opened again before it is open.
+    fn reopener(&self, conn: &Connection<Self::Engine>, file: &str) -> Result<Self::Opener, Fault>;
 
     /// Takes a connection, if there is one, closes it, and returns what is left of its files, which
     /// hold its store. (by reference, since Rattle proves no `impl` of a method that takes a
@@ -89,7 +90,11 @@ impl<'r, S: Start + ReopenedImage> Databases for FileDatabases<'r, S> {
         open_database_files(self.rt, image, file)
     }
 
-    fn reopener(&self, file: &str) -> Result<StoreFiles<'r, S>, Fault> {
+    fn reopener(
+        &self,
+        _conn: &Connection<FileStore<FileFrom<S>>>,
+        file: &str,
+    ) -> Result<StoreFiles<'r, S>, Fault> {
         StoreFiles::new(self.rt, file)
     }
 

@@ -6,7 +6,6 @@ pub mod databases;
 mod making;
 pub mod migrating;
 pub mod new_store;
-pub mod progress;
 pub mod screen;
 pub mod starting;
 pub mod store_files;

@@ -2,9 +2,9 @@
 ghost use Rattle.std.specs.Prelude.{◌≡◌, ◌↔◌, ◌≤◌, ◌-◌, IfSome, IsTrue};
 ghost use Rattle.std.specs.Time.{instant_nanos};
 
-use crate::progress::Progress;
 use std::rt::Clock;
 use std::time::Instant;
+use thes_sqlite::progress::Progress;
 
 // The least time between two lines, in seconds.
 const PAUSE: u64 = 1;

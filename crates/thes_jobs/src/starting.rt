@@ -327,7 +327,7 @@ fn open_over<'r, D: Databases>(
             return Err(failed_over(StartFailure::InStore(file, trouble, fault), store));
         }
     }
-    let opener = match databases.reopener(file.as_str()) {
+    let opener = match databases.reopener(&store.conn, file.as_str()) {
         Ok(opener) => opener,
         Err(fault) => {
             let failure = StartFailure::InStore(file, StoreTrouble::Unreadable, fault);

@@ -103,7 +103,7 @@ pub struct StoreFiles<'r, S> {
 impl<'r, S> StoreFiles<'r, S> {
     /// Records the identities of the store's files, which are those that the connection has opened.
     /// `Store` means that the file's full path isn't found.
-    pub fn new(rt: &'r HostRuntime, file: &str) -> Result<StoreFiles<'r, S>, Fault> {
+    pub(crate) fn new(rt: &'r HostRuntime, file: &str) -> Result<StoreFiles<'r, S>, Fault> {
         let Ok(path) = fs::canonicalize(rt, file) else {
             return Err(Fault::Store);
         };

@@ -1,18 +1,22 @@
--- Stores in the two files of a database: what opening finds, and what closing leaves.
+-- Stores in the two files of a database: what opening finds, and what a failed opening and closing leave.
 use Rattle.std.specs.Prelude.{◌≡◌, ◌⊎◌, ℕ, List, []}
 use Rattle.sqlite_disk.specs.declared.Disk.{Ghosts}
 use Rattle.sqlite_disk.specs.declared.Files.{Files}
 use Rattle.sqlite_wal.specs.Recovery.{Image}
 use Rattle.sqlite_wal.specs.Files.{outcomes}
 use Rattle.sqlite.specs.Effect.{Database, IsDatabase}
-use Rattle.sqlite.specs.Files.{HoldsDatabase, image_of}
+use Rattle.sqlite.specs.Files.{FailsToOpenFiles, HoldsDatabase, IsCleanLeft, LeavesFiles, image_of}
 use Rattle.sqlite.specs.Schema.{Schema}
 use Rattle.sqlite.specs.Start.{FindsIn}
 use Rattle.sqlite.specs.State.{State}
+use Rattle.sqlite.specs.declared.error.Error.{Error}
+use Rattle.sqlite.specs.declared.file.Leftover.{Leftover}
 use Rattle.thes_tables.specs.Tables.{Tables, empty_tables}
 use Rattle.thes_sql.specs.Schema.{empty_schema, store_schema}
 use Rattle.thes_sql.specs.StoredRows.{KeepsIn}
+use Rattle.thes_sqlite.specs.Causes.{opening_cause}
 use Rattle.thes_sqlite.specs.KeeperView.{IsUp}
+use Rattle.thes_sqlite.specs.declared.cause.Cause.{Cause}
 
 -- The contents of the two files are a database that is a store with this schema and these tables.
 pub record HoldsStore (image : Image) (schema : Schema) (t : Tables) : Type 0 where
@@ -52,6 +56,18 @@ pub record OpensFiles (image : Image) (s : State) : Type 0 where
   pub settled : s.now ≡ s.committed
   pub serves : (schema : Schema) (t : Tables) → HoldsStore image schema t → KeepsIn schema s.now t
   pub empty : IsNewFile image → s.now.schema ≡ empty_schema
+
+-- A failed opening keeps what the files hold, unless the disk fails silently. Whatever a crash leaves of them stands
+-- for the same database or, where there was none, for an empty one. The cause is that of an error of the database, for
+-- which its contract has a reason, and of how far the opening got. `AreOpened` says how the files were opened.
+pub record FailsToOpen {D : Type 0} {g : Ghosts D} (AreOpened : Files D → Type 0) (cause : Cause) (rest : Leftover D g)
+    : Type 0 where
+  pub files : Files D
+  pub are_opened : AreOpened files
+  pub error : Error
+  pub cause_is : cause ≡ opening_cause error rest
+  pub reason : IsCleanLeft rest → FailsToOpenFiles files rest error
+  pub unharmed : IsCleanLeft rest → LeavesFiles files rest
 
 -- The files were closed. If the database was a store, and nothing in it was uncommitted, they hold this store, as they
 -- read now and whatever a crash leaves of them.

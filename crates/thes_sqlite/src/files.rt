@@ -1,11 +1,11 @@
 //! The two files of a database, from opening to closing.
-ghost use Rattle.std.specs.Prelude.{◌≡◌, true, false, IfOk, IsTrue};
+ghost use Rattle.std.specs.Prelude.{◌≡◌, true, false, IfErr, IfOk, IfSome, IsTrue};
 ghost use Rattle.sqlite.specs.Files.{file_state};
 ghost use Rattle.sqlite.specs.State.{HasCleanDisk};
 ghost use Rattle.sqlite_std_file.specs.File.{file_is_usable, IsFresh};
 ghost use Rattle.sqlite_wal.specs.Files.{image_at};
 ghost use Rattle.sqlite_wal.specs.Reads.{AreClean};
-ghost use Rattle.thes_sqlite.specs.DatabaseFiles.{ClosesFiles, OpensFiles};
+ghost use Rattle.thes_sqlite.specs.DatabaseFiles.{ClosesFiles, FailsToOpen, OpensFiles};
 
 use crate::cause::{Cause, cause_of_files, cause_of_opening};
 use crate::head::{HEAD_SIZE, begins_as_database};
@@ -116,7 +116,7 @@ fn open_pair<S: Start>(rt: &HostRuntime, path: &str, start: S) -> Result<Files<F
 
 /// Opens the database in the files at a path; if they hold a store, it is this store. `start`
 /// represents their contents, which may be anything. Returns the cause of a failure with what is
-/// left of the files, if they were opened.
+/// left of the files, if they were opened: the database that they held.
 pub fn open_files<S: Start>(
     rt: &HostRuntime,
     path: &str,
@@ -125,6 +125,8 @@ pub fn open_files<S: Start>(
     ensures opens { IfOk result (λ conn. HasCleanDisk (file_state conn)
         → OpensFiles (image_at S.Start) (file_state conn)) }
     ensures idle { IfOk result (λ conn. conn.in_transaction ≡ false) }
+    ensures fails { IfErr result (λ failed. IfSome failed.1
+        (FailsToOpen (λ files. IsFresh true files.log × IsFresh false files.db) failed.0)) }
 {
     let options = match options_at(rt, path) {
         Ok(options) => options,

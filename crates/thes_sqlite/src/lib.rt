@@ -12,6 +12,7 @@ mod migrating;
 mod opener;
 mod page_cache;
 mod posting_look_ups;
+pub mod progress;
 pub mod reopening;
 mod row_streams;
 mod rows;

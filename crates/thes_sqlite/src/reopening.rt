@@ -16,6 +16,8 @@ use crate::cause::{Cause, FaultCause};
 use crate::faults::{count_fault, count_fault_in};
 use crate::keeper::SqlKeeper;
 pub use crate::opener::{HeldTables, Reopen};
+use crate::progress::Progress;
+use crate::progress::counting_sink::load_counted;
 use sqlite::{Alter, Connection};
 use std::alloc::Global;
 use std::marker::Model;
@@ -29,9 +31,10 @@ use thes_tables::change::Change;
 use thes_tables::delta::Delta;
 use thes_tables::rows::PostingRow;
 
-/// Storage that keeps its tables in a database, and opens the database again after a failure has
-/// shut it. Contracts state its rows up to the first such failure, and after it only its faults.
-pub struct ReopeningKeeper<S: Alter, O: Reopen<Connection<S>> + HeldTables> {
+/// Storage that keeps its tables in a database, opens the database again after a failure has shut
+/// it, and reports its progress. Contracts state its rows up to the first such failure, and after
+/// it only its faults; they don't mention the reports.
+pub struct ReopeningKeeper<S: Alter, O: Reopen<Connection<S>> + HeldTables, L> {
     // The storage over the open connection; None while the database can't be opened.
     storage: Option<SqlKeeper<S>>,
     // Whether a failure has shut the first connection.
@@ -39,6 +42,9 @@ pub struct ReopeningKeeper<S: Alter, O: Reopen<Connection<S>> + HeldTables> {
     // The storage over the first connection when that was lost; only contracts use it.
     loss: Snapshot<Option<SqlKeeper<S>>>,
     opener: O,
+    progress: L,
+    // The number of look-ups of postings by their keys; it saturates.
+    lookups: u64,
     // The number of failures, over all connections.
     failures: u64,
     // Whether a commit that returned `Store` may have been performed.
@@ -48,7 +54,7 @@ pub struct ReopeningKeeper<S: Alter, O: Reopen<Connection<S>> + HeldTables> {
     alloc: Global,
 }
 
-impl<S: Alter, O: Reopen<Connection<S>> + HeldTables> Model for ReopeningKeeper<S, O> {
+impl<S: Alter, O: Reopen<Connection<S>> + HeldTables, L> Model for ReopeningKeeper<S, O, L> {
     ghost use Rattle.thes_sqlite.specs.Reopening.{IsCertain, IsKeptOrLost, IsOfFiles, ReopeningView, first_storage};
     ghost use Rattle.thes_sqlite.specs.Reopening.{reopening_view_code};
 
@@ -78,9 +84,15 @@ pub struct Leaving<S: Alter> {
     pub is_reopened: bool,
 }
 
-impl<S: Alter + Drop, O: Reopen<Connection<S>> + HeldTables> ReopeningKeeper<S, O> {
-    /// Takes over a connection without reading from it.
-    pub fn new(alloc: Global, conn: Connection<S>, opener: O) -> ReopeningKeeper<S, O>
+impl<S: Alter + Drop, O: Reopen<Connection<S>> + HeldTables, L: Progress> ReopeningKeeper<S, O, L> {
+    /// Takes over a connection without reading from it. Loads and look-ups of postings by their
+    /// keys are reported to `progress`.
+    pub fn new(
+        alloc: Global,
+        conn: Connection<S>,
+        opener: O,
+        progress: L,
+    ) -> ReopeningKeeper<S, O, L>
         requires idle { conn.in_transaction ≡ false }
         requires of_files { ServesFiles O.image (state S.Store conn) }
         ensures { result ≡ view_of_connection conn }
@@ -92,6 +104,8 @@ impl<S: Alter + Drop, O: Reopen<Connection<S>> + HeldTables> ReopeningKeeper<S, 
             is_reopened: false,
             loss,
             opener,
+            progress,
+            lookups: 0,
             failures: 0,
             is_in_doubt: false,
             cause: Cause::Other,
@@ -118,6 +132,8 @@ impl<S: Alter + Drop, O: Reopen<Connection<S>> + HeldTables> ReopeningKeeper<S, 
             is_reopened,
             loss: _,
             opener: _,
+            progress: _,
+            lookups: _,
             failures: _,
             is_in_doubt,
             cause: _,
@@ -206,7 +222,8 @@ impl<S: Alter + Drop, O: Reopen<Connection<S>> + HeldTables> ReopeningKeeper<S, 
         found
     }
 
-    // Passes all rows of the open database to a sink. The fault is `Store` if no database is open.
+    // Passes all rows of the open database to a sink, and reports them. The fault is `Store` if no
+    // database is open.
     fn load_now<R: RowSink>(&mut self, sink: &mut R) -> Result<(), Fault>
         ensures yields { IsKeeperStillUp S.Store self.new
             → SinkOutcome R.gives sink.old (sink_rows (rows_still S.Store self.old)) result
@@ -219,7 +236,7 @@ impl<S: Alter + Drop, O: Reopen<Connection<S>> + HeldTables> ReopeningKeeper<S, 
         let Some(keeper) = &mut self.storage else {
             return Err(Fault::Store);
         };
-        let loaded = keeper.load(sink);
+        let loaded = load_counted(keeper, sink, &mut self.progress);
         self.cause = keeper.cause();
         loaded
     }
@@ -255,15 +272,16 @@ impl<S: Alter + Drop, O: Reopen<Connection<S>> + HeldTables> ReopeningKeeper<S, 
 }
 
 /// The last fault may also be that of opening the database again.
-impl<S: Alter, O: Reopen<Connection<S>> + HeldTables> FaultCause for ReopeningKeeper<S, O> {
+impl<S: Alter, O: Reopen<Connection<S>> + HeldTables, L> FaultCause for ReopeningKeeper<S, O, L> {
     fn cause(&self) -> Cause {
         self.cause
     }
 }
 
 /// A load, or a commit that fails, opens the database again if a failure has shut it; look-ups
-/// don't.
-impl<S: Alter + Drop, O: Reopen<Connection<S>> + HeldTables> Keeper for ReopeningKeeper<S, O> {
+/// don't. Loads and look-ups by key are reported.
+impl<S: Alter + Drop, O: Reopen<Connection<S>> + HeldTables, L: Progress> Keeper
+    for ReopeningKeeper<S, O, L> {
     ghost use Rattle.thes_sqlite.specs.Reopening.{storage_still, IsStillOpen, FindsStill};
 
     ghost view = { λ k. storage_still S.Store k };
@@ -305,6 +323,8 @@ impl<S: Alter + Drop, O: Reopen<Connection<S>> + HeldTables> Keeper for Reopenin
     }
 
     fn find(&mut self, key: &Key) -> Result<Option<PostingRow>, Fault> {
+        self.progress.report_lookups(self.lookups);
+        self.lookups = self.lookups.saturating_add(1);
         let Some(keeper) = &mut self.storage else {
             return Err(count_fault(&mut self.failures, Fault::Store));
         };

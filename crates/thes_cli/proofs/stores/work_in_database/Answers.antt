@@ -8,16 +8,17 @@ use Rattle.thes_cli.proofs.stores.work_in_database.Goals as goal
 
 pub returns : goal.returns
 returns g c = record {
-  keeper = c.work_with_progress-status.result.1;
+  keeper = c.work_over_keeper-status.result.1;
   works = subst (λ (k : ReopeningView _).
       WorksOverKeeper (storage_still g.S.Store) (IsStillOpen g.S.Store) (FindsStill g.S.Store) g.F.Read.remaining
       g.R.Read.remaining g.W.Write.contents g.E.Write.contents c.args.job.work (Some (string_bytes c.args.job.file))
-      c.args.job.setting.limits k c.args.streams.now c.work_with_progress-status.result.0
-      c.work_with_progress-status.result.1 c.work_with_progress-status.new.streams)
-      c.new-keeper.ensures c.work_with_progress-status.ensures;
+      c.args.job.setting.limits k c.args.streams.now c.work_over_keeper-status.result.0
+      c.work_over_keeper-status.result.1 c.work_over_keeper-status.new.streams)
+      c.new-keeper.ensures c.work_over_keeper-status.ensures;
   back_is = c.leave.ensures.first;
   returns = c.leave.ensures.returns;
   certain = c.leave.ensures.certain;
+  doubt = c.leave.ensures.doubt;
 }
 
 pub new-keeper-requires-clause-of_files : goal.new-keeper-requires-clause-of_files

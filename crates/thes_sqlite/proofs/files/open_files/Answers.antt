@@ -22,3 +22,15 @@ returns-in-Ok-open_files_with-clause-opens g c = rw c.set_clock.ensures λ clean
     opens_files (image_at g.S.Start) (file_state c.in-Ok-open_files_with.conn)
     (subst (λ i. FindsIn i (file_state c.in-Ok-open_files_with.conn)) same
     (record { holds = found.holds; reads = found.reads })) opened.0 opened.1
+
+pub returns-in-Err-open_files_with-clause-fails : goal.returns-in-Err-open_files_with-clause-fails
+returns-in-Err-open_files_with-clause-fails g c =
+    let failed = c.in-Err-open_files_with.ensures in
+    record {
+      files = c.in-Ok-open_pair.files;
+      are_opened = c.in-Ok-open_pair.ensures.fresh;
+      error = c.in-Err-open_files_with.error;
+      cause_is = c.cause_of_opening.ensures;
+      reason = failed.cause;
+      unharmed = failed.unharmed;
+    }

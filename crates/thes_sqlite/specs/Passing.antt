@@ -3,7 +3,7 @@ use Rattle.std.specs.Prelude.{◌≡◌, List, Option, Result}
 use Rattle.thes_base.specs.declared.fault.Fault.{Fault}
 use Rattle.thes_base.specs.declared.fault.Table.{Table}
 use Rattle.thes_tables.specs.declared.cells.Cell.{Cell}
-use Rattle.thes_jobs.specs.declared.progress.counting_sink.CountingSink.{CountingSink}
+use Rattle.thes_sqlite.specs.declared.progress.counting_sink.CountingSink.{CountingSink}
 
 module _ {S P : Type 0} (gives : S → Table × Option (List Cell) → Result (Unit {0}) Fault → S → Type 0) where
   -- The row was passed to the inner sink, whose effect and result are those of the call.

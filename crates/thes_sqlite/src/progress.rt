@@ -1,6 +1,5 @@
 //! Listeners for the progress of work over the storage.
-mod counting_sink;
-pub mod reporting_keeper;
+pub(crate) mod counting_sink;
 
 /// A listener for progress, which can be copied. Its calls don't affect the work.
 pub trait Progress: Copy {

@@ -7,8 +7,8 @@ use Rattle.thes_tables.specs.declared.cells.Cell.{Cell}
 use Rattle.thes_tables.specs.Cells.{Raw}
 use Rattle.thes_store.specs.FoundLoads.{PassesFound}
 use Rattle.thes_store.specs.Sinks.{SinkAcceptsAll, SinkAcceptsPrefix, SinkOutcome, sink_rows}
-use Rattle.thes_jobs.specs.Passing.{Passes}
-use Rattle.thes_jobs.specs.declared.progress.counting_sink.CountingSink.{CountingSink}
+use Rattle.thes_sqlite.specs.Passing.{Passes}
+use Rattle.thes_sqlite.specs.declared.progress.counting_sink.CountingSink.{CountingSink}
 
 module _ {S P : Type 0} (gives : S → Table × Option (List Cell) → Result (Unit {0}) Fault → S → Type 0) where
   passes_none : (old new : CountingSink S P) → new ≡ old → (new.sink.ghost_name ≡ old.sink.ghost_name)
@@ -36,37 +36,33 @@ module _ {S P : Type 0} (gives : S → Table × Option (List Cell) → Result (U
       let rest = takes_some_behind fault h.0 xs new h.2 in
       (rest.0 ∙ h.1.0, inr (inr (h.0.sink.now, h.1.1, rest.1)))
 
-  hands_behind : (old : CountingSink S P) (xs : List (Table × Option (List Cell))) (result : Result (Unit {0}) Fault)
+  outcome_behind : (old : CountingSink S P) (xs : List (Table × Option (List Cell))) (result : Result (Unit {0}) Fault)
       (new : CountingSink S P) → SinkOutcome (Passes gives) old xs result new
       → (new.sink.ghost_name ≡ old.sink.ghost_name) × SinkOutcome gives old.sink.now xs result new.sink.now
-  hands_behind old xs (Ok done) new h = takes_behind old xs new h
-  hands_behind old xs (Err fault) new h = takes_some_behind fault old xs new h
+  outcome_behind old xs (Ok done) new h = takes_behind old xs new h
+  outcome_behind old xs (Err fault) new h = takes_some_behind fault old xs new h
 
   -- The inner sink, whose borrow ends with the value `x`, receives all rows.
-  pub hands_lent : (old : CountingSink S P) (xs ys : List (Table × Option (List Cell)))
-      (result : Result (Unit {0}) Fault) (new : CountingSink S P) (x : S)
-      → xs ≡ ys → SinkOutcome (Passes gives) old xs result new → (old.sink.ghost_name ≡ new.sink.ghost_name → x
-      ≡ new.sink.now) → SinkOutcome gives old.sink.now ys result x
-  hands_lent old xs ys result new x same h e =
-      let behind = hands_behind old xs result new h in
-      subst (λ zs. SinkOutcome gives old.sink.now zs result x) same
-      (subst (λ (s : S). SinkOutcome gives old.sink.now xs result s) (sym (e (sym behind.0))) behind.1)
+  pub outcome_lent : (old : CountingSink S P) (xs : List (Table × Option (List Cell))) (result : Result (Unit {0}) Fault)
+      (new : CountingSink S P) (x : S) → SinkOutcome (Passes gives) old xs result new
+      → (old.sink.ghost_name ≡ new.sink.ghost_name → x ≡ new.sink.now) → SinkOutcome gives old.sink.now xs result x
+  outcome_lent old xs result new x h e =
+      let behind = outcome_behind old xs result new h in
+      subst (λ (s : S). SinkOutcome gives old.sink.now xs result s) (sym (e (sym behind.0))) behind.1
 
   -- A load that passes its rows to a counting sink passes them to the inner sink.
-  pub found_lent : {K : Type 0} {is_open : K → Type 0} {finds : K → Raw → Type 0} (inside old new : K)
-      (before : CountingSink S P) (result : Result (Unit {0}) Fault) (after : CountingSink S P) (x : S) → inside ≡ old
-      → PassesFound is_open finds (Passes gives) inside new before result after
+  pub found_lent : {K : Type 0} {is_open : K → Type 0} {finds : K → Raw → Type 0} (old new : K)
+      (before : CountingSink S P) (result : Result (Unit {0}) Fault) (after : CountingSink S P) (x : S)
+      → PassesFound is_open finds (Passes gives) old new before result after
       → (before.sink.ghost_name ≡ after.sink.ghost_name → x ≡ after.sink.now)
       → PassesFound is_open finds gives old new before.sink.now result x
-  found_lent {K} {is_open} {finds} inside old new before result after x same h e =
-      subst (λ (k : K). PassesFound is_open finds gives k new before.sink.now result x) same
+  found_lent {K} {is_open} {finds} old new before result after x h e =
       record { was = h.was; stays = h.stays; passes = passes_lent result h.passes }
     where
-      passes_lent : (r : Result (Unit {0}) Fault) → OnOk r (is_open new → (raw : Raw) × finds inside raw
+      passes_lent : (r : Result (Unit {0}) Fault) → OnOk r (is_open new → (raw : Raw) × finds old raw
           × SinkAcceptsAll (Passes gives) before (sink_rows raw) after)
-          → OnOk r (is_open new → (raw : Raw) × finds inside raw
+          → OnOk r (is_open new → (raw : Raw) × finds old raw
           × SinkAcceptsAll gives before.sink.now (sink_rows raw) x)
       passes_lent (Ok done) passes = λ up.
-          let h = passes up in
-          (h.0, h.1, hands_lent before (sink_rows h.0) (sink_rows h.0) (Ok done) after x refl h.2 e)
+          let h = passes up in (h.0, h.1, outcome_lent before (sink_rows h.0) (Ok done) after x h.2 e)
       passes_lent (Err fault) passes = tt
