@@ -288,8 +288,8 @@ fn read_members<'a>(
     Ok(found)
 }
 
-/// Consumes the name of the next member and its colon, and returns the name, or `None` at the end of
-/// the object.
+/// Consumes the name of the next member and its colon, and returns the name, or `None` at the end
+/// of the object.
 pub fn next_name<'a>(reader: &mut Reader<'a>) -> Result<Option<&'a str>, ReadStop>
     ensures ok { IfOk result
         (λ name. read_key reader.old ≡ Some (option_map (λ s. s.now) name, reader.new)) }

@@ -67,7 +67,7 @@ pub record FailsToOpen {D : Type 0} {g : Ghosts D} (AreOpened : Files D → Type
   pub error : Error
   pub cause_is : cause ≡ opening_cause error rest
   pub reason : IsCleanLeft rest → FailsToOpenFiles files rest error
-  pub unharmed : IsCleanLeft rest → LeavesFiles files rest
+  pub keeps_files : IsCleanLeft rest → LeavesFiles files rest
 
 -- The files were closed. If the database was a store, and nothing in it was uncommitted, they hold this store, as they
 -- read now and whatever a crash leaves of them.

@@ -32,5 +32,5 @@ returns-in-Err-open_files_with-clause-fails g c =
       error = c.in-Err-open_files_with.error;
       cause_is = c.cause_of_opening.ensures;
       reason = failed.cause;
-      unharmed = failed.unharmed;
+      keeps_files = failed.unharmed;
     }
