@@ -216,8 +216,10 @@ held_unspent t spent k is unspent = ap (parts_view t) (sym (ap (λ (x : CoreView
 -- A request that may be applied to a usable core may change its parts.
 pub parts_may_change : (t : Thesaurus) (spent : Bool) (k : CoreView) (command : Command) → parts_view t spent ≡ k
     → k.spent ≡ false → (spent ≡ false → AreLegal t []) → MayApply k command → MayChange t command
-parts_may_change t spent k command is unspent fit may =
-    (fit (ap (λ (x : CoreView). x.spent) is ∙ unspent), subst (λ (x : CoreView). MayApply x command) (sym (held_unspent t spent k is unspent)) may)
+parts_may_change t spent k command is unspent fit may = (
+  fit (ap (λ (x : CoreView). x.spent) is ∙ unspent),
+  subst (λ (x : CoreView). MayApply x command) (sym (held_unspent t spent k is unspent)) may,
+)
 
 -- A core is a view of a state exactly when its parts are those of the state and count its histories.
 module _ (t : Thesaurus) (spent : Bool) (k : CoreView) (is : parts_view t spent ≡ k) (s : State) where

@@ -32,8 +32,8 @@ test_passed rs n e = grind (arith, common_steps)
 pub concept_inside : (rs : List Resource) (n : ℕ) → IsConcept rs n → is_outside rs n ≡ false
 concept_inside rs n (r, at, concept) = grind (arith, common_steps)
 
-pub same_outside : (rs ss : List Resource) (n : ℕ) → (IsOutside rs n → IsOutside ss n) → (IsOutside ss n → IsOutside rs n)
-    → is_outside rs n ≡ is_outside ss n
+pub same_outside : (rs ss : List Resource) (n : ℕ) → (IsOutside rs n → IsOutside ss n)
+    → (IsOutside ss n → IsOutside rs n) → is_outside rs n ≡ is_outside ss n
 same_outside rs ss n there back = both_ways _ _ (λ e. outside_test ss n (there (test_passed rs n e)))
     (λ e. outside_test rs n (back (test_passed ss n e)))
 
@@ -102,4 +102,5 @@ module _ (before : List Resource) (marks : FinSet nat_cmp)
 
       back : IsOutside before n → set.contains (set.remove marks (length before + 1)) n ≡ true
       back out = removed_kept nat_cmp_total exact_unsigned marks (length before + 1) n (outside_apart n out)
-          (knows n ∙ outside_test (before ++ outside_resource ∷ []) n (passes_push before outside_resource is_out n out))
+          (knows n ∙ outside_test (before ++ outside_resource ∷ []) n
+          (passes_push before outside_resource is_out n out))

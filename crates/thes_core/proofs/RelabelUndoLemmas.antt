@@ -175,7 +175,8 @@ module _ (t : Thesaurus) (owner : ℕ) (tag text old : List ℕ) (keep : Bool) (
         → w ≡ with_labels v (labels_after_relabel owner tag old false v.labels)
         → PartsOfState t (without_postings s) (record middle { vocab = w })
     parts_before_relabel middle w same again =
-        parts_become_state again (ap (λ (x : Thesaurus). x.graph) same) (ap (λ (x : Thesaurus). x.limits) same) (λ i. record {
+        parts_become_state again (ap (λ (x : Thesaurus). x.graph) same) (ap (λ (x : Thesaurus). x.limits) same)
+        (λ i. record {
           resources = (ap (λ (x : Vocabulary). x.resources) seen_plain ∙ resources_now) i;
           iris = (ap (λ (x : Vocabulary). x.iris) seen_plain ∙ ap (λ (x : State). x.iris) is.state) i;
           labels = labels_again i;

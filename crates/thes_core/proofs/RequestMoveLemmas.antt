@@ -87,19 +87,30 @@ module _ (passes : History → Bool) where
       → has_number (passing_numbers hs) h.number ≡ true
   passing_has [] i h e hit = absurd (cc)
   passing_has (x ∷ hs) zero h e hit = grind (arith, common_steps, eq-eqb, passing_yes)
-  passing_has (x ∷ hs) (suc i) h e hit = grind (arith, common_steps, cases_Bool, passing_no, passing_yes, passing_has hs i h e hit)
+  passing_has (x ∷ hs) (suc i) h e hit =
+      grind (arith, common_steps, cases_Bool, passing_no, passing_yes, passing_has hs i h e hit)
 
   passing_from : (hs : List History) (n : ℕ) → has_number (passing_numbers hs) n ≡ true → (h : History)
       × (passes h ≡ true) × (h.number ≡ n)
   passing_from [] n e = absurd (cc)
-  passing_from (h ∷ hs) n e = grind (arith, common_steps, cases_Bool, eqb-true, or_cases, passing_no, passing_yes, passing_from hs n)
+  passing_from (h ∷ hs) n e =
+      grind (arith, common_steps, cases_Bool, eqb-true, or_cases, passing_no, passing_yes, passing_from hs n)
 
   -- The moves of the histories that pass are those from the source to the target, if all are assigned to the source.
   pub moves_passing : (source target : ℕ) (apart : source ≢ target) (number : ℕ) (hs : List History)
       → AllAssigned passes source target apart hs → new_moves passes target number hs ≡ move_rows number source target
       (passing_numbers hs)
   moves_passing source target apart number [] all = refl
-  moves_passing source target apart number (h ∷ hs) all = grind (arith, common_steps, cases_Bool, passing_no, passing_yes, stands_parts, moves_passing source target apart (number + 1) hs all.1, moves_passing source target apart number hs all.1)
+  moves_passing source target apart number (h ∷ hs) all = grind (
+    arith,
+    common_steps,
+    cases_Bool,
+    passing_no,
+    passing_yes,
+    stands_parts,
+    moves_passing source target apart (number + 1) hs all.1,
+    moves_passing source target apart number hs all.1,
+  )
 
 -- The listed postings, sorted, are the numbers of the histories that are listed.
 pub listed_sorted : (hs : List History) (source : ℕ) (postings ordered : List ℕ)

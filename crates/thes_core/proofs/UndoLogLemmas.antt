@@ -76,7 +76,8 @@ module _ (k : CoreView) (steps rest : List UndoStep) (step : UndoStep) (is : ste
 
   -- Once it is taken back, the rest of the log is one of the core.
   pub log_of_rest : (now : CoreView) → now.setting ≡ k.setting
-      → ((s : State) → LeadsWithoutPostings k.setting s step (with_histories [] k) → with_histories [] now ≡ without_postings s)
+      → ((s : State) → LeadsWithoutPostings k.setting s step (with_histories [] k)
+      → with_histories [] now ≡ without_postings s)
       → IsLogOf rest now
   log_of_rest now set parts =
       let mid = last_of_log.0 in
@@ -276,7 +277,8 @@ lost_from_view k s command lost holds is = subst (λ (x : State). IsLostFromPart
         → IsLostFromParts c (with_histories s.histories k) l
     bare (request.Relabel owner tag text keep) (Preferred old) x = x
     bare (request.Deprecate concept) (Links row) x = x
-    bare (request.Merge source target) (Merge loss) x = record { links = x.links; additions = x.additions; copies = x.copies }
+    bare (request.Merge source target) (Merge loss) x =
+        record { links = x.links; additions = x.additions; copies = x.copies }
     bare _ _ x = x
 
 -- A request that is applied and appended to a log keeps it a log of the core.

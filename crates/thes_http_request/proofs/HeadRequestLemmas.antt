@@ -22,8 +22,9 @@ unfolding head_request_of
 refuses_path takes_plans p h f = rw (h, f) refl
 
 pub refuses_method : (takes_plans : Bool) (p : Parts) (found : EndpointMatch) → is_coded p ≡ false
-    → endpoint_at takes_plans (path_of p.target) ≡ Some found → bytes_eq p.method (method_of found.endpoint) ≡ false → head_request_of takes_plans p
-    ≡ Err (BadMethod found.endpoint)
+    → endpoint_at takes_plans (path_of p.target) ≡ Some found
+    → bytes_eq p.method (method_of found.endpoint) ≡ false
+    → head_request_of takes_plans p ≡ Err (BadMethod found.endpoint)
 unfolding head_request_of
 refuses_method takes_plans p found h f m = rw (h, f, m) refl
 

@@ -82,7 +82,19 @@ module _ (rs : List Resource) (ps : List PostingRow) (taken : ℕ) (places : Lis
     below n = grind (arith, common_steps, all_of_in, in_numbered, last, numbered_bound, row_of_move)
 
     well_formed : (p : PostingRow) → IsIn p ps → IsWellFormed (history_of (rows ++ r ∷ []) p)
-    well_formed p h = grind (arith, common_steps, below, cases_Bool, eqb-true, follows_push, from_here, in_numbered, last, moves_next, moves_other)
+    well_formed p h = grind (
+      arith,
+      common_steps,
+      below,
+      cases_Bool,
+      eqb-true,
+      follows_push,
+      from_here,
+      in_numbered,
+      last,
+      moves_next,
+      moves_other,
+    )
 
     -- After the move, the places are those of the postings after all rows so far.
     places_more : ArePlacesAfterMoves ps (rows ++ r ∷ []) (set_entry_at places r.posting r.target)

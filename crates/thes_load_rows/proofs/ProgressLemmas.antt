@@ -80,7 +80,8 @@ posting_stays raw more t e0 e1 e2 e3 e4 e5 e6 (a, b) = grind (arith, common_step
 pub resource_fault : (raw : Raw) (t : Tables) (cells : List Cell) → MetaPasses raw t → raw.resource
     ≡ Some (resource_rows 1 t.resource) → IsFaulty (resource_rows 1) ResourceRule (resource_rows 1 t.resource ++ cells
     ∷ []) → HasRead (stage.Stopped (BadStore table.Resource) table.Resource) (raw_with_row table.Resource cells raw)
-resource_fault raw t cells passes read faulty more (e0, grown) = grind (arith, common_steps, faulty_none, meta_stays, verdict_by_table)
+resource_fault raw t cells passes read faulty more (e0, grown) =
+    grind (arith, common_steps, faulty_none, meta_stays, verdict_by_table)
 
 -- If a row of table outside is faulty, the verdict is the fault of this table, whatever rows follow.
 pub outside_fault : (raw : Raw) (t : Tables) (cells : List Cell) → ResourcePasses raw t → raw.outside

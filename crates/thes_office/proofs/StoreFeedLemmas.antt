@@ -47,7 +47,8 @@ tables_taken (name ∷ names) raw rest n old new (follows, none, come) turn know
     old new takes in
     let one = table_taken name rest rows old mid (omega (arith, turn, follows))
     (subst (KnowsRows old) (sym none) knows) first in
-    let more = tables_taken names raw (with_rows name rows rest) (table_no name) mid new come one.turn one.knows later in
+    let more = tables_taken names raw (with_rows name rows rest) (table_no name) mid new come one.turn one.knows later
+    in
     (more.0, more.1 ∙ one.same)
 
 -- A loader that has accepted all rows of a store has received exactly these.

@@ -1,5 +1,5 @@
--- Proves that a write to a table of a store leaves the store's other tables unchanged, also where foreign keys of further
--- tables act.
+-- Proves that a write to a table of a store leaves the store's other tables unchanged, also where foreign keys of
+-- further tables act.
 use Rattle.std.proofs.Common.{arith, ◌≡◌, ◌≢◌, inl, inr, ℕ, ℤ, zero, suc, ◌+◌, List, [], ◌∷◌, ◌++◌, slice_get, Bool, true, false}
 use Rattle.std.proofs.Common.{Option, Some, None, Ok, nat_lt, ◌==◌, length, if◌then◌else◌, refl, sym, ap, subst, ◌∙◌}
 use Rattle.std.proofs.lemmas.Grind.{common_steps}
@@ -151,7 +151,8 @@ module _ (added : Additions) (apart : AllByRecursion IsApart added.tables) (keys
   acted_on n rest db next below w all is [] h = rest db next below all h
   acted_on n rest db next below w all is (id ∷ ids) h = elim (cases_Bool (refuses w.deed)) [
     | inl refused ↦ absurd (let e = rw refused at h in cc)
-    | inr allowed ↦ edited_apart n rest db next (action_edit db w (id ∷ ids)) (w.depth + 1) below is all (rw allowed at h)
+    | inr allowed ↦ edited_apart n rest db next (action_edit db w (id ∷ ids)) (w.depth + 1) below is all
+        (rw allowed at h)
   ]
 
   acted : (n : ℕ) → KeepStore n → (db next : Trees) (below : List Work) (w : Work)

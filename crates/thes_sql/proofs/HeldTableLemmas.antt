@@ -136,8 +136,8 @@ module _ (version : ℕ) (old new : State) (t : Tables) (kept : KeepsAs version 
 
   pub becomes_posting : (rows : List PostingRow) → Rewrites 8 (HoldPostings rows) old new → ArePostingsNumbered 1 rows
       → AllByRecursion IsSpelledPosting rows → BecomesAs version old.now new.now (record t { posting = rows })
-  becomes_posting rows w num told = becomes_all version old.now new.now (record t { posting = rows }) w.schema kept.schema
-      (elim [ table.Posting ↦ w.rows | p ↦ other_table_held w p (λ e. omega (arith, e)) ]) num
+  becomes_posting rows w num told = becomes_all version old.now new.now (record t { posting = rows }) w.schema
+      kept.schema (elim [ table.Posting ↦ w.rows | p ↦ other_table_held w p (λ e. omega (arith, e)) ]) num
       (kept.hold.spelled.0, (kept.hold.spelled.1.0, (kept.hold.spelled.1.1.0, told)))
 
   pub becomes_move : (rows : List MoveRow) → Rewrites 10 (HoldMoves rows) old new

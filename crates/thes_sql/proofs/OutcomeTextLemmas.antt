@@ -37,7 +37,8 @@ some_passes : {X : Type 0} (cells : X → List Cell) (p : X → Bool) (xs : List
 some_passes cells p [] = refl
 some_passes cells p (x ∷ xs) = grind (arith, common_steps, some_passes cells p xs)
 
-any_in_map : {X Y : Type 0} (f : X → Y) (p : Y → Bool) (xs : List X) → list_any (λ x. p (f x)) xs ≡ list_any p (map f xs)
+any_in_map : {X Y : Type 0} (f : X → Y) (p : Y → Bool) (xs : List X)
+    → list_any (λ x. p (f x)) xs ≡ list_any p (map f xs)
 any_in_map f p [] = refl
 any_in_map f p (x ∷ xs) = grind (arith, common_steps, any_in_map f p xs)
 
@@ -61,12 +62,12 @@ module _ {A : Type 0} (of : A → Row) (cells : ℕ × A → List Cell) (tree : 
     (test : (x : ℕ × A) → list_all (holds (params ∷ hidden_row of x ∷ [])) filters ≡ p x.1)
     (shows : (x : ℕ × A) → output (ordered_query tree filters project) (params ∷ hidden_row of x ∷ []) ≡
     (Int (pos x.0) ∷ [], values (cells x))) where
-  some_hidden : (text : List ℕ) → IsQueryText text (ordered_query tree filters project) → (old new : State) (xs : List A)
-      (found : Bool) → IsStoreSchema old.now.schema → AreHidden of xs (old.now.trees tree)
-      → IsAnswered text params old new found → found ≡ list_any p xs
+  some_hidden : (text : List ℕ) → IsQueryText text (ordered_query tree filters project)
+      → (old new : State) (xs : List A) (found : Bool) → IsStoreSchema old.now.schema
+      → AreHidden of xs (old.now.trees tree) → IsAnswered text params old new found → found ≡ list_any p xs
   some_hidden text is old new xs found has held answered =
-      some_row (λ (x : ℕ × A). x.0) (hidden_row of) cells tree project params filters (λ x. p x.1) test shows text is old
-      new held.given found has held.held answered
+      some_row (λ (x : ℕ × A). x.0) (hidden_row of) cells tree project params filters (λ x. p x.1) test shows text is
+      old new held.given found has held.held answered
       ∙ any_in_map (λ (x : ℕ × A). x.1) p held.given ∙ ap (list_any p) held.same
 
 abbrev pub label_row_text : List ℕ
@@ -86,8 +87,8 @@ pub label_found : (l : Label) (old new : State) (found : Bool) (t : Tables) → 
     → found ≡ list_any (λ x. eq_by_cmp label_cmp x l) t.label
 label_found l old new found t keeps =
     some_hidden label_values (λ x. number_cell x.1.owner ∷ []) 4 (col 1 1 ∷ []) (label_values l) label_filter
-    (λ x. eq_by_cmp label_cmp x l) (by_label l) (λ x. refl) label_row_text label_row_is old new t.label found keeps.schema
-    keeps.hold.label
+    (λ x. eq_by_cmp label_cmp x l) (by_label l) (λ x. refl) label_row_text label_row_is old new t.label found
+    keeps.schema keeps.hold.label
 
 abbrev pub link_row_text : List ℕ
 link_row_text = codes "SELECT kind FROM link WHERE kind = ?1 AND a = ?2 AND b = ?3 ORDER BY rowid"
@@ -197,8 +198,9 @@ posting_found_by : (text : List ℕ) (n : ℕ) (filters : List Term) (p : Postin
     → (old new : State) (found : Bool) (t : Tables) → Keeps old.now t
     → IsAnswered text (Int (pos n) ∷ []) old new found → found ≡ list_any p t.posting
 posting_found_by text n filters p test is old new found t keeps =
-    some_row (λ (x : PostingRow). x.number) stored_posting (λ (x : PostingRow). number_cell x.number ∷ []) 8 (col 1 0 ∷ [])
-    (Int (pos n) ∷ []) filters p test (λ x. refl) text is old new t.posting found keeps.schema keeps.hold.posting
+    some_row (λ (x : PostingRow). x.number) stored_posting (λ (x : PostingRow). number_cell x.number ∷ []) 8
+    (col 1 0 ∷ []) (Int (pos n) ∷ []) filters p test (λ x. refl) text is old new t.posting found keeps.schema
+    keeps.hold.posting
 
 abbrev pub posting_row_text : List ℕ
 posting_row_text = codes "SELECT num FROM posting WHERE num = ?1 ORDER BY num"
@@ -257,5 +259,5 @@ pub move_found : (n : ℕ) (old new : State) (found : Bool) (t : Tables) → Kee
     → IsAnswered move_row_text (Int (pos n) ∷ []) old new found → found ≡ has_move n t
 move_found n old new found t keeps =
     some_row (λ (x : MoveRow). x.number) stored_move (λ (x : MoveRow). number_cell x.number ∷ []) 10 (col 1 0 ∷ [])
-    (Int (pos n) ∷ []) number_filter (λ x. x.number == n) (by_move n) (λ x. refl) move_row_text move_row_is old new t.move
-    found keeps.schema keeps.hold.move
+    (Int (pos n) ∷ []) number_filter (λ x. x.number == n) (by_move n) (λ x. refl) move_row_text move_row_is old new
+    t.move found keeps.schema keeps.hold.move

@@ -126,7 +126,8 @@ pub cause_finds : (e : Error) (cause : StoreError) → e ≡ store_error cause �
 cause_finds e cause is = grind (arith, common_steps)
 
 -- Only a database that an earlier failure had shut answers that it is shut.
-pub shut_before : (sql : List ℕ) (old new : State) → FailsToFind sql old new (SqliteFailure Closed) → old.is_open ≡ false
+pub shut_before : (sql : List ℕ) (old new : State) → FailsToFind sql old new (SqliteFailure Closed)
+    → old.is_open ≡ false
 shut_before sql old new fails = grind (arith, common_steps)
 
 module _ (sql : List ℕ) (old new : State) (is : IsWholeQuery sql) where

@@ -150,8 +150,8 @@ module _ {X : Type 0} (num : X → ℕ) (stored : X → Row) (is_num : (x : X) �
         let did = update_effect schema at table params (statement_of text (understood schema text)) old new count has.is
         (get_first store_tables has.added.tables at table is_at) (writes_alone has.added has.apart at table is_at) q w
         in
-        let given = answer_permutes stored params filters p test table.tree project shown shows schema db xs did.0 held.rows
-        did.1 in
+        let given = answer_permutes stored params filters p test table.tree project shown shows schema db xs did.0
+        held.rows did.1 in
         let fresh : are_fresh (without_all (map stored xs) (ids_of did.0)) (news (map stored xs) did.0) ≡ true =
         subst (λ (l : List Row). are_fresh (without_all l (ids_of did.0)) (news l did.0) ≡ true) held.rows did.3.fresh
         in

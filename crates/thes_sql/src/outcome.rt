@@ -96,7 +96,8 @@ fn has_label<S: Alter>(conn: &mut Connection<S>, row: &LabelRow) -> Result<bool,
 
 // Checks by a query whether table link has the row.
 fn has_link<S: Alter>(conn: &mut Connection<S>, link: &Link) -> Result<bool, Error>
-    ensures shows { ShowsTrace S.Store (traces.has_listed (inr (inl link.now))) conn.old conn.new result }
+    ensures shows { ShowsTrace S.Store (traces.has_listed (inr (inl link.now))) conn.old conn.new
+        result }
     ensures leaves { LeavesTables S.Store conn.old conn.new }
 {
     has_row(
@@ -108,7 +109,8 @@ fn has_link<S: Alter>(conn: &mut Connection<S>, link: &Link) -> Result<bool, Err
 
 // Checks by a query whether table hier has the row.
 fn has_hier<S: Alter>(conn: &mut Connection<S>, row: &HierRow) -> Result<bool, Error>
-    ensures shows { ShowsTrace S.Store (traces.has_listed (inr (inr row.now))) conn.old conn.new result }
+    ensures shows { ShowsTrace S.Store (traces.has_listed (inr (inr row.now))) conn.old conn.new
+        result }
     ensures leaves { LeavesTables S.Store conn.old conn.new }
 {
     has_row(

@@ -60,7 +60,8 @@ module _ (rs : List Resource) (n : ℕ) (replaced : Option ℕ) (r : Resource) (
   concept_before s m c = let was = live_before rs n replaced r at m c.0 in ((was.1, sym was.2 ∙ c.1), was.0)
 
   -- A concept of a scheme before is one after, or is the dead one.
-  pub concept_after : (s m : ℕ) → IsConceptOf rs s m → IsConceptOf resources_with_dead s m ⊎ ((r.scheme ≡ Some s) × (m ≡ n))
+  pub concept_after : (s m : ℕ) → IsConceptOf rs s m
+      → IsConceptOf resources_with_dead s m ⊎ ((r.scheme ≡ Some s) × (m ≡ n))
   concept_after s m c = grind (arith, common_steps, cases_eq, numbered_bound, scheme_at, set_other)
 
   pub listed_dead : (o : Option ℕ) → r.scheme ≡ o → ConceptListsAfterRemove old new o n

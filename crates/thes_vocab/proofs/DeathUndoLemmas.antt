@@ -142,11 +142,12 @@ module _ (n : ℕ) (replaced : Option ℕ) (before after : Vocabulary) (was : Is
           scheme_now = ap concept_scheme now_is ∙ scheme_is
 
           holders_found : AreHoldersIndexed before.resources before.labels new
-          holders_found s m t x h = elim (concept_after before.resources n replaced concept at_number listed listed s m h.0) [
-            | inl stays ↦ keeps s m t x (was_kept.found s m t x (stays, h.1))
-            | inr here ↦ subst (λ k. HasNameEntry new s t x k) (sym here.1)
-                (put (own_label Pref t x) (has_name here.1 h.1) refl s (scheme_now ∙ here.0))
-          ]
+          holders_found s m t x h =
+              elim (concept_after before.resources n replaced concept at_number listed listed s m h.0) [
+                | inl stays ↦ keeps s m t x (was_kept.found s m t x (stays, h.1))
+                | inr here ↦ subst (λ k. HasNameEntry new s t x k) (sym here.1)
+                    (put (own_label Pref t x) (has_name here.1 h.1) refl s (scheme_now ∙ here.0))
+              ]
             where
               has_name : m ≡ n → HasLabel before.labels m Pref t x → has_own own (own_label Pref t x) ≡ true
               has_name same held = owns_before.each (own_label Pref t x)
@@ -160,7 +161,8 @@ module _ (n : ℕ) (replaced : Option ℕ) (before after : Vocabulary) (was : Is
 
           pub kept_before_death : IsConsistentVocabulary base (set_entry_at rs n now) iris labels new full
           kept_before_death =
-              let again : IsConsistentVocabulary before.base before.resources before.iris before.labels new full = record {
+              let again : IsConsistentVocabulary before.base before.resources before.iris before.labels new full =
+              record {
                 legal = was.legal;
                 named = was.named;
                 found = holders_found;

@@ -4,12 +4,14 @@ use Rattle.thes_load_rows.proofs.ReplacementLemmas.{apart_of, legal_all, fits_le
 use Rattle.thes_load_rows.proofs.resources.are_legal.Goals as goal
 
 pub has_replacement_cycle-requires-clause-apart : goal.has_replacement_cycle-requires-clause-apart
-has_replacement_cycle-requires-clause-apart c = apart_of c.args.resources.now (c.each_fits.ensures.0 c.if-each_fits.true)
+has_replacement_cycle-requires-clause-apart c =
+    apart_of c.args.resources.now (c.each_fits.ensures.0 c.if-each_fits.true)
 
 pub returns-then-branch : goal.returns-then-branch
 returns-then-branch c = (
   λ (t : IsTrue false). let e : ⊥ = cc in absurd e,
-  λ legal. let found = subst (HasReplacementCycle c.args.resources.now) c.if-branch.true c.in_ok-has_replacement_cycle.ensures in
+  λ legal. let found = subst (HasReplacementCycle c.args.resources.now) c.if-branch.true
+      c.in_ok-has_replacement_cycle.ensures in
       absurd (legal.no_return found.0 found.1),
 )
 

@@ -34,4 +34,14 @@ returns-clause-row c = λ hs kept are.
     search rules depth 18
 
 pub returns-clause-may : goal.returns-clause-may
-returns-clause-may c = grind (arith, common_steps, contracted_fewer, merged_grows, room_without, c.in_default-2.is, c.in_ok-refusal.ensures, c.taken_count.ensures, c.check_room.ensures)
+returns-clause-may c = grind (
+  arith,
+  common_steps,
+  contracted_fewer,
+  merged_grows,
+  room_without,
+  c.in_default-2.is,
+  c.in_ok-refusal.ensures,
+  c.taken_count.ensures,
+  c.check_room.ensures,
+)

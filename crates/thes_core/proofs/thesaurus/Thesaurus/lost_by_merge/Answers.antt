@@ -12,8 +12,8 @@ returns-clause-parts c =
     let added = c.in_ok-additions.ensures.merge_additions in
     record {
       links = c.in_ok-links.ensures;
-      additions = added_to_state c.args.self.now c.args.source c.args.target c.in_ok-additions.additions.items c.requires
-          (record { sound = added.sound; complete = added.complete });
+      additions = added_to_state c.args.self.now c.args.source c.args.target c.in_ok-additions.additions.items
+          c.requires (record { sound = added.sound; complete = added.complete });
       copies = c.in_ok-copies.ensures;
     }
 

@@ -10,5 +10,5 @@ pub returns-clause-counts : goal.returns-clause-counts
 returns-clause-counts c = λ posting s after accepts lost counts.
     let t = c.args.self.now in
     counts_unwithdrawn (setting_of t) s posting c.in-Place.concept t.book c.take_back_withdrawal.new.self
-    after.legal accepts (subst (λ (x : Lost). IsLostFromPostings (request.Withdraw posting) s x) c.in-Place.is lost) counts
-    c.in_ok-take_back_withdrawal.ensures.ok
+    after.legal accepts (subst (λ (x : Lost). IsLostFromPostings (request.Withdraw posting) s x) c.in-Place.is lost)
+    counts c.in_ok-take_back_withdrawal.ensures.ok
