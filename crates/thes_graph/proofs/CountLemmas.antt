@@ -113,7 +113,8 @@ module _ (outside : List ℕ) (old new : Lists SidedLink) (total : ℕ) (same : 
   indexed_same = IsIndexed-same (keys_of old) outside old new same index.index
 
   pub counted_index_same : IsCountedIndex new outside total
-  counted_index_same = counted_index (keys_of old) new outside indexed_same total (total_by_keys old outside total index)
+  counted_index_same = counted_index (keys_of old) new outside indexed_same total
+      (total_by_keys old outside total index)
 
   pub links_in_same : links_in new ≡ links_in old
   links_in_same = links_in_is (keys_of old) new outside indexed_same ∙ from_sorted (links_in old)

@@ -128,7 +128,8 @@ module _ (net : GraphView) (source target : ℕ) where
         let two' = two_of_becomes (is_marked net) source target net.links t.link made'.0 made'.1 in
         let same = one_sent net source target different two_ends normal inside s.link t.link (p.0, p.1, two.0)
         (q.0, q.1, two'.0)
-        (ap (normal_form (is_marked net)) two.1 ∙ sym made.2 ∙ made'.2 ∙ sym (ap (normal_form (is_marked net)) two'.1)) in
+        (ap (normal_form (is_marked net)) two.1 ∙ sym made.2 ∙ made'.2
+        ∙ sym (ap (normal_form (is_marked net)) two'.1)) in
         sym p.2 ∙ ap (sided_link_at source) same ∙ q.2
 
     -- The links made of those at the source are those that the merge adds.

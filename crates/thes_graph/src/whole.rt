@@ -68,7 +68,8 @@ fn breaks_s46_at<L: Links>(
     requires done { KeepS46 (Holds (L.net links.old).links) done.old }
     requires two_ends { HaveTwoEnds (Holds (L.net links.old).links) }
     ensures net { L.net links.new ≡ L.net links.old }
-    ensures outcome { IfOk result (IsClassVerdict (Holds (L.net links.old).links) n done.old done.new) }
+    ensures outcome { IfOk result (IsClassVerdict (Holds (L.net links.old).links)
+        n done.old done.new) }
 {
     let same = gather(alloc, links, &LinkEdit::NoEdit, n, Relation::Exact)?;
     if has_link_between(Relation::Apart, &same.links, &same.nodes, &same.nodes) {

@@ -64,8 +64,8 @@ module _ {S : Type 0} (g : Ghosts S) where
     database = database;
     opens_it = opens;
     is_opened = opened;
-    prepares = subst (λ (reads_only : Bool). PreparesStore g database.opening reads_only base database.conn (Ok tt) conn)
-        reads prepares;
+    prepares = subst (λ (reads_only : Bool). PreparesStore g database.opening reads_only base database.conn
+        (Ok tt) conn) reads prepares;
     ready = record {
       idle = idle;
       serves = prepared_serves image database.opening reads_only base database.conn conn opened prepares keeps settles;

@@ -137,7 +137,8 @@ pub fn link_kind_at(members: Members<'_, '_>) -> Result<LinkKind, ReadStop>
 
 // Returns the text in the member `kind`, if it is a string.
 fn keyword_at<'a>(members: Members<'a, '_>) -> Option<&'a str>
-    ensures { option_map (λ s. s.now) result ≡ text_in (codes "kind") (object (members_view members.now)) }
+    ensures { option_map (λ s. s.now) result
+        ≡ text_in (codes "kind") (object (members_view members.now)) }
 {
     member(members, "kind").and_then(Value::as_str)
 }

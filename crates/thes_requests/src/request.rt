@@ -97,7 +97,8 @@ fn concept_in(alloc: Global, members: Members<'_, '_>) -> Result<Command, ReadSt
 // Reads the command to add a collection: the number of its scheme, and its preferred label.
 #[tactic(auto, using(crate::proofs::MemberReadingLemmas::gives_line3))]
 fn collection_in(alloc: Global, members: Members<'_, '_>) -> Result<Command, ReadStop>
-    ensures { Gives (command_in CommandKeyword.Collection (object (members_view members.now))) result }
+    ensures { Gives (command_in CommandKeyword.Collection (object (members_view members.now)))
+        result }
 {
     let (scheme, (tag, text)) = exactly(4, members, number_and_text(alloc, "scheme", members))?;
     Ok(Command::Collection(scheme, tag, text))
@@ -126,7 +127,8 @@ fn label_in(alloc: Global, members: Members<'_, '_>) -> Result<(ResNo, Label), R
 // Reads the command to add a label: its owner, kind, language and text.
 #[tactic(auto, using(crate::proofs::MemberReadingLemmas::gives_mapped))]
 fn add_label_in(alloc: Global, members: Members<'_, '_>) -> Result<Command, ReadStop>
-    ensures { Gives (command_in CommandKeyword.AddLabel (object (members_view members.now))) result }
+    ensures { Gives (command_in CommandKeyword.AddLabel (object (members_view members.now)))
+        result }
 {
     let (owner, label) = label_in(alloc, members)?;
     Ok(Command::AddLabel(owner, label))
@@ -135,7 +137,8 @@ fn add_label_in(alloc: Global, members: Members<'_, '_>) -> Result<Command, Read
 // Reads the command to remove a label, which has the same members as the one to add it.
 #[tactic(auto, using(crate::proofs::MemberReadingLemmas::gives_mapped))]
 fn drop_label_in(alloc: Global, members: Members<'_, '_>) -> Result<Command, ReadStop>
-    ensures { Gives (command_in CommandKeyword.DropLabel (object (members_view members.now))) result }
+    ensures { Gives (command_in CommandKeyword.DropLabel (object (members_view members.now)))
+        result }
 {
     let (owner, label) = label_in(alloc, members)?;
     Ok(Command::DropLabel(owner, label))
@@ -184,7 +187,8 @@ fn unlink_in(members: Members<'_, '_>) -> Result<Command, ReadStop>
 // Reads the command to deprecate a concept: its number.
 #[tactic(auto, using(crate::proofs::MemberReadingLemmas::gives_line1))]
 fn deprecate_in(members: Members<'_, '_>) -> Result<Command, ReadStop>
-    ensures { Gives (command_in CommandKeyword.Deprecate (object (members_view members.now))) result }
+    ensures { Gives (command_in CommandKeyword.Deprecate (object (members_view members.now)))
+        result }
 {
     let concept = exactly(2, members, number_at("concept", members))?;
     Ok(Command::Deprecate(concept))
@@ -231,7 +235,8 @@ fn post_in(alloc: Global, members: Members<'_, '_>) -> Result<Command, ReadStop>
 // Reads the command to withdraw a posting: its number.
 #[tactic(auto, using(crate::proofs::MemberReadingLemmas::gives_line1))]
 fn withdraw_in(members: Members<'_, '_>) -> Result<Command, ReadStop>
-    ensures { Gives (command_in CommandKeyword.Withdraw (object (members_view members.now))) result }
+    ensures { Gives (command_in CommandKeyword.Withdraw (object (members_view members.now)))
+        result }
 {
     let posting = exactly(2, members, number_at("posting", members))?;
     Ok(Command::Withdraw(posting))

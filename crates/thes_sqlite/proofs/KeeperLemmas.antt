@@ -287,7 +287,8 @@ module _ {S : Type 0} (g : Ghosts S) (view old : KeeperView S) (same : view ≡ 
   -- A successful transaction keeps the invariant and applies the changes, durably.
   pub is_done : {done : Bool} → IsOwnTransaction {E = Error} g view.conn new (Ok done)
       → (HasCleanDisk (state g new) → IsTrue done → (t : Tables) → Keeps (state g view.conn).now t
-      → DeltaFits changes t → KeepsIn (state g view.conn).now.schema (state g new).committed (tables_after_delta changes t)
+      → DeltaFits changes t → KeepsIn (state g view.conn).now.schema (state g new).committed
+      (tables_after_delta changes t)
       × KeepsIn (state g view.conn).now.schema (state g new).now (tables_after_delta changes t))
       → IsDone g view old changes new
   is_done own all =

@@ -320,8 +320,12 @@ module _ {S : Type 0} (g : Ghosts S) (base : List ℕ) (s : Content) (old new : 
   loads (Err e) made = tt
   loads (Ok v) made = λ legal.
       let both = made clean was.0 was.1 in
-      let told = held_loads base s t legal rows in
-      (t, subst (λ raw. HasVerdict raw (Ok t)) (sym (raw_of (state g new).now.trees t both.1.keeps.hold)) told.0, told.1)
+      let told = held_loads base s t legal rows in (
+        t,
+        subst (λ raw. HasVerdict raw (Ok t)) (sym (raw_of (state g new).now.trees t both.1.keeps.hold))
+            told.0,
+        told.1,
+      )
 
   pub state_migrated : (r : Result ℕ Fault) → Migrates g old new r → MigratesState g base s old new r
   state_migrated r m = record {

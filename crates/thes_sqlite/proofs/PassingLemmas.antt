@@ -43,8 +43,8 @@ module _ {S P : Type 0} (gives : S → Table × Option (List Cell) → Result (U
   outcome_behind old xs (Err fault) new h = takes_some_behind fault old xs new h
 
   -- The inner sink, whose borrow ends with the value `x`, receives all rows.
-  pub outcome_lent : (old : CountingSink S P) (xs : List (Table × Option (List Cell))) (result : Result (Unit {0}) Fault)
-      (new : CountingSink S P) (x : S) → SinkOutcome (Passes gives) old xs result new
+  pub outcome_lent : (old : CountingSink S P) (xs : List (Table × Option (List Cell)))
+      (result : Result (Unit {0}) Fault) (new : CountingSink S P) (x : S) → SinkOutcome (Passes gives) old xs result new
       → (old.sink.ghost_name ≡ new.sink.ghost_name → x ≡ new.sink.now) → SinkOutcome gives old.sink.now xs result x
   outcome_lent old xs result new x h e =
       let behind = outcome_behind old xs result new h in

@@ -47,14 +47,15 @@ any_after_number : {X : Type 0} (p : ℕ × X → Bool) (n : ℕ) (xs ys : List 
 any_after_number p n [] ys h = absurd (cc)
 any_after_number p n (x ∷ xs) ys h = grind (arith, common_steps, any_after_number p (n + 1) xs ys)
 
-any_after_set : {X : Type 0} (p : X → Bool) (f : X → X) → ((x : X) → p x ≡ true → p (f x) ≡ true) → (i : ℕ) (xs : List X)
-    → list_any p xs ≡ true → list_any p (list_changed_at f i xs) ≡ true
+any_after_set : {X : Type 0} (p : X → Bool) (f : X → X) → ((x : X) → p x ≡ true → p (f x) ≡ true) → (i : ℕ)
+    (xs : List X) → list_any p xs ≡ true → list_any p (list_changed_at f i xs) ≡ true
 any_after_set p f keeps i [] h = h
 any_after_set p f keeps zero (x ∷ xs) h = grind (arith, common_steps, keeps)
 any_after_set p f keeps (suc i) (x ∷ xs) h = grind (arith, common_steps, any_after_set p f keeps i xs)
 
-any_after_change : (p : PostingRow → Bool) (f : PostingRow → PostingRow) → ((x : PostingRow) → p x ≡ true → p (f x) ≡ true)
-    → (n : ℕ) (xs : List PostingRow) → list_any p xs ≡ true → list_any p (with_posting f n xs) ≡ true
+any_after_change : (p : PostingRow → Bool) (f : PostingRow → PostingRow)
+    → ((x : PostingRow) → p x ≡ true → p (f x) ≡ true) → (n : ℕ) (xs : List PostingRow) → list_any p xs ≡ true
+    → list_any p (with_posting f n xs) ≡ true
 any_after_change p f keeps zero xs h = h
 any_after_change p f keeps (suc n) xs h = let kept = any_after_set p f keeps n xs h in grind (arith, common_steps)
 
@@ -87,7 +88,8 @@ dead_stays n (change.Replace m by) t h =
     any_after_death (λ x. x.0 == n && not x.1.live) (Some by) (dead_kept n (Some by)) m t.resource h
 dead_stays n _ t h = h
 
-outside_stays : (n : ℕ) (d : Change) (t : Tables) → has_outside n t ≡ true → has_outside n (tables_after_change d t) ≡ true
+outside_stays : (n : ℕ) (d : Change) (t : Tables)
+    → has_outside n t ≡ true → has_outside n (tables_after_change d t) ≡ true
 outside_stays n (change.AddOutside m iri) t h = any_after_push _ t.outside ((m, iri) ∷ []) h
 outside_stays n _ t h = h
 
@@ -111,7 +113,8 @@ module _ (p : PostingRow → Bool) (mark : (x : PostingRow) → p x ≡ true →
       any_after_map p (row_after_move_all source target) (move_keeps source target) t.posting h
   posting_property_stays _ t h = h
 
-posting_stays : (n : ℕ) (d : Change) (t : Tables) → has_posting n t ≡ true → has_posting n (tables_after_change d t) ≡ true
+posting_stays : (n : ℕ) (d : Change) (t : Tables)
+    → has_posting n t ≡ true → has_posting n (tables_after_change d t) ≡ true
 posting_stays n = posting_property_stays (λ x. x.number == n) (λ x here. here) (λ place x here. here)
 
 withdrawn_stays : (n : ℕ) (d : Change) (t : Tables) → has_withdrawn n t ≡ true
@@ -450,7 +453,14 @@ others_same d t no_insert no_mark no_place = grind (arith, common_steps)
 others_kept : (changes : List Change) (t : Tables) → find inserts_for_good changes ≡ None
     → find marks_for_good changes ≡ None → list_any sets_places changes ≡ false
     → KeepsOthers t (tables_after_delta changes t)
-others_kept [] t a b c = record { same_base = refl; same_resource = refl; same_outside = refl; same_posting = refl; same_move = refl }
+others_kept [] t a b c =
+    record {
+      same_base = refl;
+      same_resource = refl;
+      same_outside = refl;
+      same_posting = refl;
+      same_move = refl;
+    }
 others_kept (d ∷ changes) t a b c =
     let insert = not_found inserts_for_good d changes a in
     let mark = not_found marks_for_good d changes b in
@@ -468,8 +478,8 @@ others_kept (d ∷ changes) t a b c =
 -- If no change shows it, the rows are the same before and after.
 same_without_telling : (changes : List Change) (t : Tables) → HaveEffect changes t → telling changes ≡ None
     → list_any sets_places changes ≡ false → HaveSameRows t (tables_after_delta changes t)
-same_without_telling changes t does h places = go (find inserts_for_good changes) refl (find marks_for_good changes) refl
-    (last_turning changes changes) refl
+same_without_telling changes t does h places =
+    go (find inserts_for_good changes) refl (find marks_for_good changes) refl (last_turning changes changes) refl
   where
     go : (o : Option Change) → find inserts_for_good changes ≡ o → (p : Option Change) → find marks_for_good changes ≡ p
         → (q : Option Change) → last_turning changes changes ≡ q → HaveSameRows t (tables_after_delta changes t)
@@ -508,7 +518,11 @@ tells_by_change changes db c found is shows = record {
 }
 
 pub tells_nothing : (changes : List Change) (db : Database) → Tells changes db None
-tells_nothing changes db = record { with_none = λ t does keeps said. absurd (cc); with_all = λ t does keeps said. absurd (cc) }
+tells_nothing changes db =
+    record {
+      with_none = λ t does keeps said. absurd (cc);
+      with_all = λ t does keeps said. absurd (cc);
+    }
 
 pub tells_without_change : (changes : List Change) (db : Database) → telling changes ≡ None
     → list_any sets_places changes ≡ false → Tells changes db (Some (not (length changes == 0)))

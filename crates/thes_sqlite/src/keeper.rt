@@ -319,7 +319,8 @@ impl<S: Alter> Keeper for SqlKeeper<S> {
     #[tactic(auto, using(crate::proofs::KeeperLemmas::kept_of_raw))]
     fn posting(&mut self, number: PostNo) -> Result<Option<Posting>, Fault>
         ensures ok { IfOk result (λ told. IsKeeperUp S.Store self.new → (t : Tables)
-            → raw_of_keeper S.Store self.old ≡ cells_of_tables t → IsPostingOfNumber number t told) }
+            → raw_of_keeper S.Store self.old ≡ cells_of_tables t
+            → IsPostingOfNumber number t told) }
         ensures frame { KeeperQueryFrame S.Store self.old self.new result }
     {
         match find_with_moves(self.alloc, &mut self.conn, number) {
@@ -331,7 +332,8 @@ impl<S: Alter> Keeper for SqlKeeper<S> {
     #[tactic(auto, using(crate::proofs::KeeperLemmas::kept_of_raw))]
     fn row(&mut self, number: PostNo) -> Result<Option<PostingRow>, Fault>
         ensures ok { IfOk result (λ row. IsKeeperUp S.Store self.new → (t : Tables)
-            → raw_of_keeper S.Store self.old ≡ cells_of_tables t → row ≡ entry_at t.posting number) }
+            → raw_of_keeper S.Store self.old ≡ cells_of_tables t
+            → row ≡ entry_at t.posting number) }
         ensures frame { KeeperQueryFrame S.Store self.old self.new result }
     {
         match find_row(self.alloc, &mut self.conn, number) {

@@ -156,7 +156,8 @@ impl<S: Alter + Drop, O: Reopen<Connection<S>> + HeldTables, L: Progress> Reopen
         ensures keeps { KeepsStill S.Store self.old self.new }
         ensures leaves { LeavesFirst S.Store self.old self.new }
         ensures gone { IsTrue result.0 → self.new.first ≡ None }
-        ensures shut { IsTrue result.0 → IfSome self.old.first (λ k. IsLostShut S.Store k result.1) }
+        ensures shut { IsTrue result.0 → IfSome self.old.first (λ k.
+            IsLostShut S.Store k result.1) }
         ensures stays { result.0 ≡ false
             → StaysUnwritten S.Store self.old.storage self.new.storage }
         ensures doubt { self.new.is_in_doubt ≡ self.old.is_in_doubt }

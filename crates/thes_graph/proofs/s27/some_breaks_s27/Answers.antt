@@ -19,8 +19,8 @@ pub loop-j-preserved : goal.loop-j-preserved
 loop-j-preserved g c = record {
   net = c.in_ok-related.ensures.net ∙ c.loop-j.invariant.net;
   free =
-      s27_passed (g.L.Links.net c.args.links.now).links c.args.block.now c.args.words.now c.requires.words.sets c.loop-j.j
-      c.index-block-j.result c.loop-j-test.true c.index-block-j.is c.in_ok-related.related.items
+      s27_passed (g.L.Links.net c.args.links.now).links c.args.block.now c.args.words.now c.requires.words.sets
+      c.loop-j.j c.index-block-j.result c.loop-j-test.true c.index-block-j.is c.in_ok-related.related.items
       (subst (λ (net : GraphView). (y : ℕ) → Contains c.in_ok-related.related.items y
       ↔ IsRelated (Holds net.links) c.index-block-j.result y) c.loop-j.invariant.net c.in_ok-related.ensures.next)
       (λ y has. c.if-some_has_bit.ensures y (subst (λ (ys : List ℕ). Contains ys y) (sym c.deref.ensures.value) has))

@@ -8,8 +8,8 @@ loop-high-init c = AreSetAbove-none c.args.words.now.items c.args.row.now.node
 
 pub loop-high-preserved : goal.loop-high-preserved
 loop-high-preserved c =
-    AreSetAbove-more c.args.words.now.items c.loop-high.words.items c.set_bits_of_node.new.words.items c.args.row.now.node
-    c.args.row.now.above.items c.loop-high.high-index c.high-item.result c.word_of_node-bits.result
+    AreSetAbove-more c.args.words.now.items c.loop-high.words.items c.set_bits_of_node.new.words.items
+    c.args.row.now.node c.args.row.now.above.items c.loop-high.high-index c.high-item.result c.word_of_node-bits.result
     (rw c.deref-high-items.ensures.value at c.loop-high-test.true)
     (rw c.deref-high-items.ensures.value at c.high-item.is) (c.word_of_node-bits.ensures
     ∙ ap (λ ws. word_at ws c.high-item.result) c.deref.ensures.value)

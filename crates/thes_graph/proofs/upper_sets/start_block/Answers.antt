@@ -8,8 +8,8 @@ loop-j-init c = AreStarted-none c.clear.new.self.items c.args.block.now c.clear.
 
 pub loop-j-preserved : goal.loop-j-preserved
 loop-j-preserved c =
-    AreStarted-more c.loop-j.words.items c.set_bits_of_node.new.words.items c.args.block.now c.loop-j.j c.index-block-j.result
-    (omega arith)
+    AreStarted-more c.loop-j.words.items c.set_bits_of_node.new.words.items c.args.block.now c.loop-j.j
+    c.index-block-j.result (omega arith)
     (slice_get-get_or c.args.block.now c.loop-j.j c.index-block-j.result c.loop-j-test.true
     ∙ ap (λ (n : ℕ). Some n) (sym c.index-block-j.is))
     c.in_ok-set_bits_of_node.ensures c.loop-j.invariant

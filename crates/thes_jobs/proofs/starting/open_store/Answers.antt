@@ -10,4 +10,5 @@ returns-in_err-opening-clause-opens g c =
 pub returns-in_err-conn-clause-opens : goal.returns-in_err-conn-clause-opens
 returns-in_err-conn-clause-opens g c =
     let same : c.from_residual-in_err-conn.result ≡ Err c.in_err-conn.field-0.0 = search rules in
-    rw same (unopened c.file_state-found.result c.in_ok-opening.opening c.in_ok-opening.ensures c.in_err-conn.ensures.err)
+    rw same (unopened c.file_state-found.result c.in_ok-opening.opening c.in_ok-opening.ensures
+    c.in_err-conn.ensures.err)

@@ -9,7 +9,8 @@ pub returns-then-names-count : goal.returns-then-names-count
 returns-then-names-count c =
     let xs = c.args.members.now in
     let i = c.loop-index.index in
-    let next = names_next xs i c.index-members-index.result c.has_name.result c.loop-index-test.true c.has_name.ensures in
+    let next = names_next xs i c.index-members-index.result c.has_name.result c.loop-index-test.true
+    c.has_name.ensures in
     let new : c.has_name.result ≡ false = grind arith in
     let more : members_len (members_view (take (i + 1) xs)) ≡ c.args.count + 1 = next ∙ rw new (grind arith) in
     let all = names_of_prefix xs (i + 1) in
@@ -19,7 +20,8 @@ pub loop-index-preserved : goal.loop-index-preserved
 loop-index-preserved c =
     let xs = c.args.members.now in
     let i = c.loop-index.index in
-    let next = names_next xs i c.index-members-index.result c.has_name.result c.loop-index-test.true c.has_name.ensures in
+    let next = names_next xs i c.index-members-index.result c.has_name.result c.loop-index-test.true
+    c.has_name.ensures in
     elim c.if-not-has_name.branch [
       | then-not-has_name+else-names-count w ↦ let new : c.has_name.result ≡ false = grind arith in
           (w.names-is ∙ sym (next ∙ rw new (grind arith)), grind arith)

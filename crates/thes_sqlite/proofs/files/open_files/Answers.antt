@@ -18,7 +18,8 @@ returns-in-Ok-open_files_with-clause-opens g c = rw c.set_clock.ensures λ clean
     let (log, db) = c.in-Ok-open_pair.ensures.fresh in
     let found = c.in-Ok-open_files_with.ensures.found clean in
     let opened = c.in-Ok-open_files_with.ensures.opened clean in
-    let same = ap₂ image (ap₂ (seen g.S.Start.log g.S.Start.db) log.0 log.1) (ap₂ (seen g.S.Start.log g.S.Start.db) db.0 db.1) in
+    let same = ap₂ image (ap₂ (seen g.S.Start.log g.S.Start.db) log.0 log.1)
+    (ap₂ (seen g.S.Start.log g.S.Start.db) db.0 db.1) in
     opens_files (image_at g.S.Start) (file_state c.in-Ok-open_files_with.conn)
     (subst (λ i. FindsIn i (file_state c.in-Ok-open_files_with.conn)) same
     (record { holds = found.holds; reads = found.reads })) opened.0 opened.1

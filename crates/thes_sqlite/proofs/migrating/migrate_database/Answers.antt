@@ -10,23 +10,24 @@ returns-in_err-judge g c =
     let stop : c.from_residual.result ≡ Err fault = search rules in
     let e = c.in_err-judge.ensures in
     subst (Migrates g.S.Store c.args.conn.now c.judge.new.conn) (sym stop) (migration_refused g.S.Store c.args.conn.now
-    c.judge.new.conn c.requires (λ opened. c.is_autocommit-settled.ensures.settled c.if-prove.false opened) e.frame.effect
-    fault e.frame.fault e.judged)
+    c.judge.new.conn c.requires (λ opened. c.is_autocommit-settled.ensures.settled c.if-prove.false opened)
+    e.frame.effect fault e.frame.fault e.judged)
 
 pub returns-then-not-branch : goal.returns-then-not-branch
 returns-then-not-branch g c =
     let e = c.in_ok-judge.ensures in
     let done = c.if-not-branch.true in
     migration_current g.S.Store c.args.conn.now c.judge.new.conn c.requires
-    (λ opened. c.is_autocommit-settled.ensures.settled c.if-prove.false opened) e.frame.effect e.frame.database (rw done at e.judged)
+    (λ opened. c.is_autocommit-settled.ensures.settled c.if-prove.false opened) e.frame.effect e.frame.database
+    (rw done at e.judged)
 
 pub returns-in-Ok : goal.returns-in-Ok
 returns-in-Ok g c =
     let e = c.in_ok-judge.ensures in
     let done = c.if-not-branch.false in
     let own = c.in-Ok.ensures.own in
-    migration_succeeds g.S.Store c.args.conn.now c.judge.new.conn c.migrate_tables.new.conn c.requires e.frame.effect e.frame.database
-    (rw done at e.judged) c.migrate_tables.ensures.clean c.migrate_tables.ensures.crash own
+    migration_succeeds g.S.Store c.args.conn.now c.judge.new.conn c.migrate_tables.new.conn c.requires e.frame.effect
+    e.frame.database (rw done at e.judged) c.migrate_tables.ensures.clean c.migrate_tables.ensures.crash own
     (λ clean t was. c.in-Ok.ensures.all clean (own.begins (e.frame.effect.tables.mode c.requires)) t was)
 
 pub returns-in-Err : goal.returns-in-Err
@@ -34,7 +35,8 @@ returns-in-Err g c =
     let e = c.in_ok-judge.ensures in
     let done = c.if-not-branch.false in
     let own = c.in-Err.ensures.own in
-    migration_failed g.S.Store c.args.conn.now c.judge.new.conn c.migrate_tables.new.conn c.requires e.frame.effect e.frame.database
-    (rw done at e.judged) c.migrate_tables.ensures.clean c.migrate_tables.ensures.crash own c.fault_with_cause.result
+    migration_failed g.S.Store c.args.conn.now c.judge.new.conn c.migrate_tables.new.conn c.requires e.frame.effect
+    e.frame.database (rw done at e.judged) c.migrate_tables.ensures.clean c.migrate_tables.ensures.crash own
+    c.fault_with_cause.result
     c.fault_with_cause.ensures.kind (migrate_fault_of_keeper c.fault_with_cause.result c.fault_with_cause.ensures.kind)
     (λ up. own.none up.0 up.1)

@@ -7,8 +7,8 @@ use Rattle.thes_graph.proofs.CountLemmas.{counted_index, links_in_is, view_of}
 use Rattle.thes_graph.proofs.graph.Graph.new.Goals as goal
 
 pub invariant_of-result : goal.invariant_of-result
-invariant_of-result c = counted_index [] c.new.result c.new-2.result.keys (IsIndexed-none [] c.new.result c.new-2.result.keys
-    refl c.new.ensures) 0 (sym (len-empty link_cmp))
+invariant_of-result c = counted_index [] c.new.result c.new-2.result.keys (IsIndexed-none [] c.new.result
+    c.new-2.result.keys refl c.new.ensures) 0 (sym (len-empty link_cmp))
 
 pub returns : goal.returns
 returns c =
