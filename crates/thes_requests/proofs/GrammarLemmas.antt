@@ -1,15 +1,14 @@
 -- Proves one step of the loops of the JSON grammar over items and over members, with the conversion
 -- to data.
 use Rattle.std.proofs.lemmas.Grind.{common_steps}
-use Rattle.std.proofs.Common.{arith, ◌≡◌, ℕ, ◌-◌, ◌<◌, ◌≤◌, List, [], ◌∷◌, length, Option, Some, None, option_map}
+use Rattle.std.proofs.Common.{arith, ◌≡◌, ℕ, ◌-◌, ◌<◌, ◌≤◌, List, length, Option, Some, None, option_map}
 use Rattle.std.proofs.Common.{option_and_then, ap, ◌∙◌}
 use Rattle.json.specs.Token.{Token}
 use Rattle.json.specs.Json as json
 use Rattle.json.specs.Json.{Parse, parse_map, after_end_array, read_key, items, members}
-use Rattle.json.specs.Lex.{tokens}
-use Rattle.json.proofs.Grammar.{items_end, items_more, members_end, members_no_key, members_more, value-begin_object}
+use Rattle.json.proofs.Grammar.{items_end, items_more, members_end, members_no_key, members_more}
 use Rattle.serde_json.specs.Data.{Data, array, object, no_items, item, Members, no_members, put}
-use Rattle.serde_json.specs.Read.{of_json, of_items, of_members, converted, read as read_text}
+use Rattle.serde_json.specs.Read.{of_json, of_items, of_members, converted}
 
 converted_parts : {A B : Type 0} (a : A) (r s : List Token) (x : Option B) (b : B) → option_map {U = B × List Token}
     (λ y. (y, r)) x ≡ Some (b, s) → (r ≡ s) × (x ≡ Some b)
@@ -101,15 +100,3 @@ module _ (p : Parse json.Json) where
     pub members_over : (n : ℕ) (ts r : List Token) → length ts ≤ n → read_key ts ≡ Some (None, r)
         → converted (λ ms. of_members ms old) (members p n ts) ≡ Some (old, r)
     members_over n ts r enough e = ap (converted (λ ms. of_members ms old)) (members_end p n ts r enough e)
-
--- A text whose first token begins an object, whose members end with the text, is that object.
-pub object_text : (text : List ℕ) (ts : List Token) (ms : Members) → tokens text ≡ Token.begin_object ∷ ts
-    → converted (λ ms. of_members ms no_members) (members (json.value 126) (length ts) ts) ≡ Some (ms, [])
-    → read_text text ≡ Some (object ms)
-object_text text ts ms first rest =
-    let whole : converted of_json (json.value 127 (tokens text)) ≡ Some (object ms, []) =
-    ap (λ all. converted of_json (json.value 127 all)) first
-    ∙ ap (converted of_json) (value-begin_object 127 ts (omega arith))
-    ∙ converted-object (members (json.value 126) (length ts) ts) ∙ ap (parse_map object) rest in
-    let j = converted_some of_json (json.value 127 (tokens text)) (object ms) [] whole in
-    rw j.1 j.2

@@ -11,5 +11,4 @@ pub mod MemberReadingLemmas
 pub mod LineBufferLemmas
 pub mod LineLemmas
 pub mod ScriptLemmas
-pub mod ServingLemmas
 pub mod NumeralLemmas

@@ -21,11 +21,7 @@ use Rattle.thes_requests.specs.MemberReadings.{pair_of, row, a_label_value, labe
 use Rattle.thes_requests.specs.Readings.{RequestReading, reads, fails, unless, Gives, ◌>>=◌, value_if}
 use Rattle.thes_requests.specs.Readings.{present_or_bad_shape}
 use Rattle.thes_requests.specs.Requests.{Member, number_form, tag_form, label_text_form, number_at, a_tag, label_line}
-use Rattle.thes_requests.specs.Requests.{map_reading, members1, members2, members3, members4, command_in}
-use Rattle.thes_requests.specs.Requests.{json_in, request_in, request_of}
-use Rattle.thes_requests.specs.declared.request.Request.{Request}
-use Rattle.thes_requests.specs.declared.keywords.CommandKeyword.{CommandKeyword}
-use Rattle.thes_requests.specs.declared.keywords.CommandKeyword.TheVariants as does
+use Rattle.thes_requests.specs.Requests.{map_reading, members1, members2, members3, members4}
 use Rattle.thes_requests.proofs.ReadingLemmas.{gives_value, gives_fault}
 
 -- A form fault is `BadShape` if it isn't the fault of a member's form.
@@ -252,31 +248,3 @@ pub gives_label : (d : Data) (r : Result (ℕ × (List ℕ × LabelValue)) ReadS
     → ReadsMember label_member d r → q ≡ request_result label_made (if_exact (has_count 5 (as_object d)) r)
     → Gives (label_line d) q
 gives_label d r q h e = rw (label_line_is d) (gives_row 5 label_made label_member d r h q e)
-
--- A value that is no object has no row.
-
-no_command : (verb : CommandKeyword) (d : Data) → as_object d ≡ None → command_in verb d ≡ fails BadShape
-unfolding members1 members2 members3 members4 label_line map_reading
-no_command does.Scheme d h = rw h refl
-no_command does.Concept d h = rw h refl
-no_command does.Collection d h = rw h refl
-no_command does.Outside d h = rw h refl
-no_command does.AddLabel d h = rw h refl
-no_command does.DropLabel d h = rw h refl
-no_command does.Relabel d h = rw h refl
-no_command does.Link d h = rw h refl
-no_command does.Unlink d h = rw h refl
-no_command does.Deprecate d h = rw h refl
-no_command does.Merge d h = rw h refl
-no_command does.Split d h = rw h refl
-no_command does.Post d h = rw h refl
-no_command does.Withdraw d h = rw h refl
-
-pub gives_no_object : (verb : CommandKeyword) (d : Data) → as_object d ≡ None
-    → Gives (command_in verb d) (Err (Form BadShape))
-gives_no_object verb d h = rw (no_command verb d h) (gives_early (Form BadShape) refl)
-
--- A line is read as its JSON value is.
-pub gives_line : (line : List ℕ) (d : Data) (r : Result Request ReadStop) → json_in line ≡ Some d
-    → Gives (request_in d) r → Gives (request_of line) r
-gives_line line d r e h = rw e h

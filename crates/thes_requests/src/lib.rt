@@ -3,7 +3,6 @@
 #![tactic(auto)]
 
 pub mod answer;
-mod few_members;
 pub mod handler;
 mod keywords;
 pub mod laws;

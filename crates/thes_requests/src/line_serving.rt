@@ -5,8 +5,7 @@ ghost use Rattle.thes_base.specs.Pipe.{failed_of, written_bytes, AppendsPrefix};
 ghost use Rattle.thes_base.specs.PipeFrames.{WriteFrame};
 ghost use Rattle.thes_requests.specs.Script.{is_blank, outcome_text, StepLine};
 ghost use Rattle.thes_requests.specs.Serving.{Serves, command_answer, is_plan_line, plan_answer, query_answer, stop_answer};
-ghost use Rattle.thes_requests.specs.Readings.{Gives};
-ghost use Rattle.thes_requests.specs.Requests.{json_in, request_of};
+ghost use Rattle.thes_requests.specs.Requests.{json_in};
 ghost use Rattle.thes_requests.specs.Tree.{view};
 
 use crate::answer::{Reply, reply_line};
@@ -16,7 +15,7 @@ use crate::page::Page;
 use crate::plan::plan_in;
 use crate::plan_reply::PlanReply;
 use crate::plan_serving::perform_read_plan;
-use crate::request::{Request, RequestScratch, json_in, read_short_request, request_in};
+use crate::request::{Request, RequestScratch, json_in, request_in};
 use crate::tree::Value;
 use std::alloc::Global;
 use std::io::Write;
@@ -122,31 +121,9 @@ fn is_blank(line: &[u8]) -> bool
     line.iter().all(|byte| *byte == b' ' || *byte == b'\t')
 }
 
-// Performs the command that was read, or answers the query. A form fault has no effect.
-fn serve_request<D: RequestHandler>(
-    alloc: Global,
-    handler: &mut D,
-    request: Result<Request, ReadStop>,
-) -> LineAnswer
-    requires { D.is_open handler.old ≡ true }
-    ensures { (line : List ℕ) → Gives (request_of line) request
-        → is_plan_line (D.requests.takes_plans handler.old) line ≡ false
-        → Serves D.requests handler.old line result handler.new }
-{
-    match request {
-        Ok(Request::Do(command)) => LineAnswer::for_command(handler.perform(&command)),
-        Ok(Request::Get(query)) => LineAnswer::for_query(handler.show(alloc, &query)),
-        Err(stop) => LineAnswer::for_stop(stop),
-    }
-}
-
 // Reads the request in a JSON value, and performs its command or answers its query. A form fault
 // has no effect.
-fn serve_request_line<D: RequestHandler>(
-    alloc: Global,
-    handler: &mut D,
-    value: Value<'_>,
-) -> LineAnswer
+fn serve_request<D: RequestHandler>(alloc: Global, handler: &mut D, value: Value<'_>) -> LineAnswer
     requires { D.is_open handler.old ≡ true }
     ensures { (line : List ℕ) → json_in line ≡ Some (view value.entry)
         → is_plan_line (D.requests.takes_plans handler.old) line ≡ false
@@ -154,7 +131,11 @@ fn serve_request_line<D: RequestHandler>(
 {
     let request = request_in(alloc, &value);
     drop(value);
-    serve_request(alloc, handler, request)
+    match request {
+        Ok(Request::Do(command)) => LineAnswer::for_command(handler.perform(&command)),
+        Ok(Request::Get(query)) => LineAnswer::for_query(handler.show(alloc, &query)),
+        Err(stop) => LineAnswer::for_stop(stop),
+    }
 }
 
 // Reads the plan in a JSON value, and performs it. A text that isn't a plan has no effect.
@@ -174,7 +155,6 @@ fn serve_plan_line<D: RequestHandler>(
 
 // Answers a line that isn't blank: a plan if it is an array and the handler takes plans, else a
 // request.
-#[tactic(auto, using(crate::proofs::ServingLemmas::is_no_plan))]
 fn answer_line<D: RequestHandler>(
     memory: &mut RequestScratch,
     handler: &mut D,
@@ -184,15 +164,12 @@ fn answer_line<D: RequestHandler>(
     ensures { Serves D.requests handler.old line.now result handler.new }
 {
     let alloc = memory.alloc;
-    if let Some(request) = read_short_request(memory, line) {
-        return serve_request(alloc, handler, request);
-    }
     match json_in(alloc, line, &mut memory.scratch) {
         Ok(value) => {
             if handler.takes_plans() && value.as_array().is_some() {
                 serve_plan_line(alloc, handler, value)
             } else {
-                serve_request_line(alloc, handler, value)
+                serve_request(alloc, handler, value)
             }
         }
         Err(stop) => LineAnswer::for_stop(stop),

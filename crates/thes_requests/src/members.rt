@@ -2,14 +2,13 @@
 //! A missing member, or one of the wrong type, is `BadShape`, which precedes every other form
 //! fault.
 ghost use Rattle.std.specs.Prelude.{◌≡◌, ◌⊎◌, map, codes, true, Some, None, option_map, option_and_then, IfOk, IfErr};
-ghost use Rattle.serde_json.specs.Data.{object};
 ghost use Rattle.serde_json.specs.View.{number_view};
-ghost use Rattle.serde_json.specs.Find.{as_str};
+ghost use Rattle.serde_json.specs.Find.{as_object, as_str};
 ghost use Rattle.thes_base.specs.Forms.{IsNumber};
 ghost use Rattle.thes_base.specs.ReadResults.{IsReadResult};
 ghost use Rattle.thes_base.specs.Texts.{IsLabelText};
 ghost use Rattle.thes_base.specs.declared.fault.FormFault.TheVariants.{BadNumber, BadText};
-ghost use Rattle.thes_requests.specs.Tree.{view, items_view, members_view};
+ghost use Rattle.thes_requests.specs.Tree.{view, items_view};
 ghost use Rattle.thes_requests.specs.Keywords.{verb_named, noun_named, label_kind_named, link_kind_named};
 ghost use Rattle.thes_requests.specs.MemberReadings.{is_form_stop, both, if_exact, ReadsMember, text_member, boolean_member, a_label_value, label_value_of};
 ghost use Rattle.thes_requests.specs.Members.{has_count, text_in, all_numbers, numbers_in};
@@ -18,7 +17,7 @@ ghost use Rattle.thes_requests.specs.Requests.{whole_number, AreNumbers, number_
 use crate::keywords::{
     CommandKeyword, QueryKeyword, label_kind_named, link_kind_named, noun_named, verb_named,
 };
-use crate::tree::{Members, Value, has_names, member};
+use crate::tree::Value;
 use std::alloc::{AllocError, Global};
 use thes_base::data::{LabelKind, LabelValue, LinkKind};
 use thes_base::fault::{FormFault, ReadStop};
@@ -59,17 +58,17 @@ pub fn both<A: Drop, B: Drop>(
     }
 }
 
-/// Returns what was read if the object has exactly `count` names, `do` or `get` included, and else
+/// Returns the members if the object has exactly `count` names, `do` or `get` included, and else
 /// `BadShape`.
 pub fn exactly<A: Drop>(
     count: usize,
-    members: Members<'_, '_>,
-    read: Result<A, ReadStop>,
+    value: &Value<'_>,
+    members: Result<A, ReadStop>,
 ) -> Result<A, ReadStop>
-    ensures { result ≡ if_exact (has_count count (Some (members_view members.now))) read }
+    ensures { result ≡ if_exact (has_count count (as_object (view value.now))) members }
 {
-    if has_names(members, count) {
-        read
+    if value.has_count(count) {
+        members
     } else {
         Err(BAD_SHAPE)
     }
@@ -90,10 +89,10 @@ fn number_form<S>(number: &serde_json::Number) -> Result<Number<S>, ReadStop>
 }
 
 /// Reads the member `name` as the number of a resource or a posting, from 1 to 2³² - 1.
-pub fn number_at<S>(name: &str, members: Members<'_, '_>) -> Result<Number<S>, ReadStop>
-    ensures { ReadsMember (number_at name.now) (object (members_view members.now)) result }
+pub fn number_at<S>(name: &str, value: &Value<'_>) -> Result<Number<S>, ReadStop>
+    ensures { ReadsMember (number_at name.now) (view value.now) result }
 {
-    match member(members, name).and_then(Value::as_number) {
+    match value.get(name).and_then(Value::as_number) {
         Some(number) => number_form(number),
         None => Err(BAD_SHAPE),
     }
@@ -103,55 +102,54 @@ pub fn number_at<S>(name: &str, members: Members<'_, '_>) -> Result<Number<S>, R
 pub fn read_text_member<F: Form>(
     alloc: Global,
     name: &str,
-    members: Members<'_, '_>,
+    value: &Value<'_>,
 ) -> Result<Formed<F>, ReadStop>
     requires { is_form_stop (ReadStop.Form F.FAULT) ≡ true }
     ensures { ReadsMember (text_member F.is_form F.FAULT F.LOWERED name.now)
-        (object (members_view members.now)) result }
+        (view value.now) result }
 {
-    match member(members, name).and_then(Value::as_str) {
+    match value.get(name).and_then(Value::as_str) {
         Some(text) => Formed::read(alloc, text),
         None => Err(BAD_SHAPE),
     }
 }
 
 /// Reads the member `name` as a Boolean, or returns `BadShape`.
-pub fn truth_at(name: &str, members: Members<'_, '_>) -> Result<bool, ReadStop>
-    ensures { ReadsMember (boolean_member name.now) (object (members_view members.now)) result }
+pub fn truth_at(name: &str, value: &Value<'_>) -> Result<bool, ReadStop>
+    ensures { ReadsMember (boolean_member name.now) (view value.now) result }
 {
-    match member(members, name).and_then(Value::as_bool) {
+    match value.get(name).and_then(Value::as_bool) {
         Some(truth) => Ok(truth),
         None => Err(BAD_SHAPE),
     }
 }
 
 /// Reads the member `kind` as the keyword of a link kind.
-pub fn link_kind_at(members: Members<'_, '_>) -> Result<LinkKind, ReadStop>
-    ensures { ReadsMember a_link_kind (object (members_view members.now)) result }
+pub fn link_kind_at(value: &Value<'_>) -> Result<LinkKind, ReadStop>
+    ensures { ReadsMember a_link_kind (view value.now) result }
 {
-    match keyword_at(members).and_then(link_kind_named) {
+    match keyword_at(value).and_then(link_kind_named) {
         Some(kind) => Ok(kind),
         None => Err(BAD_SHAPE),
     }
 }
 
 // Returns the text in the member `kind`, if it is a string.
-fn keyword_at<'a>(members: Members<'a, '_>) -> Option<&'a str>
-    ensures { option_map (λ s. s.now) result
-        ≡ text_in (codes "kind") (object (members_view members.now)) }
+fn keyword_at<'a>(value: &'a Value<'_>) -> Option<&'a str>
+    ensures { option_map (λ s. s.now) result ≡ text_in (codes "kind") (view value.now) }
 {
-    member(members, "kind").and_then(Value::as_str)
+    value.get("kind").and_then(Value::as_str)
 }
 
 /// Reads the members `kind` and `text` as the value of a label, whose kind decides the form of the
 /// text.
-pub fn label_value_at(alloc: Global, members: Members<'_, '_>) -> Result<LabelValue, ReadStop>
-    ensures { ReadsMember a_label_value (object (members_view members.now)) result }
+pub fn label_value_at(alloc: Global, value: &Value<'_>) -> Result<LabelValue, ReadStop>
+    ensures { ReadsMember a_label_value (view value.now) result }
 {
-    let Some(kind) = keyword_at(members).and_then(label_kind_named) else {
+    let Some(kind) = keyword_at(value).and_then(label_kind_named) else {
         return Err(BAD_SHAPE);
     };
-    match member(members, "text").and_then(Value::as_str) {
+    match value.get("text").and_then(Value::as_str) {
         Some(text) => label_value_form(alloc, kind, text),
         None => Err(BAD_SHAPE),
     }
@@ -172,10 +170,10 @@ fn label_value_form(alloc: Global, kind: LabelKind, text: &str) -> Result<LabelV
 }
 
 /// Reads the member `postings` as an array of numbers of postings.
-pub fn postings_at(alloc: Global, members: Members<'_, '_>) -> Result<PostNos, ReadStop>
-    ensures { ReadsMember some_postings (object (members_view members.now)) result }
+pub fn postings_at(alloc: Global, value: &Value<'_>) -> Result<PostNos, ReadStop>
+    ensures { ReadsMember some_postings (view value.now) result }
 {
-    let numbers = numbers_in(alloc, "postings", members)?;
+    let numbers = numbers_in(alloc, "postings", value)?;
     post_nos(alloc, &numbers)
 }
 
@@ -197,16 +195,14 @@ fn post_nos(alloc: Global, numbers: &[&serde_json::Number]) -> Result<PostNos, R
 fn numbers_in<'a>(
     alloc: Global,
     name: &str,
-    members: Members<'a, '_>,
+    value: &'a Value<'_>,
 ) -> Result<Vec<&'a serde_json::Number>, ReadStop>
-    ensures ok { IfOk result (λ v. numbers_in name.now (object (members_view members.now)) ≡ Some
+    ensures ok { IfOk result (λ v. numbers_in name.now (view value.now) ≡ Some
         (map (λ n. number_view n.now) v.items)) }
     ensures err { IfErr result (λ e. (e ≡ ReadStop.OutOfMemory)
-        ⊎ ((e ≡ BAD_SHAPE) × (numbers_in name.now (object (members_view members.now)) ≡ None))) }
+        ⊎ ((e ≡ BAD_SHAPE) × (numbers_in name.now (view value.now) ≡ None))) }
 {
-    let array = member(members, name)
-        .and_then(Value::as_array)
-        .ok_or(BAD_SHAPE)?;
+    let array = value.get(name).and_then(Value::as_array).ok_or(BAD_SHAPE)?;
     all_numbers(alloc, array)
 }
 

@@ -14,14 +14,14 @@ pub fn number_of(text: &str) -> Option<Number>
     ensures { option_map number_view result ≡ number_of text.now }
 {
     let bytes = text.as_bytes();
-    // Most numerals are a few digits, and to scan such a one as a float takes three times as long.
+    // Most numerals are a few digits; scanning them as floats takes three times as long.
     if let Some(number) = integer_of(bytes) {
         return Some(Number::from(number));
     }
     scan_number(bytes)
 }
 
-// Returns the number that the bytes write, if they are one to 19 digits and nothing else. Any
+// Returns the value of the bytes as a numeral, if they are 1 to 19 digits and nothing else. Any
 // number of 19 digits fits 64 bits.
 fn integer_of(bytes: &[u8]) -> Option<u64>
     ensures { SomeIff result (IsNumeral 10 bytes.now × (length bytes.now ≤ 19))
@@ -41,8 +41,8 @@ fn integer_of(bytes: &[u8]) -> Option<u64>
     Some(number)
 }
 
-// Returns the value of any JSON numeral, if it is in range. This is apart, so that a few digits do
-// without the large frame that a scan fills with zeros first.
+// Returns the value of any JSON numeral, if it is in range. It is a function of its own, so that a
+// numeral of a few digits needs no large stack frame, which a scan first fills with zeros.
 #[inline(never)]
 fn scan_number(bytes: &[u8]) -> Option<Number>
     ensures { option_map number_view result ≡ number_of bytes.now }

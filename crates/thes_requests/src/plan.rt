@@ -4,8 +4,6 @@ ghost use Rattle.serde_json.specs.Data.{Data, array};
 ghost use Rattle.serde_json.specs.Find.{as_array, get};
 ghost use Rattle.thes_requests.specs.PlanReadings as plan;
 ghost use Rattle.thes_requests.specs.PlanReadings.{GivesPlan, GivesPlanRequest, IsPlanOfRequests, PlanReadsAs, PlanValueReadsAs, RequestsReadAs};
-ghost use Rattle.thes_requests.specs.Readings.{Gives};
-ghost use Rattle.thes_requests.specs.Requests.{command_in};
 ghost use Rattle.thes_requests.specs.Tree.{view, items_view};
 
 use crate::keywords::CommandKeyword;
@@ -15,12 +13,11 @@ use crate::request::{RequestScratch, command_in, json_in};
 use crate::tree::Value;
 use std::alloc::{AllocError, Global};
 use thes_base::fault::{FormFault, ReadStop};
-use thes_base::request::Command;
 use thes_plans::plan::{PlanRequest, REQUEST_LIMIT};
 use thes_plans::references::first_bad_reference;
 
-/// The reason why a text isn't a plan. The first fault of this order counts: that of the whole
-/// text, then those of the requests in their order, and then those of references.
+/// The reason why a text isn't a plan. The fault that comes first in this order counts: that
+/// of the whole text, then those of the requests in their order, then those of references.
 #[derive(Clone, Copy, Debug, PartialEq, Eq)]
 pub enum PlanFault {
     /// The text isn't JSON (`NotJson`), or not an array of 1 to 128 values (`BadShape`).
@@ -99,20 +96,6 @@ fn reference_at(name: Option<&str>, value: &Value<'_>) -> Option<u32>
     reference_in(value.get(name?)?)
 }
 
-// Reads the command with this keyword from the members of a JSON value.
-fn command_of_value(
-    alloc: Global,
-    verb: CommandKeyword,
-    value: &Value<'_>,
-) -> Result<Command, ReadStop>
-    ensures { Gives (command_in verb (view value.now)) result }
-{
-    match value {
-        Value::Object(members) => command_in(alloc, verb, members),
-        _ => Err(BAD_SHAPE),
-    }
-}
-
 // Returns, for each posting that a split lists, the place to which it refers, or `None` if it is no
 // reference; an empty list for other commands.
 fn listed_references(
@@ -165,7 +148,7 @@ fn plan_request_in(alloc: Global, value: Value<'_>) -> Result<PlanRequest, ReadS
     let postings = listed_references(alloc, verb, &value)?;
     let value = without_references(alloc, value)?;
     Ok(PlanRequest {
-        command: command_of_value(alloc, verb, &value)?,
+        command: command_in(alloc, verb, &value)?,
         first,
         second,
         postings,

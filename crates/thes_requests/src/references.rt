@@ -44,7 +44,7 @@ fn with_digit(value: u32, digit: &u8) -> u32
         .saturating_add(digit.saturating_sub(b'0') as u32)
 }
 
-// Returns the value of decimal digits, at most that of `u32::MAX`.
+// Returns the value of decimal digits, at most `u32::MAX`.
 fn capped_value(digits: &[u8]) -> u32
     requires { plan.is_place digits.now ≡ true }
     ensures { result ≡ min (digits_value 10 digits.now) plan.greatest_place }

@@ -3,7 +3,7 @@
 ghost use Rattle.std.specs.Prelude.{◌≡◌, ◌<◌, ◌⊎◌, length, option_map, is_some, bytes_eq, Some, None, IfOk, IfErr, OnOk};
 ghost use Rattle.json.specs.Json.{items, members, read_key, value};
 ghost use Rattle.serde_json.specs.Data.{no_members, put};
-ghost use Rattle.serde_json.specs.Find.{get, as_array, as_bool, as_number, as_str, get_member};
+ghost use Rattle.serde_json.specs.Find.{get, as_array, as_bool, as_number, as_object, as_str, get_member};
 ghost use Rattle.serde_json.specs.Read.{converted, of_items, of_json, of_members, read as read_text};
 ghost use Rattle.serde_json.specs.View.{number_view};
 ghost use Rattle.thes_requests.specs.Members.{has_count};
@@ -18,8 +18,7 @@ use thes_base::fault::{FormFault, ReadStop};
 /// The form fault of bytes that aren't one JSON value in UTF-8.
 pub const NOT_JSON: ReadStop = ReadStop::Form(FormFault::NotJson);
 
-/// The greatest depth to which arrays and objects nest.
-pub const MAX_DEPTH: usize = 127;
+const MAX_DEPTH: usize = 127;
 
 // The first capacity for the members of an object: the greatest number that a request has.
 const USUAL_MEMBERS: usize = 5;
@@ -34,16 +33,6 @@ pub enum Value<'a> {
     Text(&'a str),
     Array(Vec<Value<'a>>),
     Object(Vec<(&'a str, Value<'a>)>),
-}
-
-/// The members of an object, in the order of the text.
-pub type Members<'v, 'a> = &'v [(&'a str, Value<'a>)];
-
-/// Fills the unused places of an array of members.
-impl<'a> Default for Value<'a> {
-    fn default() -> Value<'a> {
-        Value::Null
-    }
 }
 
 impl<'a> Value<'a> {
@@ -74,6 +63,16 @@ impl<'a> Value<'a> {
         match self {
             Value::Object(members) => member(members, name),
             _ => None,
+        }
+    }
+
+    /// Returns whether this is an object with exactly `count` different names.
+    pub fn has_count(&self, count: usize) -> bool
+        ensures { result ≡ has_count count (as_object (view self.now)) }
+    {
+        match self {
+            Value::Object(members) => has_names(members, count),
+            _ => false,
         }
     }
 
@@ -118,8 +117,8 @@ impl<'a> Value<'a> {
     }
 }
 
-/// Returns the value of an object's last member with this name.
-pub fn member<'v, 'a>(members: &'v [(&'a str, Value<'a>)], name: &str) -> Option<&'v Value<'a>>
+// Returns the value of an object's last member with this name.
+fn member<'v, 'a>(members: &'v [(&'a str, Value<'a>)], name: &str) -> Option<&'v Value<'a>>
     ensures { option_map (λ v. view v.now) result
         ≡ get_member name.now (members_view members.now) }
 {
@@ -167,12 +166,12 @@ fn has_name<'a>(members: &[(&'a str, Value<'a>)], name: &str) -> bool
     false
 }
 
-/// Returns whether the members have exactly `count` different names.
-///
-/// A name is counted at its first member, from which a search backwards finds no equal one. For a
-/// fixed count the time is linear: the searches for one name add up to at most the length, and the
-/// loop ends at the first name in excess.
-pub fn has_names<'a>(members: &[(&'a str, Value<'a>)], count: usize) -> bool
+// Returns whether the members have exactly `count` different names.
+//
+// A name is counted at its first member, from which a search backwards finds no equal one. For a
+// fixed count the time is linear: the searches for one name add up to at most the length, and the
+// loop ends at the first name in excess.
+fn has_names<'a>(members: &[(&'a str, Value<'a>)], count: usize) -> bool
     ensures { result ≡ has_count count (Some (members_view members.now)) }
 {
     let mut names = 0;
@@ -204,10 +203,10 @@ pub fn push_member<'a>(
     members.push((name, value)).map_err(AllocError::from)
 }
 
-/// Parses the next JSON value, in which arrays and objects nest at most `depth` deep.
+// Parses the next JSON value, in which arrays and objects nest at most `depth` deep.
 #[cycle(read)]
 #[inline(always)]
-pub fn read<'a>(alloc: Global, reader: &mut Reader<'a>, depth: usize) -> Result<Value<'a>, ReadStop>
+fn read<'a>(alloc: Global, reader: &mut Reader<'a>, depth: usize) -> Result<Value<'a>, ReadStop>
     ensures ok { IfOk result
         (λ v. converted of_json (value depth reader.old) ≡ Some (view v, reader.new)) }
     ensures shorter { OnOk result (length reader.new < length reader.old) }
@@ -288,9 +287,9 @@ fn read_members<'a>(
     Ok(found)
 }
 
-/// Consumes the name of the next member and its colon, and returns the name, or `None` at the end
-/// of the object.
-pub fn next_name<'a>(reader: &mut Reader<'a>) -> Result<Option<&'a str>, ReadStop>
+// Consumes the name of the next member and its colon, and returns the name, or `None` at the end of
+// the object.
+fn next_name<'a>(reader: &mut Reader<'a>) -> Result<Option<&'a str>, ReadStop>
     ensures ok { IfOk result
         (λ name. read_key reader.old ≡ Some (option_map (λ s. s.now) name, reader.new)) }
     ensures err { IfErr result (λ e. (e ≡ NOT_JSON) × (read_key reader.old ≡ None)) }

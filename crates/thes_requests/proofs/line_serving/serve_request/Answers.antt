@@ -1,10 +1,15 @@
 use Rattle.std.proofs.lemmas.Grind.{common_steps}
-use Rattle.std.proofs.Common.{arith, ◌≡◌, List, ℕ, Result, Ok}
+use Rattle.std.proofs.Common.{arith, ◌≡◌, ap, List, ℕ, Result, Ok, Some}
+use Rattle.serde_json.specs.Data.{Data}
 use Rattle.thes_base.specs.declared.fault.Fault.{Fault}
+use Rattle.thes_base.specs.declared.fault.FormFault.{FormFault}
 use Rattle.thes_base.specs.declared.request.Answer.{Answer}
 use Rattle.thes_base.specs.declared.request.Command.{Command}
+use Rattle.thes_requests.specs.Readings.{ReadsAs}
 use Rattle.thes_requests.specs.RequestBehaviour.{RequestBehaviour}
+use Rattle.thes_requests.specs.Requests.{json_in, request_in, request_of}
 use Rattle.thes_requests.specs.Serving.{IsCommandLine, Serves, command_answer}
+use Rattle.thes_requests.specs.declared.request.Request.{Request}
 use Rattle.thes_requests.specs.declared.request.Request.TheVariants.{Do}
 use Rattle.thes_requests.proofs.line_serving.serve_request.Goals as goal
 
@@ -14,8 +19,13 @@ command_served : {S : Type 0} (d : RequestBehaviour S) (line : List ℕ) (old ne
     → Serves d old line (command_answer given) new
 command_served d line old new command given is did = grind (arith, common_steps)
 
+-- A line is read as its JSON value is.
+line_read : (line : List ℕ) (d : Data) (x : Result Request FormFault) → json_in line ≡ Some d
+    → ReadsAs (request_in d) x → ReadsAs (request_of line) x
+line_read line d x e h = rw e h
+
 pub returns-in-Ok-Do : goal.returns-in-Ok-Do
-returns-in-Ok-Do g c = λ line reads other.
-    let same : c.args.request ≡ Ok (Do c.in-Ok-Do.command) = grind arith in
+returns-in-Ok-Do g c = λ line same other.
     rw c.for_command.ensures (command_served g.D.RequestHandler.requests line c.args.handler.now c.perform.new.self
-    c.in-Ok-Do.command c.perform.result (reads.value (Do c.in-Ok-Do.command) same) c.perform.ensures)
+    c.in-Ok-Do.command c.perform.result (line_read line _ _ same
+    (c.in-Ok-Do.ensures.value (Do c.in-Ok-Do.command) (ap Ok c.in-Ok-Do.field-0-is))) c.perform.ensures)
