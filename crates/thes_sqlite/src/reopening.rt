@@ -1,23 +1,21 @@
 //! Storage in a database that is opened again after a failure of its disk has shut it.
-ghost use Rattle.std.specs.Prelude.{◌≡◌, false, None, Some, IfErr, IfSome, OnOk, OnErr, IsTrue};
+ghost use Rattle.std.specs.Prelude.{◌≡◌, false, None, Some, IfSome, OnOk, IsTrue};
 ghost use Rattle.sqlite.specs.Held.{state};
-ghost use Rattle.thes_store.specs.FoundLoads.{PassesFound};
-ghost use Rattle.thes_store.specs.Sinks.{SinkOutcome, sink_rows};
 ghost use Rattle.thes_store.specs.Storage.{CommitFrame, DeltaFitsStorage, RawAfterChanges};
-ghost use Rattle.thes_sqlite.specs.Faults.{IsKeeperFault};
 ghost use Rattle.thes_sqlite.specs.DatabaseFiles.{ServesFiles};
 ghost use Rattle.thes_sqlite.specs.KeeperView.{KeeperView};
 ghost use Rattle.thes_sqlite.specs.Reopening.{IsKeeperStillUp, rows_still, storage_still};
-ghost use Rattle.thes_sqlite.specs.Reopening.{FindsOfFirst, IsLostShut, IsStillOpen, KeepsOnFault, KeepsStill};
+ghost use Rattle.thes_sqlite.specs.Reopening.{IsLostShut, KeepsStill};
 ghost use Rattle.thes_sqlite.specs.Reopening.{LeavesFirst, ReturnsFirst, LosesShut, view_of_connection};
-ghost use Rattle.thes_sqlite.specs.Reopening.{StaysUnwritten, AppliesOpen, ShowsChanges, EndsCommit};
+ghost use Rattle.thes_sqlite.specs.Reopening.{StaysUnwritten, EndsCommit};
+
+mod open_storage;
 
 use crate::cause::{Cause, FaultCause};
 use crate::faults::{count_fault, count_fault_in};
 use crate::keeper::SqlKeeper;
 pub use crate::opener::{HeldTables, Reopen};
 use crate::progress::Progress;
-use crate::progress::counting_sink::load_counted;
 use sqlite::{Alter, Connection};
 use std::alloc::Global;
 use std::marker::Model;
@@ -27,7 +25,6 @@ use thes_base::number::{PostNo, ResNo};
 use thes_base::text::Key;
 use thes_store::keeper::{Keeper, Posting};
 use thes_store::sink::{PostingSink, RowSink};
-use thes_tables::change::Change;
 use thes_tables::delta::Delta;
 use thes_tables::rows::PostingRow;
 
@@ -150,8 +147,8 @@ impl<S: Alter + Drop, O: Reopen<Connection<S>> + HeldTables, L: Progress> Reopen
         }
     }
 
-    // Removes the storage if a failure has shut its connection. Returns whether there is none now,
-    // and the connection removed.
+    // Removes the storage if a failure has shut its connection. Returns whether there is no storage
+    // now, and the connection that was removed.
     fn take_shut(&mut self) -> (bool, Option<Connection<S>>)
         ensures keeps { KeepsStill S.Store self.old self.new }
         ensures leaves { LeavesFirst S.Store self.old self.new }
@@ -197,78 +194,6 @@ impl<S: Alter + Drop, O: Reopen<Connection<S>> + HeldTables, L: Progress> Reopen
             Err(cause) => self.cause = cause,
         }
         true
-    }
-
-    // Checks whether changes were made although their commit failed and shut the database, which it
-    // opens again. Returns false if the database isn't shut; returns false and sets `is_in_doubt`
-    // if the changes can't be checked.
-    #[tactic(auto, using(crate::proofs::ReopeningLemmas::shows_answer))]
-    fn shows_changes(&mut self, changes: &[Change]) -> bool
-        ensures keeps { KeepsStill S.Store self.old self.new }
-        ensures gone { IsTrue result → self.new.first ≡ None }
-        ensures shows { ShowsChanges S.Store changes.now self.old self.new result }
-    {
-        if !self.reopen_if_shut() {
-            return false;
-        }
-        let was_in_doubt = self.is_in_doubt;
-        self.is_in_doubt = true;
-        let Some(keeper) = &mut self.storage else {
-            return false;
-        };
-        let Some(found) = keeper.has_changes(changes) else {
-            return false;
-        };
-        self.is_in_doubt = was_in_doubt;
-        found
-    }
-
-    // Passes all rows of the open database to a sink, and reports them. The fault is `Store` if no
-    // database is open.
-    fn load_now<R: RowSink>(&mut self, sink: &mut R) -> Result<(), Fault>
-        ensures yields { IsKeeperStillUp S.Store self.new
-            → SinkOutcome R.gives sink.old (sink_rows (rows_still S.Store self.old)) result
-            sink.new }
-        ensures keeps { KeepsStill S.Store self.old self.new }
-        ensures kind { IfErr result IsKeeperFault }
-        ensures found { PassesFound (IsStillOpen S.Store) (FindsOfFirst S.Store) R.gives
-            self.old self.new sink.old result sink.new }
-    {
-        let Some(keeper) = &mut self.storage else {
-            return Err(Fault::Store);
-        };
-        let loaded = load_counted(keeper, sink, &mut self.progress);
-        self.cause = keeper.cause();
-        loaded
-    }
-
-    // Applies changes atomically. The fault is `Store`, and nothing changes, if the file of the
-    // database was moved away or no database is open.
-    #[tactic(auto, using(crate::proofs::ReopeningLemmas::stays_itself))]
-    fn commit_now(&mut self, changes: &[Change]) -> Result<(), Fault>
-        requires { DeltaFitsStorage changes.now (storage_still S.Store self.old) }
-        ensures ok { OnOk result (IsKeeperStillUp S.Store self.new
-            → RawAfterChanges changes.now (rows_still S.Store self.old)
-            (rows_still S.Store self.new)) }
-        ensures keeps { KeepsOnFault (storage_still S.Store self.old)
-            (storage_still S.Store self.new) result }
-        ensures applies { OnOk result (AppliesOpen S.Store changes.now self.old.storage
-            self.new.storage) }
-        ensures stays { OnErr result (StaysUnwritten S.Store self.old.storage self.new.storage) }
-        ensures kind { IfErr result IsKeeperFault }
-    {
-        if !self.opener.is_in_place() {
-            return Err(Fault::Store);
-        }
-        let Some(keeper) = &mut self.storage else {
-            return Err(Fault::Store);
-        };
-        // The changes needn't fit what a reopened database has.
-        if self.is_reopened {
-            keeper.commit_anew(changes)
-        } else {
-            keeper.commit_changes(changes)
-        }
     }
 }
 
