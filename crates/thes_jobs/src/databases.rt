@@ -38,7 +38,7 @@ pub trait Databases {
     ghost holds: { Self.Left → Schema → Tables → Type 0 };
 
     /// Opens the database in a file; if there is no such file, makes it. The image of what the
-    /// files held is consumed, so that one opening alone is of them.
+    /// files held is consumed, so that only one opening is of them.
     fn open(&self, image: Self::Image, file: &str) -> Result<Connection<Self::Engine>, Cause>
         ensures { IfOk result (OpensFrom Self.Engine.Store Self.Opener.image) };
 
@@ -47,8 +47,8 @@ pub trait Databases {
     fn reopener(&self, conn: &Connection<Self::Engine>, file: &str) -> Result<Self::Opener, Fault>;
 
     /// Takes a connection, if there is one, closes it, and returns what is left of its files, which
-    /// hold its store. (by reference, since Rattle proves no `impl` of a method that takes a
-    /// connection to an associated type by value)
+    /// hold its store. The connection is taken by reference, since Rattle proves no `impl` of a
+    /// method that takes one to an associated type by value.
     fn close(&self, conn: &mut Option<Connection<Self::Engine>>) -> Option<Self::Left>
         ensures { ClosesIfOpen Self.Engine.Store is_clean holds conn.old result };
 }

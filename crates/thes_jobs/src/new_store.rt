@@ -14,7 +14,7 @@ use thes_sql::create::create_tables;
 use thes_sqlite::cause::cause_of;
 use thes_sqlite::faults::fault_of;
 
-/// Returns whether a database has no tables, and nothing else that its schema lists.
+/// Returns whether the schema of a database lists nothing: no table, and nothing else.
 pub fn is_blank<S: Alter>(conn: &Connection<S>) -> bool
     ensures { IsTrue result ↔ ((state S.Store conn.now).now.schema ≡ empty_schema) }
 {
@@ -22,7 +22,8 @@ pub fn is_blank<S: Alter>(conn: &Connection<S>) -> bool
     schema.tables.is_empty() && schema.indexes.is_empty() && schema.views.is_empty()
 }
 
-/// Refuses a database without tables, in which none are to be made, as one without table meta.
+/// Refuses a blank database in which no tables are to be made; the fault is that of a store without
+/// table meta.
 pub fn check_blank(is_blank: bool) -> Result<(), (StoreTrouble, Fault)>
     ensures { result ≡ verdict_of_blank is_blank }
 {

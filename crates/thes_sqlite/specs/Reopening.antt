@@ -202,7 +202,7 @@ pub record KeepsOnFault {T : Type 0} (old new : StorageView) (result : Result T 
   pub was : new.is_up → old.is_up
   pub count : new.failures ≡ old.failures
 
--- The storage as any storage is seen, while the first connection is open.
+-- The view that contracts have of any storage, while the first connection is open.
 abbrev pub storage_still : {S : Type 0} → Ghosts S → ReopeningView S → StorageView
 storage_still g v = record { rows = rows_still g v; is_up = IsKeeperStillUp g v; failures = v.failures }
 
