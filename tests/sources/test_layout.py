@@ -17,7 +17,7 @@ COLUMNS = {".rt": 100, ".antt": 120}
 # How many lines are longer all the same. Wished are none.
 LONGER = {"comments of .rt": 1, "code of .rt": 12, "comments of .antt": 2, "text of .antt": 101}
 # How many functions may have more than five parameters.
-PARAMETERS = 10
+PARAMETERS = 1
 # A text, a comment or a character of Rattle's.
 TOKEN = re.compile(r"""//[^\n]*|b?'(?:\\.|[^'\\\n])'|"(?:\\.|[^"\\])*\"""", re.S)
 IMPORT = re.compile(r"(pub |ghost )*use |#\[tactic\(")

@@ -19,7 +19,7 @@ returns g c = (
     old_office = c.in-Ok.office;
     opens = c.in-Ok.ensures.opened;
     new_office = c.do_output_work-status.result.1;
-    does = rw c.in-Output.is (refl, c.do_output_work-status.ensures);
+    does = rw c.in-Output.is (c.do_output_work-status.ensures.input, c.do_output_work-status.ensures.does);
     back_is = c.into_keeper-in-Output.ensures;
   },
   c.in-Ok.ensures.found,
