@@ -92,6 +92,11 @@ fn main(rt: HostRuntime) -> ExitCode {
         },
     };
     let (status, closed) = run_in_files(&mut given, Unknown, planned);
+    let Given {
+        alloc: _,
+        system: _,
+        streams: _,
+    } = given;
     report_doubt(&rt, closed);
     ExitCode::from(status)
 }

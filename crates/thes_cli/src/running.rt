@@ -14,6 +14,7 @@ use sqlite::{Connection, FileFrom, FileStore, Start};
 use sqlite_disk::{Disk, Files};
 use sqlite_trees::store::Store;
 use std::fs::File;
+use std::io::Read;
 use thes_command_line::arguments::{EarlyExit, Job};
 use thes_command_line::start_failure::report_start_failure;
 use thes_jobs::databases::{Databases, FileDatabases};
@@ -85,7 +86,7 @@ where
         Listener = Option<Screen<'r, HostRuntime>>,
     >,
     requires { AreFresh given.old.streams }
-    ensures runs { RunsPlan T.PostingFile.remaining T.Input.remaining T.Output.contents
+    ensures runs { RunsPlan ⟦<File as Read>⟧.remaining T.Input.remaining T.Output.contents
         T.Errors.contents D.Engine.Store D.Opener.image D.is_clean D.holds D.Opener planned
         given.old.streams result.0 result.1 given.new.streams }
     ensures leads { LeadsIfClosed T.Errors.contents D.Opener.image D.is_clean D.holds planned
@@ -120,7 +121,7 @@ where
         Listener = Option<Screen<'r, HostRuntime>>,
     >,
     requires { AreFresh given.old.streams }
-    ensures runs { RunsPlan T.PostingFile.remaining T.Input.remaining T.Output.contents
+    ensures runs { RunsPlan ⟦<File as Read>⟧.remaining T.Input.remaining T.Output.contents
         T.Errors.contents ⟦<FileStore<FileFrom<S>> as Store>⟧ (image_at S.Start)
         (AreCleanFiles ⟦<FileFrom<S> as Disk>⟧) (HoldTables ⟦<FileFrom<S> as Disk>⟧)
         (StoreFiles S) planned given.old.streams result.0 result.1 given.new.streams }

@@ -22,7 +22,7 @@ returns-then-print-clause-serves g c =
     inl (
       subst (λ (text : List ℕ). Appends (written_bytes g.T.Output.Write.contents c.args.given.now.streams.output)
           (written_bytes g.T.Output.Write.contents c.print.new.writer) text)
-          (c.as_bytes.ensures.text ∙ c.listening_line.ensures) prints.0,
+          (c.as_bytes.ensures.text ∙ c.listening_line-line.ensures) prints.0,
       rw (c.into_office.ensures, ← c.new-handler.ensures) served,
     )
 
@@ -32,7 +32,7 @@ returns-else-print-clause-serves g c =
     let prints = rw c.if-print.false at c.print.ensures in
     inr (
       subst (λ (text : List ℕ). PrintsPrefix g.T.Output.Write.contents c.args.given.now.streams.output c.print.new.writer text)
-          (c.as_bytes.ensures.text ∙ c.listening_line.ensures) prints,
+          (c.as_bytes.ensures.text ∙ c.listening_line-line.ensures) prints,
       c.report_fault.ensures.line,
       refl,
       c.report_fault.ensures.status,
