@@ -22,35 +22,26 @@ use closing::Closed;
 use running::run_in_files;
 use sqlite::Unknown;
 use std::alloc::Global;
-use std::fs::File;
 use std::io::{IsTerminal, Stderr, Stdin, Stdout};
-use std::marker::PhantomData;
 use std::process::ExitCode;
 use std::rt::Env;
-use streams::{Devices, Given, Streams};
+use streams::{Console, Given, Streams, SystemDevices};
 use thes_base::pipe::Pipe;
 use thes_command_line::arguments::{EarlyExit, Job, is_display, plan_args};
 use thes_command_line::printing::print_error;
 use thes_command_line::terminal_output::TerminalOutput;
 use thes_http::connection_count::ConnectionCount;
-use thes_jobs::screen::Screen;
 
-// The devices of the process.
+// The standard streams of the process.
 #[derive(Drop)]
-struct SystemDevices<'r>(PhantomData<&'r HostRuntime>);
+struct ProcessConsole;
 
-impl<'r> Devices for SystemDevices<'r> {
+impl Console for ProcessConsole {
     type Input = Stdin;
 
     type Output = TerminalOutput<Stdout>;
 
     type Errors = Stderr;
-
-    type PostingFile = File;
-
-    type System = HostRuntime;
-
-    type Listener = Option<Screen<'r, HostRuntime>>;
 }
 
 // Parses the arguments of the process.
@@ -81,7 +72,7 @@ fn report_doubt<C: Drop>(rt: &HostRuntime, closed: Closed<C>) {
 fn main(rt: HostRuntime) -> ExitCode {
     let planned = plan_command_line(&rt);
     let escapes = escapes_output(&rt, &planned);
-    let mut given: Given<'_, SystemDevices<'_>> = Given {
+    let mut given: Given<'_, SystemDevices<'_, ProcessConsole>> = Given {
         alloc: rt.alloc(),
         system: &rt,
         streams: Streams {

@@ -9,7 +9,7 @@ ghost use Rattle.thes_cli.specs.Streams.{AreFresh};
 
 use crate::closing::Closed;
 use crate::stores::{close_open, work_in_database, work_in_memory};
-use crate::streams::{Devices, Given};
+use crate::streams::{Console, Devices, Given, SystemDevices};
 use sqlite::{Connection, FileFrom, FileStore, Start};
 use sqlite_disk::{Disk, Files};
 use sqlite_trees::store::Store;
@@ -19,7 +19,6 @@ use thes_command_line::arguments::{EarlyExit, Job};
 use thes_command_line::start_failure::report_start_failure;
 use thes_jobs::databases::{Databases, FileDatabases};
 use thes_jobs::migrating::{migrate_in_database, print_version};
-use thes_jobs::screen::Screen;
 use thes_jobs::starting::{FailedStart, OpenJob, open_job};
 use thes_jobs::store_files::ReopenedImage;
 
@@ -73,23 +72,17 @@ fn without_files<L>() -> Closed<L>
 
 // Opens the store of a job, does its work, and closes it. Returns the exit status with what is left
 // of the store's files, if they were opened.
-fn run_job<'r, T, D: Databases>(
-    given: &mut Given<'r, T>,
+fn run_job<'r, C: Console, D: Databases>(
+    given: &mut Given<'r, SystemDevices<'r, C>>,
     databases: &D,
     image: D::Image,
     planned: Result<Job, EarlyExit>,
 ) -> (u8, Closed<D::Left>)
-where
-    T: Devices<
-        PostingFile = File,
-        System = HostRuntime,
-        Listener = Option<Screen<'r, HostRuntime>>,
-    >,
     requires { AreFresh given.old.streams }
-    ensures runs { RunsPlan ⟦<File as Read>⟧.remaining T.Input.remaining T.Output.contents
-        T.Errors.contents D.Engine.Store D.Opener.image D.is_clean D.holds D.Opener planned
+    ensures runs { RunsPlan ⟦<File as Read>⟧.remaining C.Input.remaining C.Output.contents
+        C.Errors.contents D.Engine.Store D.Opener.image D.is_clean D.holds D.Opener planned
         given.old.streams result.0 result.1 given.new.streams }
-    ensures leads { LeadsIfClosed T.Errors.contents D.Opener.image D.is_clean D.holds planned
+    ensures leads { LeadsIfClosed C.Errors.contents D.Opener.image D.is_clean D.holds planned
         given.old.streams.errors given.new.streams.errors result.0 result.1 }
 {
     match open_job(given.system, databases, image, planned) {
@@ -109,23 +102,17 @@ where
 /// what was written, and no failure has shut the database, the files hold the store that the
 /// requests make of the one that they held, or of an empty one if they were new, even after a
 /// crash.
-pub fn run_in_files<'r, T, S: Start + ReopenedImage>(
-    given: &mut Given<'r, T>,
+pub fn run_in_files<'r, C: Console, S: Start + ReopenedImage>(
+    given: &mut Given<'r, SystemDevices<'r, C>>,
     image: S,
     planned: Result<Job, EarlyExit>,
 ) -> (u8, Closed<Option<Files<FileFrom<S>>>>)
-where
-    T: Devices<
-        PostingFile = File,
-        System = HostRuntime,
-        Listener = Option<Screen<'r, HostRuntime>>,
-    >,
     requires { AreFresh given.old.streams }
-    ensures runs { RunsPlan ⟦<File as Read>⟧.remaining T.Input.remaining T.Output.contents
-        T.Errors.contents ⟦<FileStore<FileFrom<S>> as Store>⟧ (image_at S.Start)
+    ensures runs { RunsPlan ⟦<File as Read>⟧.remaining C.Input.remaining C.Output.contents
+        C.Errors.contents ⟦<FileStore<FileFrom<S>> as Store>⟧ (image_at S.Start)
         (AreCleanFiles ⟦<FileFrom<S> as Disk>⟧) (HoldTables ⟦<FileFrom<S> as Disk>⟧)
         (StoreFiles S) planned given.old.streams result.0 result.1 given.new.streams }
-    ensures leads { LeadsIfClosed T.Errors.contents (image_at S.Start)
+    ensures leads { LeadsIfClosed C.Errors.contents (image_at S.Start)
         (AreCleanFiles ⟦<FileFrom<S> as Disk>⟧) (HoldTables ⟦<FileFrom<S> as Disk>⟧) planned
         given.old.streams.errors given.new.streams.errors result.0 result.1 }
 {
