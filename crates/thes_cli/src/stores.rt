@@ -46,10 +46,10 @@ pub fn close_open<D: Databases>(
     close_left(databases, left)
 }
 
-/// Opens an office over the store in a database, works over it, closes the database, and returns
-/// the exit status with what is left of its files. If the disk has returned what was written, and
-/// no failure has shut the database, the files hold the store after the work. The fault of a store
-/// that can't be opened is printed after the name of its file.
+/// Works over the store in a database, and closes it. Returns the exit status with what is left of
+/// its files. If the disk has returned what was written, and no failure has shut the database, the
+/// files hold the store after the work. The fault of a store that can't be opened is printed after
+/// the name of its file.
 pub fn work_in_database<T: Devices, D: Databases>(
     given: &mut Given<'_, T>,
     databases: &D,

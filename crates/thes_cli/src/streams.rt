@@ -32,7 +32,8 @@ pub trait Devices {
     type Listener: Progress;
 }
 
-/// The types of the standard streams of a process.
+/// The types of the standard streams of a process, the devices that `run_in_files` leaves open.
+/// (Generic over `Devices`, with bounds that fix the others, it isn't proved within antt's steps.)
 pub trait Console {
     /// Standard input.
     type Input: Read;
