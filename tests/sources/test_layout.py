@@ -15,9 +15,9 @@ from program import ROOT
 # The columns of a line; that of an import, and a text that no line break may divide, may be longer.
 COLUMNS = {".rt": 100, ".antt": 120}
 # How many lines are longer all the same. Wished are none.
-LONGER = {"comments of .rt": 1, "code of .rt": 0, "comments of .antt": 0, "text of .antt": 20}
+LONGER = {"comments of .rt": 1, "code of .rt": 0, "comments of .antt": 0, "text of .antt": 13}
 # How many functions may have more than five parameters.
-PARAMETERS = 10
+PARAMETERS = 1
 # A text, a comment or a character of Rattle's.
 TOKEN = re.compile(r"""//[^\n]*|b?'(?:\\.|[^'\\\n])'|"(?:\\.|[^"\\])*\"""", re.S)
 IMPORT = re.compile(r"(pub |ghost )*use |#\[tactic\(")

@@ -104,8 +104,8 @@ module _ {S : Type 0} (g : Ghosts S) where
           run.1,
           subst (λ (l : Limits). TablesAfterRun l (cells_of_tables t) run.0 run.1 (cells_of_tables after))
               opened.opens.limits_are
-              (subst (λ (r : Raw). TablesAfterRun opened.old_office.limits r run.0 run.1 (cells_of_tables after)) rows_first
-              (subst (λ (r : Raw). TablesAfterRun opened.old_office.limits
+              (subst (λ (r : Raw). TablesAfterRun opened.old_office.limits r run.0 run.1 (cells_of_tables after))
+              rows_first (subst (λ (r : Raw). TablesAfterRun opened.old_office.limits
               (rows_still g opened.old_office.keeper) run.0 run.1 r) rows_last run.2)),
         )
 

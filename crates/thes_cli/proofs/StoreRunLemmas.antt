@@ -60,7 +60,8 @@ module _ {K : Type 0} (view : K → StorageView) where
     stopped_leads file outcomes pipe.Write x = rows_lead file outcomes x.others x.result x.first
     stopped_leads file outcomes pipe.TooLong x = rows_lead file outcomes x.others x.result x.first
 
-    import_leads : {F : Type 0} (given : F → Option (List ℕ)) (file file' : Pipe F) (result : Result ImportEnd ImportStop)
+    import_leads : {F : Type 0} (given : F → Option (List ℕ)) (file file' : Pipe F)
+        (result : Result ImportEnd ImportStop)
         → ImportsPipe view given out file old output result file' new output' → IsReachedByRun view old old
         → IsReachedByRun view old new
     import_leads given file file' (Ok (ended.Rows counts)) x start =
@@ -74,8 +75,8 @@ module _ {K : Type 0} (view : K → StorageView) where
     ]
 
   module _ {F W E : Type 0} (given : F → Option (List ℕ)) (out : W → Option (List ℕ)) (err : E → Option (List ℕ)) where
-    output_leads : {L : Type 0} (connections : ℕ) (work : OutputWork F L) (old new : OfficeView K) (output output' : Pipe W)
-        (errors errors' : Pipe E) (status : ℕ)
+    output_leads : {L : Type 0} (connections : ℕ) (work : OutputWork F L) (old new : OfficeView K)
+        (output output' : Pipe W) (errors errors' : Pipe E) (status : ℕ)
         → DoesOutputWork view given out err connections work old output output' errors errors' status new
         → IsReachedByRun view old old → IsReachedByRun view old new
     output_leads connections Check old new output output' errors errors' status x start =
@@ -86,15 +87,17 @@ module _ {K : Type 0} (view : K → StorageView) where
         let shows = x.shows in led_same view old old new shows.ready start shows.fault_behaviour shows.same
     output_leads connections (Import file prints_it) old new output output' errors errors' status x start =
         import_leads out output output' old new given x.file_pipe x.file_after x.result x.imports start
-    output_leads connections (Serve listening) old new output output' errors errors' status (inl served) start = served.1.reached
+    output_leads connections (Serve listening) old new output output' errors errors' status (inl served) start =
+        served.1.reached
     output_leads connections (Serve listening) old new output output' errors errors' status (inr unprinted) start =
         led_kept view old old new start unprinted.2
 
     -- The work of each command leads the office through a run of the machine.
-    pub work_leads : {R L : Type 0} (remaining : R → Option (List ℕ)) (work : Work F L) (old_office new_office : OfficeView K)
-        (old new : Streams R W E) (status : ℕ)
+    pub work_leads : {R L : Type 0} (remaining : R → Option (List ℕ)) (work : Work F L)
+        (old_office new_office : OfficeView K) (old new : Streams R W E) (status : ℕ)
         → DoesWork view given remaining out err work old_office old status new_office new
         → IsReachedByRun view old_office old_office → IsReachedByRun view old_office new_office
     work_leads remaining (Script options) old_office new_office old new status x start = x.reached
     work_leads remaining (Output work) old_office new_office old new status x start =
-        output_leads new.connections work old_office new_office old.output new.output old.errors new.errors status x.1 start
+        output_leads new.connections work old_office new_office old.output new.output old.errors new.errors
+        status x.1 start

@@ -34,7 +34,7 @@ use Rattle.thes_cli.specs.Work.{WorksOpened, WorksOverKeeper}
 use Rattle.thes_cli.specs.declared.closing.Closed.{Closed}
 use Rattle.thes_cli.specs.declared.streams.Streams.{Streams}
 
--- Storage in memory as any storage is seen: it always works, and never fails.
+-- The view that contracts have of storage in memory: it always works, and never fails.
 abbrev pub storage_in_memory : Tables → StorageView
 storage_in_memory t = record { rows = cells_of_tables t; is_up = Unit {0}; failures = 0 }
 

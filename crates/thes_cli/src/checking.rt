@@ -25,7 +25,7 @@ fn core_sizes(core: &Core) -> Sizes
     core.sizes()
 }
 
-// Returns the sizes of the state that the office's tables encode.
+// Returns the sizes of the state that the office's tables encode, for the line that `check` prints.
 fn office_sizes<K: Keeper>(office: &mut Office<K>) -> Result<Sizes, Fault>
     ensures { FindsSizes K.view office.old result office.new }
 {

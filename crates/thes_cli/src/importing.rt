@@ -1,12 +1,12 @@
 //! The command `import`: imports a posting file into a store.
-ghost use Rattle.std.specs.Prelude.{Ok};
+ghost use Rattle.std.specs.Prelude.{◌≡◌, Ok};
 ghost use Rattle.thes_base.specs.Pipe.{IsFresh};
-ghost use Rattle.thes_command_line.specs.Printing.{AreFreshOutputs};
 ghost use Rattle.thes_cli.specs.Importing.{EndsImport, ImportsStore, PrintsCounts};
+ghost use Rattle.thes_cli.specs.Streams.{AreFresh};
 
 use crate::ending::counts_line;
-use std::alloc::Global;
-use std::io::{Read, Write};
+use crate::streams::{Devices, Given};
+use std::io::Write;
 use thes_base::fault::FormFault;
 use thes_base::pipe::Pipe;
 use thes_command_line::printing::{print_error, report_fault, report_form_fault};
@@ -62,19 +62,20 @@ fn report_import<E: Write>(
 
 /// Imports a posting file, writes the outcomes of its rows, prints their counts if `prints_it`, and
 /// returns the exit status.
-pub fn import_file<K: Keeper, F: Read + Drop, W: Write, E: Write>(
-    alloc: Global,
-    file: F,
+pub fn import_file<T: Devices, K: Keeper>(
+    given: &mut Given<'_, T>,
+    file: T::PostingFile,
     prints_it: bool,
     office: &mut Office<K>,
-    output: &mut Pipe<W>,
-    errors: &mut Pipe<E>,
 ) -> u8
-    requires { AreFreshOutputs output.old errors.old }
-    ensures { ImportsStore K.view F.remaining W.contents E.contents prints_it file
-        office.old output.old output.new errors.old errors.new result office.new }
+    requires { AreFresh given.old.streams }
+    ensures input { given.new.streams.input ≡ given.old.streams.input }
+    ensures imports { ImportsStore K.view T.PostingFile.remaining T.Output.contents
+        T.Errors.contents prints_it file office.old given.old.streams.output
+        given.new.streams.output given.old.streams.errors given.new.streams.errors result
+        office.new }
 {
-    let mut given = Pipe::new(file);
-    let ended = import(alloc, &mut given, output, office);
-    report_import(errors, prints_it, ended)
+    let mut reader = Pipe::new(file);
+    let ended = import(given.alloc, &mut reader, &mut given.streams.output, office);
+    report_import(&mut given.streams.errors, prints_it, ended)
 }

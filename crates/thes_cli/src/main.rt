@@ -22,15 +22,27 @@ use closing::Closed;
 use running::run_in_files;
 use sqlite::Unknown;
 use std::alloc::Global;
-use std::io::IsTerminal;
+use std::io::{IsTerminal, Stderr, Stdin, Stdout};
 use std::process::ExitCode;
 use std::rt::Env;
-use streams::Streams;
+use streams::{Console, Given, Streams, SystemDevices};
 use thes_base::pipe::Pipe;
 use thes_command_line::arguments::{EarlyExit, Job, is_display, plan_args};
 use thes_command_line::printing::print_error;
 use thes_command_line::terminal_output::TerminalOutput;
 use thes_http::connection_count::ConnectionCount;
+
+// The standard streams of the process.
+#[derive(Drop)]
+struct ProcessConsole;
+
+impl Console for ProcessConsole {
+    type Input = Stdin;
+
+    type Output = TerminalOutput<Stdout>;
+
+    type Errors = Stderr;
+}
 
 // Parses the arguments of the process.
 fn plan_command_line<R: Env + Alloc<A = Global>>(rt: &R) -> Result<Job, EarlyExit> {
@@ -60,13 +72,22 @@ fn report_doubt<C: Drop>(rt: &HostRuntime, closed: Closed<C>) {
 fn main(rt: HostRuntime) -> ExitCode {
     let planned = plan_command_line(&rt);
     let escapes = escapes_output(&rt, &planned);
-    let mut streams = Streams {
-        input: Pipe::new(rt.stdin()),
-        output: Pipe::new(TerminalOutput::new(rt.stdout(), escapes)),
-        errors: Pipe::new(rt.stderr()),
-        connections: ConnectionCount::new(),
+    let mut given: Given<'_, SystemDevices<'_, ProcessConsole>> = Given {
+        alloc: rt.alloc(),
+        system: &rt,
+        streams: Streams {
+            input: Pipe::new(rt.stdin()),
+            output: Pipe::new(TerminalOutput::new(rt.stdout(), escapes)),
+            errors: Pipe::new(rt.stderr()),
+            connections: ConnectionCount::new(),
+        },
     };
-    let (status, closed) = run_in_files(&rt, Unknown, planned, &mut streams);
+    let (status, closed) = run_in_files(&mut given, Unknown, planned);
+    let Given {
+        alloc: _,
+        system: _,
+        streams: _,
+    } = given;
     report_doubt(&rt, closed);
     ExitCode::from(status)
 }

@@ -8,13 +8,13 @@ ghost use Rattle.thes_cli.specs.Stores.{ClosesLeft, open_leaving};
 ghost use Rattle.thes_cli.specs.Streams.{AreFresh};
 
 use crate::closing::Closed;
-use crate::stores::{close_open, work_and_close, work_in_memory};
-use crate::streams::Streams;
+use crate::stores::{close_open, work_in_database, work_in_memory};
+use crate::streams::{Console, Devices, Given, SystemDevices};
 use sqlite::{Connection, FileFrom, FileStore, Start};
 use sqlite_disk::{Disk, Files};
 use sqlite_trees::store::Store;
 use std::fs::File;
-use std::io::{Read, Write};
+use std::io::Read;
 use thes_command_line::arguments::{EarlyExit, Job};
 use thes_command_line::start_failure::report_start_failure;
 use thes_jobs::databases::{Databases, FileDatabases};
@@ -24,38 +24,38 @@ use thes_jobs::store_files::ReopenedImage;
 
 // Migrates the store in a database, closes it, and returns the exit status with what is left of its
 // files.
-fn migrate<D: Databases, R, W: Write, E: Write>(
-    rt: &HostRuntime,
+fn migrate<T: Devices, D: Databases>(
+    given: &mut Given<'_, T>,
     databases: &D,
     file: String,
     conn: Connection<D::Engine>,
-    streams: &mut Streams<R, W, E>,
 ) -> (u8, Closed<D::Left>)
     requires idle { conn.in_transaction ≡ false }
-    requires streams { AreFresh streams.old }
-    ensures { MigratesInFile W.contents E.contents D.Engine.Store streams.old result.0 streams.new
-        D.is_clean D.holds file conn result.1 }
+    requires streams { AreFresh given.old.streams }
+    ensures { MigratesInFile T.Output.contents T.Errors.contents D.Engine.Store given.old.streams
+        result.0 given.new.streams D.is_clean D.holds file conn result.1 }
 {
-    let (output, errors) = (&mut streams.output, &mut streams.errors);
-    let (status, conn) = migrate_in_database(rt.alloc(), file.as_str(), conn, output, errors);
+    let (output, errors) = (&mut given.streams.output, &mut given.streams.errors);
+    let (status, conn) = migrate_in_database(given.alloc, file.as_str(), conn, output, errors);
     (status, close_open(databases, Some(conn)))
 }
 
 // Reports why no job was opened, and closes the database of its store if that was opened. Returns
 // the exit status with what is left of the files.
-fn report_no_job<D: Databases, R, W: Write, E: Write>(
+fn report_no_job<T: Devices, D: Databases>(
+    given: &mut Given<'_, T>,
     databases: &D,
     failed: FailedStart<D::Engine>,
-    streams: &mut Streams<R, W, E>,
 ) -> (u8, Closed<D::Left>)
-    requires { AreFresh streams.old }
-    ensures reports { ReportsNoJob W.contents E.contents D.Engine.Store streams.old result.0
-        streams.new failed.failure }
+    requires { AreFresh given.old.streams }
+    ensures reports { ReportsNoJob T.Output.contents T.Errors.contents D.Engine.Store
+        given.old.streams result.0 given.new.streams failed.failure }
     ensures closes { ClosesLeft D.Engine.Store D.is_clean D.holds (open_leaving failed.conn)
         result.1 }
 {
     let FailedStart { failure, conn } = failed;
-    let status = report_start_failure(&mut streams.output, &mut streams.errors, &failure);
+    let (output, errors) = (&mut given.streams.output, &mut given.streams.errors);
+    let status = report_start_failure(output, errors, &failure);
     (status, close_open(databases, conn))
 }
 
@@ -72,34 +72,28 @@ fn without_files<L>() -> Closed<L>
 
 // Opens the store of a job, does its work, and closes it. Returns the exit status with what is left
 // of the store's files, if they were opened.
-fn run_job<D: Databases, R: Read, W: Write, E: Write>(
-    rt: &HostRuntime,
+fn run_job<'r, C: Console, D: Databases>(
+    given: &mut Given<'r, SystemDevices<'r, C>>,
     databases: &D,
     image: D::Image,
     planned: Result<Job, EarlyExit>,
-    streams: &mut Streams<R, W, E>,
 ) -> (u8, Closed<D::Left>)
-    requires { AreFresh streams.old }
-    ensures runs { RunsPlan ⟦<File as Read>⟧.remaining R.remaining W.contents E.contents
-        D.Engine.Store D.Opener.image D.is_clean D.holds D.Opener planned streams.old result.0
-        result.1 streams.new }
-    ensures leads { LeadsIfClosed E.contents D.Opener.image D.is_clean D.holds planned
-        streams.old.errors streams.new.errors result.0 result.1 }
+    requires { AreFresh given.old.streams }
+    ensures runs { RunsPlan ⟦<File as Read>⟧.remaining C.Input.remaining C.Output.contents
+        C.Errors.contents D.Engine.Store D.Opener.image D.is_clean D.holds D.Opener planned
+        given.old.streams result.0 result.1 given.new.streams }
+    ensures leads { LeadsIfClosed C.Errors.contents D.Opener.image D.is_clean D.holds planned
+        given.old.streams.errors given.new.streams.errors result.0 result.1 }
 {
-    match open_job(rt, databases, image, planned) {
-        Ok(OpenJob::InFile(job)) => work_and_close(rt.alloc(), rt, databases, job, streams),
-        Ok(OpenJob::InMemory(job)) => {
-            (
-                work_in_memory(rt.alloc(), rt, job, streams),
-                without_files(),
-            )
-        }
-        Ok(OpenJob::Migration(file, conn)) => migrate(rt, databases, file, conn, streams),
+    match open_job(given.system, databases, image, planned) {
+        Ok(OpenJob::InFile(job)) => work_in_database(given, databases, job),
+        Ok(OpenJob::InMemory(job)) => (work_in_memory(given, job), without_files()),
+        Ok(OpenJob::Migration(file, conn)) => migrate(given, databases, file, conn),
         Ok(OpenJob::Version) => {
-            let status = print_version(&mut streams.output, &mut streams.errors);
-            (status, without_files())
+            let (output, errors) = (&mut given.streams.output, &mut given.streams.errors);
+            (print_version(output, errors), without_files())
         }
-        Err(failed) => report_no_job(databases, failed, streams),
+        Err(failed) => report_no_job(given, databases, failed),
     }
 }
 
@@ -108,20 +102,20 @@ fn run_job<D: Databases, R: Read, W: Write, E: Write>(
 /// what was written, and no failure has shut the database, the files hold the store that the
 /// requests make of the one that they held, or of an empty one if they were new, even after a
 /// crash.
-pub fn run_in_files<S: Start + ReopenedImage, R: Read, W: Write, E: Write>(
-    rt: &HostRuntime,
+pub fn run_in_files<'r, C: Console, S: Start + ReopenedImage>(
+    given: &mut Given<'r, SystemDevices<'r, C>>,
     image: S,
     planned: Result<Job, EarlyExit>,
-    streams: &mut Streams<R, W, E>,
 ) -> (u8, Closed<Option<Files<FileFrom<S>>>>)
-    requires { AreFresh streams.old }
-    ensures runs { RunsPlan ⟦<File as Read>⟧.remaining R.remaining W.contents E.contents
-        ⟦<FileStore<FileFrom<S>> as Store>⟧ (image_at S.Start)
+    requires { AreFresh given.old.streams }
+    ensures runs { RunsPlan ⟦<File as Read>⟧.remaining C.Input.remaining C.Output.contents
+        C.Errors.contents ⟦<FileStore<FileFrom<S>> as Store>⟧ (image_at S.Start)
         (AreCleanFiles ⟦<FileFrom<S> as Disk>⟧) (HoldTables ⟦<FileFrom<S> as Disk>⟧)
-        (StoreFiles S) planned streams.old result.0 result.1 streams.new }
-    ensures leads { LeadsIfClosed E.contents (image_at S.Start)
+        (StoreFiles S) planned given.old.streams result.0 result.1 given.new.streams }
+    ensures leads { LeadsIfClosed C.Errors.contents (image_at S.Start)
         (AreCleanFiles ⟦<FileFrom<S> as Disk>⟧) (HoldTables ⟦<FileFrom<S> as Disk>⟧) planned
-        streams.old.errors streams.new.errors result.0 result.1 }
+        given.old.streams.errors given.new.streams.errors result.0 result.1 }
 {
-    run_job(rt, &FileDatabases::<S>::new(rt), image, planned, streams)
+    let databases = FileDatabases::<S>::new(given.system);
+    run_job(given, &databases, image, planned)
 }

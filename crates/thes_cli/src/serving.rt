@@ -1,15 +1,14 @@
 //! The command `serve`: serves HTTP connections over a store.
 ghost use Rattle.std.specs.Prelude.{◌≡◌, IfErr, IfOk};
 ghost use Rattle.thes_base.specs.Pipe.{IsFresh};
-ghost use Rattle.thes_command_line.specs.Printing.{AreFreshOutputs};
 ghost use Rattle.thes_cli.specs.Serving as serving;
 ghost use Rattle.thes_cli.specs.Serving.{EndsUnserved, EndsWell, ServesStore};
+ghost use Rattle.thes_cli.specs.Streams.{AreFresh};
 
-use std::alloc::Global;
+use crate::streams::{Devices, Given};
 use std::io;
 use std::io::{ErrorKind, Write};
 use std::net::Net;
-use std::rt::Clock;
 use thes_base::fault::{Fault, PipeFault};
 use thes_base::pipe::Pipe;
 use thes_command_line::printing::{print, report_fault, report_net_fault};
@@ -17,7 +16,7 @@ use thes_http::connection_count::ConnectionCount;
 use thes_jobs::work::Listening;
 use thes_office::Office;
 use thes_requests::short_line::ShortLine;
-use thes_service::plan_mode::{NoPlans, PlanMode, WithPlans};
+use thes_service::plan_mode::PlanMode;
 use thes_service::{OfficeHandler, office_serve};
 use thes_store::keeper::Keeper;
 
@@ -65,71 +64,31 @@ fn report_served<E: Write>(
     }
 }
 
-// Prints the address, serves the connections in this mode, and returns the exit status with the
-// office. If the address can't be printed, it serves none.
-fn serve_in_mode<N: Net + Clock, K: Keeper, M: PlanMode + Copy, W: Write, E: Write>(
-    alloc: Global,
-    clock: &N,
-    listening: &Listening<N::Listener>,
+/// Prints the address, serves the connections in this mode, and returns the exit status with the
+/// office. If the address can't be printed, it serves none.
+pub fn serve_store<T: Devices, K: Keeper, M: PlanMode + Copy>(
+    given: &mut Given<'_, T>,
+    listening: &Listening<<T::System as Net>::Listener>,
     office: Office<K>,
     mode: M,
-    output: &mut Pipe<W>,
-    errors: &mut Pipe<E>,
-    connections: &mut ConnectionCount,
 ) -> (u8, Office<K>)
-    requires { AreFreshOutputs output.old errors.old }
-    ensures { let asked = listening.now in
-        ServesStore K.view E.contents W.contents M.takes asked.port asked.count office output.old
-        output.new errors.old errors.new connections.new result.0 result.1 }
+    requires { AreFresh given.old.streams }
+    ensures input { given.new.streams.input ≡ given.old.streams.input }
+    ensures serves { let asked = listening.now in
+        ServesStore K.view T.Errors.contents T.Output.contents M.takes asked.port asked.count
+        office given.old.streams.output given.new.streams.output given.old.streams.errors
+        given.new.streams.errors given.new.streams.connections result.0 result.1 }
 {
-    if print(output, listening_line(listening.port).as_bytes()) {
+    let streams = &mut given.streams;
+    let line = listening_line(listening.port);
+    if print(&mut streams.output, line.as_bytes()) {
         let mut handler = OfficeHandler::new(office, mode);
-        let listener = &listening.listener;
-        let ended = office_serve::<N, K, M>(alloc, clock, listener, listening.count, &mut handler);
-        let status = report_served(errors, connections, ended);
+        let (listener, count) = (&listening.listener, listening.count);
+        let (alloc, system) = (given.alloc, given.system);
+        let ended = office_serve(alloc, system, listener, count, &mut handler);
+        let status = report_served(&mut streams.errors, &mut streams.connections, ended);
         (status, handler.into_office())
     } else {
-        (report_fault(errors, PipeFault::Write), office)
-    }
-}
-
-/// Prints the address, serves the connections, with plans if they are asked for, and returns the
-/// exit status with the office. If the address can't be printed, it serves none.
-pub fn serve_store<N: Net + Clock, K: Keeper, W: Write, E: Write>(
-    alloc: Global,
-    clock: &N,
-    listening: &Listening<N::Listener>,
-    office: Office<K>,
-    output: &mut Pipe<W>,
-    errors: &mut Pipe<E>,
-    connections: &mut ConnectionCount,
-) -> (u8, Office<K>)
-    requires { AreFreshOutputs output.old errors.old }
-    ensures { ServesStore K.view E.contents W.contents listening.now.plans listening.now.port
-        listening.now.count office output.old output.new errors.old errors.new connections.new
-        result.0 result.1 }
-{
-    if listening.plans {
-        serve_in_mode::<N, K, WithPlans, W, E>(
-            alloc,
-            clock,
-            listening,
-            office,
-            WithPlans,
-            output,
-            errors,
-            connections,
-        )
-    } else {
-        serve_in_mode::<N, K, NoPlans, W, E>(
-            alloc,
-            clock,
-            listening,
-            office,
-            NoPlans,
-            output,
-            errors,
-            connections,
-        )
+        (report_fault(&mut streams.errors, PipeFault::Write), office)
     }
 }

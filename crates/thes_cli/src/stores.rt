@@ -1,67 +1,18 @@
 //! Work over the stores of the program: in a database, and in memory.
 ghost use Rattle.thes_jobs.specs.Databases.{IsReadyConnection};
-ghost use Rattle.thes_cli.specs.Stores.{ClosesLeft, WorksInDatabase, WorksInMemory, WorksToClosing, open_leaving};
+ghost use Rattle.thes_cli.specs.Stores.{ClosesLeft, WorksInMemory, WorksToClosing, open_leaving};
 ghost use Rattle.thes_cli.specs.Streams.{AreFresh};
 
 use crate::closing::Closed;
-use crate::streams::Streams;
+use crate::streams::{Devices, Given};
 use crate::work::work_over_keeper;
-use sqlite::{Alter, Connection};
-use std::alloc::Global;
-use std::io::{Read, Write};
+use sqlite::Connection;
 use std::net::Net;
-use std::rt::Clock;
 use thes_command_line::arguments::StoreSetting;
 use thes_jobs::databases::Databases;
 use thes_jobs::work::{DatabaseWork, MemoryWork};
-use thes_sqlite::progress::Progress;
-use thes_sqlite::reopening::{HeldTables, Leaving, Reopen, ReopeningKeeper};
+use thes_sqlite::reopening::{Leaving, ReopeningKeeper};
 use thes_store::mem::MemKeeper;
-
-/// Opens an office over the store in a database, and works over it. Returns the exit status with
-/// what the storage leaves: the last connection, whether a failure has shut the first, and whether
-/// a request is in doubt. The fault of a store that can't be opened is printed after the name of
-/// its file.
-pub fn work_in_database<
-    N: Net + Clock,
-    S: Alter + Drop,
-    O: Reopen<Connection<S>> + HeldTables + Drop,
-    P: Progress,
-    F: Read + Drop,
-    R: Read,
-    W: Write,
-    E: Write,
->(
-    alloc: Global,
-    clock: &N,
-    job: DatabaseWork<S, O, P, F, N::Listener>,
-    streams: &mut Streams<R, W, E>,
-) -> (u8, Leaving<S>)
-    requires ready { IsReadyConnection S.Store O.image job.setting.base job.conn }
-    requires streams { AreFresh streams.old }
-    ensures { WorksInDatabase F.remaining R.remaining W.contents E.contents S.Store O.image job
-        streams.old result.0 result.1 streams.new }
-{
-    let DatabaseWork {
-        work,
-        file,
-        setting,
-        conn,
-        opener,
-        progress,
-    } = job;
-    let keeper = ReopeningKeeper::new(alloc, conn, opener, progress);
-    let (status, keeper) = work_over_keeper::<N, ReopeningKeeper<S, O, P>, F, R, W, E>(
-        alloc,
-        clock,
-        work,
-        keeper,
-        setting.limits,
-        Some(file),
-        streams,
-    );
-    (status, keeper.leave())
-}
 
 // Closes the database that work over a store leaves, if there is one.
 fn close_left<D: Databases>(databases: &D, left: Leaving<D::Engine>) -> Closed<D::Left>
@@ -95,45 +46,48 @@ pub fn close_open<D: Databases>(
     close_left(databases, left)
 }
 
-/// Works over the store in a database, closes the database, and returns the exit status with what
-/// is left of its files. If the disk has returned what was written, and no failure has shut the
-/// database, the files hold the store after the work.
-pub fn work_and_close<
-    N: Net + Clock,
-    D: Databases,
-    P: Progress,
-    F: Read + Drop,
-    R: Read,
-    W: Write,
-    E: Write,
->(
-    alloc: Global,
-    clock: &N,
+/// Works over the store in a database, and closes it. Returns the exit status with what is left of
+/// its files. If the disk has returned what was written, and no failure has shut the database, the
+/// files hold the store after the work. The fault of a store that can't be opened is printed after
+/// the name of its file.
+pub fn work_in_database<T: Devices, D: Databases>(
+    given: &mut Given<'_, T>,
     databases: &D,
-    job: DatabaseWork<D::Engine, D::Opener, P, F, N::Listener>,
-    streams: &mut Streams<R, W, E>,
+    job: DatabaseWork<
+        D::Engine,
+        D::Opener,
+        T::Listener,
+        T::PostingFile,
+        <T::System as Net>::Listener,
+    >,
 ) -> (u8, Closed<D::Left>)
     requires ready { IsReadyConnection D.Engine.Store D.Opener.image job.setting.base job.conn }
-    requires streams { AreFresh streams.old }
-    ensures { WorksToClosing F.remaining R.remaining W.contents E.contents D.Engine.Store
-        D.Opener.image D.is_clean D.holds job streams.old result.0 result.1 streams.new }
+    requires streams { AreFresh given.old.streams }
+    ensures { WorksToClosing T.PostingFile.remaining T.Input.remaining T.Output.contents
+        T.Errors.contents D.Engine.Store D.Opener.image D.is_clean D.holds job given.old.streams
+        result.0 result.1 given.new.streams }
 {
-    let (status, left) = work_in_database::<N, D::Engine, D::Opener, P, F, R, W, E>(
-        alloc, clock, job, streams,
-    );
-    (status, close_left(databases, left))
+    let DatabaseWork {
+        work,
+        file,
+        setting,
+        conn,
+        opener,
+        progress,
+    } = job;
+    let keeper = ReopeningKeeper::new(given.alloc, conn, opener, progress);
+    let (status, keeper) = work_over_keeper(given, work, keeper, setting.limits, Some(file));
+    (status, close_left(databases, keeper.leave()))
 }
 
 /// Works over a new store in memory with this base and these limits, and returns the exit status.
-pub fn work_in_memory<N: Net + Clock, P: Progress, F: Read + Drop, R: Read, W: Write, E: Write>(
-    alloc: Global,
-    clock: &N,
-    job: MemoryWork<P, F, N::Listener>,
-    streams: &mut Streams<R, W, E>,
+pub fn work_in_memory<T: Devices>(
+    given: &mut Given<'_, T>,
+    job: MemoryWork<T::Listener, T::PostingFile, <T::System as Net>::Listener>,
 ) -> u8
-    requires { AreFresh streams.old }
-    ensures { WorksInMemory F.remaining R.remaining W.contents E.contents job streams.old result
-        streams.new }
+    requires { AreFresh given.old.streams }
+    ensures { WorksInMemory T.PostingFile.remaining T.Input.remaining T.Output.contents
+        T.Errors.contents job given.old.streams result given.new.streams }
 {
     // A new store has nothing to load and no concept to import to, so no progress is reported.
     let MemoryWork {
@@ -144,10 +98,8 @@ pub fn work_in_memory<N: Net + Clock, P: Progress, F: Read + Drop, R: Read, W: W
     let StoreSetting { base, limits } = setting;
     // No effect; states for the proof that the base has its form.
     let _ = base.as_str();
-    let keeper = MemKeeper::new(alloc, base);
-    let (status, keeper) = work_over_keeper::<N, MemKeeper, F, R, W, E>(
-        alloc, clock, work, keeper, limits, None, streams,
-    );
+    let keeper = MemKeeper::new(given.alloc, base);
+    let (status, keeper) = work_over_keeper(given, work, keeper, limits, None);
     drop(keeper);
     status
 }

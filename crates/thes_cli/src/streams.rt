@@ -1,6 +1,71 @@
-//! The standard streams of the program, and the number of its connections.
+//! The standard streams of the program, and what each of its tasks is given.
+use std::alloc::Global;
+use std::fs::File;
+use std::io::{Read, Write};
+use std::marker::PhantomData;
+use std::net::Net;
+use std::rt::Clock;
 use thes_base::pipe::Pipe;
 use thes_http::connection_count::ConnectionCount;
+use thes_jobs::screen::Screen;
+use thes_sqlite::progress::Progress;
+
+/// The types of what the program reads, writes and calls: one parameter of each task in place of
+/// six.
+pub trait Devices {
+    /// Standard input.
+    type Input: Read;
+
+    /// Standard output.
+    type Output: Write;
+
+    /// Standard error.
+    type Errors: Write;
+
+    /// A posting file.
+    type PostingFile: Read + Drop;
+
+    /// The sockets and the clock of the system.
+    type System: Net + Clock;
+
+    /// A listener for progress.
+    type Listener: Progress;
+}
+
+/// The types of the standard streams of a process, the devices that `run_in_files` leaves open.
+/// (Generic over `Devices`, with bounds that fix the others, it isn't proved within antt's steps.)
+pub trait Console {
+    /// Standard input.
+    type Input: Read;
+
+    /// Standard output.
+    type Output: Write;
+
+    /// Standard error.
+    type Errors: Write;
+}
+
+/// The devices of a process with these standard streams: its files, its sockets and its clock, and
+/// a listener that prints.
+#[derive(Drop)]
+pub struct SystemDevices<'r, C> {
+    rt: PhantomData<&'r HostRuntime>,
+    console: PhantomData<C>,
+}
+
+impl<'r, C: Console> Devices for SystemDevices<'r, C> {
+    type Input = C::Input;
+
+    type Output = C::Output;
+
+    type Errors = C::Errors;
+
+    type PostingFile = File;
+
+    type System = HostRuntime;
+
+    type Listener = Option<Screen<'r, HostRuntime>>;
+}
 
 /// The standard input, output and error of the program, and the number of connections that it
 /// served.
@@ -10,4 +75,12 @@ pub struct Streams<R, W, E> {
     pub output: Pipe<W>,
     pub errors: Pipe<E>,
     pub connections: ConnectionCount,
+}
+
+/// What each task is given: an allocator, the sockets and the clock of the system, and the
+/// streams.
+pub struct Given<'a, T: Devices> {
+    pub alloc: Global,
+    pub system: &'a T::System,
+    pub streams: Streams<T::Input, T::Output, T::Errors>,
 }

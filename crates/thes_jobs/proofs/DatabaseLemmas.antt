@@ -14,7 +14,7 @@ use Rattle.thes_tables.specs.Tables.{Tables}
 use Rattle.thes_sql.specs.Additions.{schema_with}
 use Rattle.thes_sql.specs.Schema.{empty_schema}
 use Rattle.thes_sql.specs.StoredRows.{KeepsIn}
-use Rattle.thes_sqlite.specs.DatabaseFiles.{ClosesFiles, HoldsStore, OpensFiles}
+use Rattle.thes_sqlite.specs.DatabaseFiles.{ClosesFiles, OpensFiles}
 use Rattle.thes_sqlite.specs.KeeperView.{IsUp, ServesTables}
 use Rattle.thes_jobs.specs.Databases.{ClosesStore, HoldTables, KeepsTables, OpensFrom}
 

@@ -1,5 +1,5 @@
 -- Proves that the inner sink receives all rows that a counting sink receives.
-use Rattle.std.proofs.Common.{◌≡◌, ◌∙◌, List, [], ◌∷◌, Ok, Err, refl, sym, ap, subst, inl, inr}
+use Rattle.std.proofs.Common.{◌≡◌, ◌∙◌, List, [], ◌∷◌, Ok, Err, sym, ap, subst, inl, inr}
 use Rattle.std.specs.Prelude.{OnOk, Option, Result}
 use Rattle.thes_base.specs.declared.fault.Fault.{Fault}
 use Rattle.thes_base.specs.declared.fault.Table.{Table}

@@ -10,7 +10,8 @@ returns g c =
     state_written g.K.Keeper.view (WritesExportOf g.W.Write.contents) c.args.output.now c.export.new.writer
     c.args.office.now c.ready.follows.lender-at-none c.ready.result c.in_ok-core.core c.export.result
     c.ready.follows.holds-at-none c.in_ok-core.was
-    (λ s holds. MatchResult-from_both c.export.result _ _ (c.export.ensures.text s holds) (c.export.ensures.fault s holds))
+    (λ s holds. MatchResult-from_both c.export.result _ _ (c.export.ensures.text s holds)
+    (c.export.ensures.fault s holds))
     c.export.ensures.calls
 
 pub returns-in_err-core : goal.returns-in_err-core

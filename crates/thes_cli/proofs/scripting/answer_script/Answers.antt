@@ -1,4 +1,4 @@
-use Rattle.thes_cli.proofs.scripting.answer_in_mode.Goals as goal
+use Rattle.thes_cli.proofs.scripting.answer_script.Goals as goal
 
 -- The result and the end of the script are those of the office's script.
 pub returns : goal.returns

@@ -4,15 +4,15 @@ use Rattle.thes_base.specs.Pipe.{written_bytes}
 use Rattle.thes_cli.specs.Serving.{ServesAll}
 use Rattle.thes_command_line.specs.Printing.{PrintsPrefix}
 use Rattle.thes_cli.proofs.ServedLemmas.{done_or_not}
-use Rattle.thes_cli.proofs.serving.serve_in_mode.Goals as goal
+use Rattle.thes_cli.proofs.serving.serve_store.Goals as goal
 
 -- The connections served, and the fault of one that couldn't be accepted, are those of the office's server; the office
 -- is that of the arguments, before and after the connections.
-pub returns-then-print : goal.returns-then-print
-returns-then-print g c =
+pub returns-then-print-clause-serves : goal.returns-then-print-clause-serves
+returns-then-print-clause-serves g c =
     let prints = rw c.if-print.true at c.print.ensures in
-    let served : ServesAll g.K.Keeper.view g.E.Write.contents g.M.PlanMode.takes c.args.listening.now.count
-    c.new-handler.result c.args.errors.now c.report_served-status.new.errors
+    let served : ServesAll g.K.Keeper.view g.T.Errors.Write.contents g.M.PlanMode.takes c.args.listening.now.count
+    c.new-handler.result c.args.given.now.streams.errors c.report_served-status.new.errors
     c.report_served-status.new.connections c.report_served-status.result c.office_serve-ended.new.handler = record {
       served = c.office_serve-ended.ensures.served;
       reached = c.office_serve-ended.ensures.reached;
@@ -20,19 +20,19 @@ returns-then-print g c =
           c.report_served-status.ensures.ok c.report_served-status.ensures.err;
     } in
     inl (
-      subst (λ (text : List ℕ). Appends (written_bytes g.W.Write.contents c.args.output.now)
-          (written_bytes g.W.Write.contents c.print.new.writer) text)
-          (c.as_bytes.ensures.text ∙ c.listening_line.ensures) prints.0,
+      subst (λ (text : List ℕ). Appends (written_bytes g.T.Output.Write.contents c.args.given.now.streams.output)
+          (written_bytes g.T.Output.Write.contents c.print.new.writer) text)
+          (c.as_bytes.ensures.text ∙ c.listening_line-line.ensures) prints.0,
       rw (c.into_office.ensures, ← c.new-handler.ensures) served,
     )
 
 -- If the address can't be printed, no connection is served.
-pub returns-else-print : goal.returns-else-print
-returns-else-print g c =
+pub returns-else-print-clause-serves : goal.returns-else-print-clause-serves
+returns-else-print-clause-serves g c =
     let prints = rw c.if-print.false at c.print.ensures in
     inr (
-      subst (λ (text : List ℕ). PrintsPrefix g.W.Write.contents c.args.output.now c.print.new.writer text)
-          (c.as_bytes.ensures.text ∙ c.listening_line.ensures) prints,
+      subst (λ (text : List ℕ). PrintsPrefix g.T.Output.Write.contents c.args.given.now.streams.output
+          c.print.new.writer text) (c.as_bytes.ensures.text ∙ c.listening_line-line.ensures) prints,
       c.report_fault.ensures.line,
       refl,
       c.report_fault.ensures.status,
