@@ -16,7 +16,7 @@ use Rattle.serde_json.specs.Read.{number_of}
 digit_is : (x : ℕ) → x < 256 → (x + 208) % 256 ≤ 9 → (x + 208) % 256 ≡ digit_value x
 digit_is x byte small = omega (arith, (is_digit x (omega arith) (omega arith)).1)
 
--- One more digit goes on with the number so far, which fits 64 bits.
+-- One more digit after the number so far gives a number that fits 64 bits.
 pub one_more : (bs : List ℕ) (i number digit : ℕ) → i < length bs → length bs ≤ 19
     → AllDigits 10 (take i bs) × (number ≡ digits_value 10 (take i bs)) → get_or bs i 0 < 256
     → digit ≡ (get_or bs i 0 + 208) % 256 → digit ≤ 9
