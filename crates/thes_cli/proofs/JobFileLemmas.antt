@@ -17,6 +17,7 @@ use Rattle.thes_sql.specs.StoredRows.{KeepsIn}
 use Rattle.thes_sqlite.specs.DatabaseFiles.{IsInitialStore, HoldsStore}
 use Rattle.thes_sqlite.specs.KeeperView.{IsUp, ServesTables}
 use Rattle.thes_sqlite.specs.MigrationEffects.{IsUnwritten, Migrates}
+use Rattle.thes_sqlite.specs.declared.cause.Cause.{Cause}
 use Rattle.thes_command_line.specs.Printing.{file_fault_lines, open_failure_line}
 use Rattle.thes_command_line.specs.declared.arguments.EarlyExit.{EarlyExit}
 use Rattle.thes_command_line.specs.declared.arguments.Job.{Job}
@@ -53,7 +54,8 @@ of_closed {A} {C} (Some a) None Closes P Q so is closes = tt
 of_closed {A} {C} (Some a) (Some f) Closes P Q so is closes = so a f is closes
 
 module _ {S : Type 0} (g : Ghosts S) (image : Image) {E C : Type 0} (err : E → Option (List ℕ))
-    (is_clean : C → Type 0) (holds : C → Schema → Tables → Type 0) where
+    (is_clean : C → Type 0) (holds : C → Schema → Tables → Type 0) {U : Type 0}
+    (keeps : Cause → Option U → Type 0) where
   -- A job leaves nothing in files if it has none.
   pub leads_without_files : (planned : Result Job EarlyExit) (old new : Pipe E) (status : ℕ) (closed : Closed C)
       → LeavesNoFiles closed → LeadsIfClosed err image is_clean holds planned old new status closed
@@ -66,16 +68,17 @@ module _ {S : Type 0} (g : Ghosts S) (image : Image) {E C : Type 0} (err : E →
 
   -- The reason why work couldn't begin is printed.
   prints_fault : {R W : Type 0} (out : W → Option (List ℕ)) (old new : Streams R W E) (status : ℕ) (job : Job)
-      (failure : StartFailure) (conn : Option (Held S)) → IsOpenFailure g image job failure conn
+      (failure : StartFailure) (conn : Option (Held S)) (rest : Option U)
+      → IsOpenFailure g image keeps job failure conn rest
       → ReportsNoJob out err g old status new failure → PrintsStartFault err old.errors new.errors status
-  prints_fault out old new status job (failures.EarlyExit early_exit) conn failed reports = absurd failed
-  prints_fault out old new status job (failures.Unopened failure) conn failed reports = record {
+  prints_fault out old new status job (failures.EarlyExit early_exit) conn rest failed reports = absurd failed
+  prints_fault out old new status job (failures.Unopened failure) conn rest failed reports = record {
     text = open_failure_line failure;
     is_fault = inl (failure, refl);
     prints_it = reports.reports.0;
     status_is = reports.reports.2;
   }
-  prints_fault out old new status job (failures.InStore file trouble fault) conn failed reports = record {
+  prints_fault out old new status job (failures.InStore file trouble fault) conn rest failed reports = record {
     text = file_fault_lines (string_bytes file) trouble fault;
     is_fault = inr (string_bytes file, trouble, fault, refl);
     prints_it = reports.reports.0;
@@ -84,8 +87,8 @@ module _ {S : Type 0} (g : Ghosts S) (image : Image) {E C : Type 0} (err : E →
 
   -- Files of a job whose work couldn't begin hold the store that they held.
   pub leads_without_work : {R W : Type 0} (O : Type 0) (out : W → Option (List ℕ)) (planned : Result Job EarlyExit)
-      (old new : Streams R W E) (status : ℕ) (failed : FailedStart S) (closed : Closed C)
-      → OpensPlan g image {O = O} planned (Err failed) → ServesIfOpen g image failed.conn
+      (old new : Streams R W E) (status : ℕ) (failed : FailedStart S U) (closed : Closed C)
+      → OpensPlan g image keeps {O = O} planned (Err failed) → ServesIfOpen g image failed.conn
       → ReportsNoJob out err g old status new failed.failure
       → ClosesLeft g is_clean holds (open_leaving failed.conn) closed
       → LeadsIfClosed err image is_clean holds planned old.errors new.errors status closed
@@ -96,7 +99,8 @@ module _ {S : Type 0} (g : Ghosts S) (image : Image) {E C : Type 0} (err : E →
       (λ files. is_clean files → (schema : Schema) (t : Tables) → IsInitialStore image job.setting.base schema t
       → EndsInFiles err image job old.errors new.errors status (holds files) schema t)
       (λ conn files serves closes clean schema t begins.
-      without_work (prints_fault out old new status job failed.failure failed.conn opens reports) (λ held.
+      without_work
+      (prints_fault out old new status job failed.failure failed.conn failed.rest opens reports) (λ held.
       let closing = closes clean in
       let store = serves closing.was_up schema t held in closing.leaves store.0 schema t store.1)) serves closes.files
 
@@ -120,7 +124,7 @@ module _ {S : Type 0} (g : Ghosts S) (image : Image) {E C : Type 0} (err : E →
   -- Files whose store was migrated hold a store of version 2 as before.
   pub leads_by_migration : {R W : Type 0} (O : Type 0) (out : W → Option (List ℕ)) (planned : Result Job EarlyExit)
       (old new : Streams R W E) (status : ℕ) (file : String Global) (conn : Held S) (closed : Closed C)
-      → OpensPlan g image {O = O} planned (Ok (Migration file conn))
+      → OpensPlan g image keeps {O = O} planned (Ok (Migration file conn))
       → MigratesInFile out err g old status new is_clean holds file conn closed
       → LeadsIfClosed err image is_clean holds planned old.errors new.errors status closed
   leads_by_migration O out (Err early_exit) old new status file conn closed opens migrates = tt
@@ -140,7 +144,7 @@ module _ {S : Type 0} (g : Ghosts S) (image : Image) {E C : Type 0} (err : E →
   pub leads_by_work : {R W O : Type 0} (given : File → Option (List ℕ)) (remaining : R → Option (List ℕ))
       (out : W → Option (List ℕ)) (planned : Result Job EarlyExit) (old new : Streams R W E) (status : ℕ)
       (work : DatabaseWork S O _ File TcpListener) (closed : Closed C)
-      → OpensPlan g image {O = O} planned (Ok (InFile work))
+      → OpensPlan g image keeps {O = O} planned (Ok (InFile work))
       → WorksToClosing given remaining out err g image is_clean holds work old status closed new
       → LeadsIfClosed err image is_clean holds planned old.errors new.errors status closed
   leads_by_work given remaining out (Err early_exit) old new status work closed opens works = tt

@@ -11,6 +11,7 @@ use Rattle.thes_base.specs.declared.fault.Fault.{Fault}
 use Rattle.thes_base.specs.declared.pipe.Pipe.{Pipe}
 use Rattle.thes_tables.specs.Tables.{Tables}
 use Rattle.thes_sqlite.specs.DatabaseFiles.{HoldsStore}
+use Rattle.thes_sqlite.specs.declared.cause.Cause.{Cause}
 use Rattle.thes_command_line.specs.Printing.{Prints, PrintsText, file_fault_lines, open_failure_line}
 use Rattle.thes_command_line.specs.StartFailure.{ReportsStartFailure}
 use Rattle.thes_command_line.specs.declared.arguments.EarlyExit.{EarlyExit}
@@ -20,7 +21,7 @@ use Rattle.thes_command_line.specs.declared.printing.OpenFailure.{OpenFailure}
 use Rattle.thes_command_line.specs.declared.start_failure.StartFailure.{StartFailure}
 use Rattle.thes_command_line.specs.declared.trouble.StoreTrouble.{StoreTrouble}
 use Rattle.thes_jobs.specs.Migrating.{MigratesDatabase, version_line}
-use Rattle.thes_jobs.specs.Starting.{IsReadyJob, OpensPlan}
+use Rattle.thes_jobs.specs.Starting.{IsReadyJob, OpensPlan, unopened_of}
 use Rattle.thes_jobs.specs.declared.starting.FailedStart.{FailedStart}
 use Rattle.thes_jobs.specs.declared.starting.OpenJob.{OpenJob}
 use Rattle.thes_jobs.specs.declared.starting.OpenJob.TheVariants.{InFile, InMemory, Migration, Version}
@@ -80,12 +81,12 @@ module _ {R W E S : Type 0} (out : W → Option (List ℕ)) (err : E → Option 
     pub input : new.input ≡ old.input
     pub prints_it : PrintsText out err old.output new.output old.errors new.errors version_line status
 
-module _ {R W E S C : Type 0} (given : File → Option (List ℕ)) (remaining : R → Option (List ℕ))
+module _ {R W E S C U : Type 0} (given : File → Option (List ℕ)) (remaining : R → Option (List ℕ))
     (out : W → Option (List ℕ)) (err : E → Option (List ℕ)) (store : Ghosts S) (image : Image) (is_clean : C → Type 0)
-    (holds : C → Schema → Tables → Type 0) where
+    (holds : C → Schema → Tables → Type 0) (keeps : Cause → Option U → Type 0) where
   -- The work of the job that was opened was done and its store closed, or the reason why none was opened is reported,
   -- and the database was closed if that was opened.
-  abbrev pub DoesOpened : {O : Type 0} → Result (OpenJob S O) (FailedStart S) → Streams R W E → ℕ → Closed C
+  abbrev pub DoesOpened : {O : Type 0} → Result (OpenJob S O) (FailedStart S U) → Streams R W E → ℕ → Closed C
       → Streams R W E → Type 0
   DoesOpened (Ok (InFile work)) old status closed new =
       WorksToClosing given remaining out err store image is_clean holds work old status closed new
@@ -99,10 +100,12 @@ module _ {R W E S C : Type 0} (given : File → Option (List ℕ)) (remaining : 
       × ClosesLeft store is_clean holds (open_leaving failed.conn) closed
 
   -- The job of a command line was opened as the command line says, and done. The database of work over a store is the
-  -- one that was opened in files with these contents.
+  -- one that was opened in files with these contents. If these files were opened, and their database couldn't be, what
+  -- is left of them keeps what they held.
   pub record RunsPlan (O : Type 0) (planned : Result Job EarlyExit) (old : Streams R W E) (status : ℕ)
-      (closed : Closed C) (new : Streams R W E) : Type 0 where
-    pub open_job : Result (OpenJob S O) (FailedStart S)
-    pub opens_it : OpensPlan store image planned open_job
+      (closed : Closed C) (unopened : Option U) (new : Streams R W E) : Type 0 where
+    pub open_job : Result (OpenJob S O) (FailedStart S U)
+    pub opens_it : OpensPlan store image keeps planned open_job
     pub ready : IfOk open_job (IsReadyJob store image)
     pub does : DoesOpened open_job old status closed new
+    pub leaves : unopened ≡ unopened_of open_job

@@ -1,7 +1,7 @@
 //! The run of a job, from opening its store to closing it.
 ghost use Rattle.std.specs.Prelude.{◌≡◌, false};
 ghost use Rattle.sqlite_wal.specs.Files.{image_at};
-ghost use Rattle.thes_jobs.specs.Databases.{AreCleanFiles, HoldTables};
+ghost use Rattle.thes_jobs.specs.Databases.{AreCleanFiles, HoldTables, KeepsImage};
 ghost use Rattle.thes_jobs.specs.declared.store_files.StoreFiles.{StoreFiles};
 ghost use Rattle.thes_cli.specs.Running.{LeadsIfClosed, LeavesNoFiles, MigratesInFile, ReportsNoJob, RunsPlan};
 ghost use Rattle.thes_cli.specs.Stores.{ClosesLeft, open_leaving};
@@ -10,7 +10,7 @@ ghost use Rattle.thes_cli.specs.Streams.{AreFresh};
 use crate::closing::Closed;
 use crate::stores::{close_open, work_in_database, work_in_memory};
 use crate::streams::{Console, Devices, Given, SystemDevices};
-use sqlite::{Connection, FileFrom, FileStore, Start};
+use sqlite::{Connection, FileFrom, FileStore, Leftover, Start};
 use sqlite_disk::{Disk, Files};
 use sqlite_trees::store::Store;
 use std::fs::File;
@@ -41,22 +41,27 @@ fn migrate<T: Devices, D: Databases>(
 }
 
 // Reports why no job was opened, and closes the database of its store if that was opened. Returns
-// the exit status with what is left of the files.
+// the exit status with what is left of the files, after closing and after an opening that failed.
 fn report_no_job<T: Devices, D: Databases>(
     given: &mut Given<'_, T>,
     databases: &D,
-    failed: FailedStart<D::Engine>,
-) -> (u8, Closed<D::Left>)
+    failed: FailedStart<D::Engine, D::Unopened>,
+) -> (u8, Closed<D::Left>, Option<D::Unopened>)
     requires { AreFresh given.old.streams }
     ensures reports { ReportsNoJob T.Output.contents T.Errors.contents D.Engine.Store
         given.old.streams result.0 given.new.streams failed.failure }
     ensures closes { ClosesLeft D.Engine.Store D.is_clean D.holds (open_leaving failed.conn)
         result.1 }
+    ensures leaves { result.2 ≡ failed.rest }
 {
-    let FailedStart { failure, conn } = failed;
+    let FailedStart {
+        failure,
+        conn,
+        rest,
+    } = failed;
     let (output, errors) = (&mut given.streams.output, &mut given.streams.errors);
     let status = report_start_failure(output, errors, &failure);
-    (status, close_open(databases, conn))
+    (status, close_open(databases, conn), rest)
 }
 
 // Returns what a job without a store in files leaves.
@@ -71,27 +76,33 @@ fn without_files<L>() -> Closed<L>
 }
 
 // Opens the store of a job, does its work, and closes it. Returns the exit status with what is left
-// of the store's files, if they were opened.
+// of the store's files, if they were opened: after closing, or after an opening that failed.
 fn run_job<'r, C: Console, D: Databases>(
     given: &mut Given<'r, SystemDevices<'r, C>>,
     databases: &D,
     image: D::Image,
     planned: Result<Job, EarlyExit>,
-) -> (u8, Closed<D::Left>)
+) -> (u8, Closed<D::Left>, Option<D::Unopened>)
     requires { AreFresh given.old.streams }
     ensures runs { RunsPlan ⟦<File as Read>⟧.remaining C.Input.remaining C.Output.contents
-        C.Errors.contents D.Engine.Store D.Opener.image D.is_clean D.holds D.Opener planned
-        given.old.streams result.0 result.1 given.new.streams }
+        C.Errors.contents D.Engine.Store D.Opener.image D.is_clean D.holds D.keeps D.Opener planned
+        given.old.streams result.0 result.1 result.2 given.new.streams }
     ensures leads { LeadsIfClosed C.Errors.contents D.Opener.image D.is_clean D.holds planned
         given.old.streams.errors given.new.streams.errors result.0 result.1 }
 {
     match open_job(given.system, databases, image, planned) {
-        Ok(OpenJob::InFile(job)) => work_in_database(given, databases, job),
-        Ok(OpenJob::InMemory(job)) => (work_in_memory(given, job), without_files()),
-        Ok(OpenJob::Migration(file, conn)) => migrate(given, databases, file, conn),
+        Ok(OpenJob::InFile(job)) => {
+            let (status, closed) = work_in_database(given, databases, job);
+            (status, closed, None)
+        }
+        Ok(OpenJob::InMemory(job)) => (work_in_memory(given, job), without_files(), None),
+        Ok(OpenJob::Migration(file, conn)) => {
+            let (status, closed) = migrate(given, databases, file, conn);
+            (status, closed, None)
+        }
         Ok(OpenJob::Version) => {
             let (output, errors) = (&mut given.streams.output, &mut given.streams.errors);
-            (print_version(output, errors), without_files())
+            (print_version(output, errors), without_files(), None)
         }
         Err(failed) => report_no_job(given, databases, failed),
     }
@@ -101,17 +112,22 @@ fn run_job<'r, C: Console, D: Databases>(
 /// the exit status with what is left of the files, if they were opened. If the disk has returned
 /// what was written, and no failure has shut the database, the files hold the store that the
 /// requests make of the one that they held, or of an empty one if they were new, even after a
-/// crash.
+/// crash. Files whose database can't be opened hold what they held.
 pub fn run_in_files<'r, C: Console, S: Start + ReopenedImage>(
     given: &mut Given<'r, SystemDevices<'r, C>>,
     image: S,
     planned: Result<Job, EarlyExit>,
-) -> (u8, Closed<Option<Files<FileFrom<S>>>>)
+) -> (
+    u8,
+    Closed<Option<Files<FileFrom<S>>>>,
+    Option<Leftover<FileFrom<S>>>,
+)
     requires { AreFresh given.old.streams }
     ensures runs { RunsPlan ⟦<File as Read>⟧.remaining C.Input.remaining C.Output.contents
         C.Errors.contents ⟦<FileStore<FileFrom<S>> as Store>⟧ (image_at S.Start)
         (AreCleanFiles ⟦<FileFrom<S> as Disk>⟧) (HoldTables ⟦<FileFrom<S> as Disk>⟧)
-        (StoreFiles S) planned given.old.streams result.0 result.1 given.new.streams }
+        (KeepsImage ⟦<FileFrom<S> as Disk>⟧ (image_at S.Start)) (StoreFiles S) planned
+        given.old.streams result.0 result.1 result.2 given.new.streams }
     ensures leads { LeadsIfClosed C.Errors.contents (image_at S.Start)
         (AreCleanFiles ⟦<FileFrom<S> as Disk>⟧) (HoldTables ⟦<FileFrom<S> as Disk>⟧) planned
         given.old.streams.errors given.new.streams.errors result.0 result.1 }

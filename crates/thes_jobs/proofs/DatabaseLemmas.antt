@@ -1,11 +1,14 @@
 -- Proves that opening a database and closing it keep the store in its files.
-use Rattle.std.proofs.Common.{arith, ◌≡◌, ◌∙◌, length, sym, ap, subst}
-use Rattle.std.specs.Prelude.{Result, Ok, Err, Some, IfOk, false}
+use Rattle.std.proofs.Common.{arith, ◌≡◌, ◌⊎◌, inl, inr, ◌∙◌, refl, sym, ap, subst, ℕ, Bool, cond, List, [], ◌∷◌, length}
+use Rattle.std.specs.Prelude.{Result, Ok, Err, Option, None, Some, IfErr, IfOk, IfSome, false}
 use Rattle.sqlite.specs.Effect.{Database}
 use Rattle.sqlite.specs.Files.{file_state, over_files}
 use Rattle.sqlite.specs.Held.{Held}
 use Rattle.sqlite.specs.Schema.{Schema}
 use Rattle.sqlite.specs.State.{State, HasCleanDisk}
+use Rattle.sqlite.specs.declared.file.Leftover.{Leftover}
+use Rattle.sqlite_disk.specs.Events.{Event, replay, settled}
+use Rattle.sqlite_disk.specs.History.{MayLeave}
 use Rattle.sqlite_disk.specs.declared.Disk as disk
 use Rattle.sqlite_disk.specs.declared.Files.{Files}
 use Rattle.sqlite_store.specs.declared.store.FileStore.{FileStore}
@@ -14,24 +17,55 @@ use Rattle.thes_tables.specs.Tables.{Tables}
 use Rattle.thes_sql.specs.Additions.{schema_with}
 use Rattle.thes_sql.specs.Schema.{empty_schema}
 use Rattle.thes_sql.specs.StoredRows.{KeepsIn}
-use Rattle.thes_sqlite.specs.DatabaseFiles.{ClosesFiles, OpensFiles}
+use Rattle.thes_sqlite.specs.Causes.{PrecedesOpening}
+use Rattle.thes_sqlite.specs.DatabaseFiles.{ClosesFiles, FailsToOpen, OpensFiles}
 use Rattle.thes_sqlite.specs.KeeperView.{IsUp, ServesTables}
-use Rattle.thes_jobs.specs.Databases.{ClosesStore, HoldTables, KeepsTables, OpensFrom}
+use Rattle.thes_sqlite.specs.declared.cause.Cause.{Cause}
+use Rattle.thes_jobs.specs.Databases.{ClosesStore, HoldImage, HoldTables, KeepsImage, KeepsTables, OpensFrom}
 
 -- A database that was opened is that of its files.
-pub opened_from : {D X E : Type 0} {g : disk.Ghosts D} (image : Image) (opened : Result (Held (FileStore D g)) X)
-    (result : Result (Held (FileStore D g)) E) → IfOk result (λ conn. opened ≡ Ok conn)
+pub opened_from : {D E : Type 0} {g : disk.Ghosts D} (image : Image) (opened : Result (Held (FileStore D g)) E)
     → IfOk opened (λ conn. HasCleanDisk (file_state conn) → OpensFiles image (file_state conn))
-    → IfOk opened (λ conn. conn.in_transaction ≡ false) → IfOk result (OpensFrom over_files image)
-opened_from image opened (Ok conn) is opens idle =
-    let opens_it = subst (λ r. IfOk r (λ c. HasCleanDisk (file_state c) → OpensFiles image (file_state c))) is opens in
-    record {
-      idle = subst (λ r. IfOk r (λ c. c.in_transaction ≡ false)) is idle;
-      is_settled = λ up. let here = opens_it up.0 in here.settled;
-      serves = λ up schema t store. let here = opens_it up.0 in (here.settled, here.serves schema t store);
-      empty = λ up new. let here = opens_it up.0 in here.empty new;
-    }
-opened_from image opened (Err e) is opens idle = tt
+    → IfOk opened (λ conn. conn.in_transaction ≡ false) → IfOk opened (OpensFrom over_files image)
+opened_from image (Ok conn) opens idle = record {
+  idle = idle;
+  is_settled = λ up. let here = opens up.0 in here.settled;
+  serves = λ up schema t store. let here = opens up.0 in (here.settled, here.serves schema t store);
+  empty = λ up new. let here = opens up.0 in here.empty new;
+}
+opened_from image (Err e) opens idle = tt
+
+-- Files with some contents, whose database can't be opened, keep these.
+pub keeps_image : {C D : Type 0} {g : disk.Ghosts D} (image : Image) (AreOpened : Files D → Type 0)
+    → ((files : Files D) → AreOpened files → HoldImage g image files)
+    → (opened : Result C (Cause × Option (Leftover D g)))
+    → IfErr opened (λ failed. IfSome failed.1 (FailsToOpen AreOpened failed.0))
+    → IfErr opened (λ failed. failed.1 ≡ None → PrecedesOpening failed.0)
+    → IfErr opened (λ failed. KeepsImage g image failed.0 failed.1)
+keeps_image image AreOpened hold (Ok conn) fails early = tt
+keeps_image image AreOpened hold (Err (cause, None)) fails early = early refl
+keeps_image image AreOpened hold (Err (cause, Some rest)) fails early = record {
+  files = fails.files;
+  are_opened = hold fails.files fails.are_opened;
+  error = fails.error;
+  cause_is = fails.cause_is;
+  reason = fails.reason;
+  keeps_files = fails.keeps_files;
+}
+
+-- A crash leaves a file, to which nothing has happened since it was opened, as it was then.
+pub left_as_opened : (log db : List ℕ) (mixes is_log which : Bool) (events : List Event) (key : ℕ) → is_log ≡ which
+    → events ≡ settled key ∷ [] → (after : List ℕ) → MayLeave mixes (replay (cond is_log log db) events).seen
+    (replay (cond is_log log db) events).synced (replay (cond is_log log db) events).steps after
+    → after ≡ cond which log db
+left_as_opened log db mixes is_log which events key is only after left =
+    let same : (after ≡ cond is_log log db) ⊎ (after ≡ cond is_log log db) =
+    subst (λ (e : List Event). MayLeave mixes (replay (cond is_log log db) e).seen
+    (replay (cond is_log log db) e).synced (replay (cond is_log log db) e).steps after) only left in
+    elim same [
+      | inl as_seen ↦ as_seen ∙ ap (λ (b : Bool). cond b log db) is
+      | inr as_synced ↦ as_synced ∙ ap (λ (b : Bool). cond b log db) is
+    ]
 
 -- Files that were closed hold the store of their database.
 pub closed_holds : {D : Type 0} {g : disk.Ghosts D} (conn : Held (FileStore D g)) (files : Files D)

@@ -4,6 +4,7 @@ use Rattle.sqlite.specs.Files.{file_state, image_of}
 use Rattle.sqlite.specs.Held.{Held, state}
 use Rattle.sqlite.specs.Schema.{Schema}
 use Rattle.sqlite.specs.State.{State}
+use Rattle.sqlite.specs.declared.file.Leftover.{Leftover}
 use Rattle.sqlite_disk.specs.declared.Disk as disk
 use Rattle.sqlite_disk.specs.declared.Files.{Files}
 use Rattle.sqlite_store.specs.declared.store.FileStore.{FileStore}
@@ -14,8 +15,10 @@ use Rattle.sqlite_wal.specs.Recovery.{Image}
 use Rattle.thes_tables.specs.Tables.{Tables}
 use Rattle.thes_sql.specs.Schema.{empty_schema}
 use Rattle.thes_sql.specs.StoredRows.{KeepsIn}
-use Rattle.thes_sqlite.specs.DatabaseFiles.{IsInitialStore, HoldsStore, IsNewFile}
+use Rattle.thes_sqlite.specs.Causes.{PrecedesOpening}
+use Rattle.thes_sqlite.specs.DatabaseFiles.{FailsToOpen, IsInitialStore, HoldsStore, IsNewFile}
 use Rattle.thes_sqlite.specs.KeeperView.{IsUp, ServesTables}
+use Rattle.thes_sqlite.specs.declared.cause.Cause.{Cause}
 
 -- A call leaves the tables of a store as they are: if the database was this store before, and nothing in it was
 -- uncommitted, it is so afterwards.
@@ -60,6 +63,17 @@ module _ {S : Type 0} (g : Ghosts S) (image : Image) where
   -- The database of a connection, if there is one, is the store that its files held, if they held one.
   abbrev pub ServesIfOpen : Option (Held S) → Type 0
   ServesIfOpen left = IfSome left (λ conn. ServesTables (HoldsStore image) (state g conn))
+
+-- The files hold these contents, and would after a crash.
+pub record HoldImage {D : Type 0} (g : disk.Ghosts D) (image : Image) (files : Files D) : Type 0 where
+  pub reads : image_of g files ≡ image
+  pub crash : (after : Image) → outcomes g files.log files.db after → after ≡ image
+
+-- Files whose database can't be opened keep these contents, unless the disk fails silently. `FailsToOpen` says how, and
+-- ties the cause to what is left of them. If nothing is, they weren't opened, and the cause isn't found in them.
+abbrev pub KeepsImage : {D : Type 0} → (g : disk.Ghosts D) → Image → Cause → Option (Leftover D g) → Type 0
+KeepsImage g image cause None = PrecedesOpening cause
+KeepsImage g image cause (Some rest) = FailsToOpen (HoldImage g image) cause rest
 
 -- The files were closed, and the disk has returned what was written.
 abbrev pub AreCleanFiles : {D : Type 0} → disk.Ghosts D → Option (Files D) → Type 0

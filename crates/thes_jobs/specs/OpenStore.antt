@@ -1,5 +1,5 @@
 -- The database of the store in a file, opened for a task, and the reasons why it isn't.
-use Rattle.std.specs.Prelude.{◌≡◌, ◌⊎◌, Bool, false, Some, Result, Ok, Err}
+use Rattle.std.specs.Prelude.{◌≡◌, ◌⊎◌, Bool, false, Option, None, Some, Result, Ok, Err}
 use Rattle.thes_base.specs.declared.fault.Fault.{Fault}
 use Rattle.thes_base.specs.declared.fault.Fault.TheVariants.{OutOfMemory, Store}
 use Rattle.thes_sqlite.specs.Causes.{fault_of_cause}
@@ -12,6 +12,7 @@ use Rattle.thes_command_line.specs.declared.trouble.StoreTrouble.{StoreTrouble}
 use Rattle.thes_command_line.specs.declared.trouble.StoreTrouble.TheVariants.{Unreadable, Unwritable}
 use Rattle.thes_jobs.specs.Trouble.{trouble_of}
 use Rattle.thes_jobs.specs.declared.starting.StoreDatabase.{StoreDatabase}
+use Rattle.thes_jobs.specs.declared.starting.UnopenedStore.{UnopenedStore}
 
 -- The way to open a file in this state for a task, whether or not it is marked as that of an unfinished store; or the
 -- trouble and the fault of the names next to it, or of that choice.
@@ -21,19 +22,24 @@ ChoosesOpening task found (Err reported) =
     ((names : Result Bool Fault) × (name_trouble names ≡ Some reported))
     ⊎ ((is_marked : Bool) × (opening_of task found is_marked ≡ Err reported.0) × (reported.1 ≡ Store))
 
--- A cause kept a database from being opened: its reason and its fault are reported.
-pub record IsUnopenedDatabase (reported : StoreTrouble × Fault) : Type 0 where
-  pub cause : Cause
-  pub trouble : reported.0 ≡ trouble_of cause Unwritable
-  pub fault : reported.1 ≡ fault_of_cause cause
+module _ {U : Type 0} (keeps : Cause → Option U → Type 0) where
+  -- A cause kept a database from being opened: its reason and its fault are reported, and what is left of the files, if
+  -- they were opened, keeps what they held.
+  pub record IsUnopenedDatabase (reported : StoreTrouble × Fault) (rest : Option U) : Type 0 where
+    pub cause : Cause
+    pub trouble : reported.0 ≡ trouble_of cause Unwritable
+    pub fault : reported.1 ≡ fault_of_cause cause
+    pub keeps_files : keeps cause rest
 
--- The trouble and the fault of a store whose database wasn't opened for a task: memory for the name of its mark ran
--- out, no way to open it was chosen, or the database couldn't be opened in the chosen way.
-pub data IsUnopenedStore (task : Task) (reported : StoreTrouble × Fault) : Type 0 where
-  no_memory : reported ≡ (Unreadable, OutOfMemory) → IsUnopenedStore task reported
-  unchosen : (found : FileState) → ChoosesOpening task found (Err reported) → IsUnopenedStore task reported
-  unopened : (found : FileState) → (opening : Opening) → ChoosesOpening task found (Ok opening)
-      → IsUnopenedDatabase reported → IsUnopenedStore task reported
+  -- The trouble and the fault of a store whose database wasn't opened for a task, and what is left of its files: memory
+  -- for the name of its mark ran out, no way to open it was chosen, or the database couldn't be opened in the chosen
+  -- way.
+  pub data IsUnopenedStore (task : Task) (reported : StoreTrouble × Fault) (rest : Option U) : Type 0 where
+    no_memory : reported ≡ (Unreadable, OutOfMemory) → rest ≡ None → IsUnopenedStore task reported rest
+    unchosen : (found : FileState) → ChoosesOpening task found (Err reported) → rest ≡ None
+        → IsUnopenedStore task reported rest
+    unopened : (found : FileState) → (opening : Opening) → ChoosesOpening task found (Ok opening)
+        → IsUnopenedDatabase reported rest → IsUnopenedStore task reported rest
 
 -- The database of a store was opened in the way for the task and for some state of its file, and is in no transaction.
 pub record IsOpenedFor {S : Type 0} (task : Task) (store : StoreDatabase S) : Type 0 where
@@ -42,6 +48,7 @@ pub record IsOpenedFor {S : Type 0} (task : Task) (store : StoreDatabase S) : Ty
   pub idle : store.conn.in_transaction ≡ false
 
 -- The database of a store was opened for a task, or the trouble and the fault say why not.
-abbrev pub OpensStore : {S : Type 0} → Task → Result (StoreDatabase S) (StoreTrouble × Fault) → Type 0
-OpensStore task (Ok store) = IsOpenedFor task store
-OpensStore task (Err reported) = IsUnopenedStore task reported
+abbrev pub OpensStore : {S U : Type 0} → (Cause → Option U → Type 0) → Task → Result (StoreDatabase S) (UnopenedStore U)
+    → Type 0
+OpensStore keeps task (Ok store) = IsOpenedFor task store
+OpensStore keeps task (Err failed) = IsUnopenedStore keeps task failed.report failed.rest

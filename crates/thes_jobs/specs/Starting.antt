@@ -18,6 +18,7 @@ use Rattle.thes_command_line.specs.declared.start_failure.StartFailure.{StartFai
 use Rattle.thes_command_line.specs.declared.start_failure.StartFailure.TheVariants as failures
 use Rattle.thes_command_line.specs.declared.trouble.StoreTrouble.{StoreTrouble}
 use Rattle.thes_command_line.specs.declared.trouble.StoreTrouble.TheVariants.{Unreadable}
+use Rattle.thes_sqlite.specs.declared.cause.Cause.{Cause}
 use Rattle.thes_jobs.specs.Databases.{IsReadyConnection, OpensFrom}
 use Rattle.thes_jobs.specs.NewStore.{PreparesStore}
 use Rattle.thes_jobs.specs.OpenStore.{IsOpenedFor, IsUnopenedStore}
@@ -83,18 +84,6 @@ module _ {S : Type 0} (store : Ghosts S) (image : Image) where
       (job.task ≡ Migrate) × (job.file ≡ Some file) × IsPreparedFor job.task job.setting.base conn
   IsOpenJob job Version = (job.task ≡ Migrate) × (job.file ≡ None)
 
-  -- The trouble and the fault of a store that couldn't be opened, or not prepared, for a task, or whose file's full
-  -- path wasn't found; and the connection to its database, if that was opened.
-  pub data IsUnpreparedStore (task : Task) (base : List ℕ) (reported : StoreTrouble × Fault) (left : Option (Held S))
-      : Type 0 where
-    unopened : IsUnopenedStore task reported → left ≡ None → IsUnpreparedStore task base reported left
-    unprepared : (database : StoreDatabase S) → IsOpenedFor task database → OpensFrom store image database.conn
-        → (back : Held S) → left ≡ Some back
-        → PreparesStore store database.opening (only_reads task) base database.conn (Err reported) back
-        → IsUnpreparedStore task base reported left
-    lost : reported.0 ≡ Unreadable → (conn : Held S) → left ≡ Some conn → IsPreparedFor task base conn
-        → IsUnpreparedStore task base reported left
-
   -- The connection is that of a database that was opened for the task, and in which nothing was done; there is none if
   -- the store isn't in a file.
   abbrev pub LeavesUnused : Option (String Global) → Task → Option (Held S) → Type 0
@@ -102,22 +91,42 @@ module _ {S : Type 0} (store : Ghosts S) (image : Image) where
   LeavesUnused (Some file) task left = (database : StoreDatabase S) × IsOpenedFor task database
       × OpensFrom store image database.conn × (left ≡ Some database.conn)
 
-  -- The reason why a job couldn't be opened: its posting file or socket, or its store; and the connection to its
-  -- database.
-  abbrev pub IsOpenFailure : Job → StartFailure → Option (Held S) → Type 0
-  IsOpenFailure job (failures.EarlyExit early_exit) left = ⊥
-  IsOpenFailure job (failures.Unopened failure) left =
-      ((prints_it : Bool) × OpensPlanned {F = File} {L = TcpListener} (planned_work job.task) prints_it (Err failure))
-      × LeavesUnused job.file job.task left
-  IsOpenFailure job (failures.InStore file trouble fault) left =
-      (job.file ≡ Some file) × IsUnpreparedStore job.task job.setting.base (trouble, fault) left
+  module _ {U : Type 0} (keeps : Cause → Option U → Type 0) where
+    -- The trouble and the fault of a store that couldn't be opened, or not prepared, for a task, or whose file's full
+    -- path wasn't found; and the connection to its database, if that was opened, or what is left of its files.
+    pub data IsUnpreparedStore (task : Task) (base : List ℕ) (reported : StoreTrouble × Fault) (left : Option (Held S))
+        (rest : Option U) : Type 0 where
+      unopened : IsUnopenedStore keeps task reported rest → left ≡ None
+          → IsUnpreparedStore task base reported left rest
+      unprepared : (database : StoreDatabase S) → IsOpenedFor task database → OpensFrom store image database.conn
+          → (back : Held S) → left ≡ Some back → rest ≡ None
+          → PreparesStore store database.opening (only_reads task) base database.conn (Err reported) back
+          → IsUnpreparedStore task base reported left rest
+      lost : reported.0 ≡ Unreadable → (conn : Held S) → left ≡ Some conn → rest ≡ None → IsPreparedFor task base conn
+          → IsUnpreparedStore task base reported left rest
 
-  -- The job is opened, or the reason says why not.
-  abbrev pub OpensJob : {O : Type 0} → Job → Result (OpenJob S O) (FailedStart S) → Type 0
-  OpensJob job (Ok it) = IsOpenJob job it
-  OpensJob job (Err failed) = IsOpenFailure job failed.failure failed.conn
+    -- The reason why a job couldn't be opened: its posting file or socket, or its store; and the connection to its
+    -- database, or what is left of its files.
+    abbrev pub IsOpenFailure : Job → StartFailure → Option (Held S) → Option U → Type 0
+    IsOpenFailure job (failures.EarlyExit early_exit) left rest = ⊥
+    IsOpenFailure job (failures.Unopened failure) left rest =
+        ((prints_it : Bool) × OpensPlanned {F = File} {L = TcpListener} (planned_work job.task) prints_it (Err failure))
+        × LeavesUnused job.file job.task left × (rest ≡ None)
+    IsOpenFailure job (failures.InStore file trouble fault) left rest =
+        (job.file ≡ Some file) × IsUnpreparedStore job.task job.setting.base (trouble, fault) left rest
 
-  -- The job of a command line is opened, if it has one.
-  abbrev pub OpensPlan : {O : Type 0} → Result Job EarlyExit → Result (OpenJob S O) (FailedStart S) → Type 0
-  OpensPlan (Ok job) opened = OpensJob job opened
-  OpensPlan (Err early_exit) opened = opened ≡ Err (record { failure = failures.EarlyExit early_exit; conn = None })
+    -- The job is opened, or the reason says why not.
+    abbrev pub OpensJob : {O : Type 0} → Job → Result (OpenJob S O) (FailedStart S U) → Type 0
+    OpensJob job (Ok it) = IsOpenJob job it
+    OpensJob job (Err failed) = IsOpenFailure job failed.failure failed.conn failed.rest
+
+    -- The job of a command line is opened, if it has one.
+    abbrev pub OpensPlan : {O : Type 0} → Result Job EarlyExit → Result (OpenJob S O) (FailedStart S U) → Type 0
+    OpensPlan (Ok job) opened = OpensJob job opened
+    OpensPlan (Err early_exit) opened =
+        opened ≡ Err (record { failure = failures.EarlyExit early_exit; conn = None; rest = None })
+
+-- What is left of the files of a job's store, if they were opened and their database couldn't be.
+abbrev pub unopened_of : {S O U : Type 0} → Result (OpenJob S O) (FailedStart S U) → Option U
+unopened_of (Ok open_job) = None
+unopened_of (Err failed) = failed.rest

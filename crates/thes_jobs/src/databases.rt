@@ -1,11 +1,13 @@
 //! How the databases of stores are opened and closed.
-ghost use Rattle.std.specs.Prelude.{IfOk};
+ghost use Rattle.std.specs.Prelude.{IfErr, IfOk, Option};
 ghost use Rattle.sqlite.specs.Schema.{Schema};
+ghost use Rattle.sqlite_wal.specs.Files.{image_at};
 ghost use Rattle.thes_tables.specs.Tables.{Tables};
+ghost use Rattle.thes_sqlite.specs.declared.cause.Cause.{Cause};
 ghost use Rattle.thes_jobs.specs.Databases.{ClosesIfOpen, OpensFrom};
 
 use crate::store_files::{ReopenedImage, StoreFiles, close_database_files, open_database_files};
-use sqlite::{Alter, Connection, FileFrom, FileStore, Start};
+use sqlite::{Alter, Connection, FileFrom, FileStore, Leftover, Start};
 use sqlite_disk::{Disk, Files};
 use std::marker::PhantomData;
 use thes_base::fault::Fault;
@@ -27,6 +29,9 @@ pub trait Databases {
     /// What closing a database leaves.
     type Left: Drop;
 
+    /// What a failed opening leaves of the files that it has opened.
+    type Unopened: Drop;
+
     /// What files hold before they are opened, as a value for contracts: code can't read it.
     type Image: Drop;
 
@@ -37,10 +42,20 @@ pub trait Databases {
     // crash leaves of them.
     ghost holds: { Self.Left → Schema → Tables → Type 0 };
 
+    // The files of a database that couldn't be opened, for this cause, hold what they held. There
+    // is nothing of them if they weren't opened.
+    ghost keeps: { Cause → Option Self.Unopened → Type 0 };
+
     /// Opens the database in a file; if there is no such file, makes it. The image of what the
-    /// files held is consumed, so that only one opening is of them.
-    fn open(&self, image: Self::Image, file: &str) -> Result<Connection<Self::Engine>, Cause>
-        ensures { IfOk result (OpensFrom Self.Engine.Store Self.Opener.image) };
+    /// files held is consumed, so that only one opening is of them. Returns the cause of a failure
+    /// with what is left of the files, if they were opened.
+    fn open(
+        &self,
+        image: Self::Image,
+        file: &str,
+    ) -> Result<Connection<Self::Engine>, (Cause, Option<Self::Unopened>)>
+        ensures opens { IfOk result (OpensFrom Self.Engine.Store Self.Opener.image) }
+        ensures fails { IfErr result (λ failed. keeps failed.0 failed.1) };
 
     /// Returns what opens the database in a file again. It takes the database's connection, since
     /// nothing may be opened again before it is open.
@@ -78,15 +93,23 @@ impl<'r, S: Start + ReopenedImage> Databases for FileDatabases<'r, S> {
 
     type Left = Option<Files<FileFrom<S>>>;
 
+    type Unopened = Leftover<FileFrom<S>>;
+
     type Image = S;
 
-    ghost use Rattle.thes_jobs.specs.Databases.{AreCleanFiles, HoldTables};
+    ghost use Rattle.thes_jobs.specs.Databases.{AreCleanFiles, HoldTables, KeepsImage};
 
     ghost is_clean = { AreCleanFiles ⟦<FileFrom<S> as Disk>⟧ };
 
     ghost holds = { HoldTables ⟦<FileFrom<S> as Disk>⟧ };
 
-    fn open(&self, image: S, file: &str) -> Result<Connection<FileStore<FileFrom<S>>>, Cause> {
+    ghost keeps = { KeepsImage ⟦<FileFrom<S> as Disk>⟧ (image_at S.Start) };
+
+    fn open(
+        &self,
+        image: S,
+        file: &str,
+    ) -> Result<Connection<FileStore<FileFrom<S>>>, (Cause, Option<Leftover<FileFrom<S>>>)> {
         open_database_files(self.rt, image, file)
     }
 

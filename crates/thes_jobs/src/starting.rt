@@ -1,5 +1,5 @@
 //! Opens what the job of a command line names: its store, and its file or socket.
-ghost use Rattle.std.specs.Prelude.{◌≡◌, false, IfErr, IfOk, Some, is_some};
+ghost use Rattle.std.specs.Prelude.{◌≡◌, false, IfErr, IfOk, None, Some, is_some};
 ghost use Rattle.std.specs.Result.{result_map_both};
 ghost use Rattle.sqlite.specs.Held.{state};
 ghost use Rattle.thes_sql.specs.Schema.{empty_schema};
@@ -49,11 +49,20 @@ pub enum OpenJob<'r, S: Alter, O> {
     Version,
 }
 
-/// The reason why a job isn't opened, with the connection to the database of its store if that was
-/// opened.
-pub struct FailedStart<S: Alter> {
+/// The reason why a job isn't opened, and what is left of its store.
+pub struct FailedStart<S: Alter, U> {
     pub failure: StartFailure,
+    /// The connection to the database of the store, if that was opened.
     pub conn: Option<Connection<S>>,
+    /// What is left of the store's files, if they were opened and their database couldn't be.
+    pub rest: Option<U>,
+}
+
+// The fault of a store whose database isn't open, with its reason, and what is left of its files if
+// they were opened.
+struct UnopenedStore<U> {
+    report: (StoreTrouble, Fault),
+    rest: Option<U>,
 }
 
 // Prints the name of what keeps the schema of a database from being read, if it is found.
@@ -65,20 +74,20 @@ fn report_unread(rt: &HostRuntime, file: &str) {
 }
 
 // Opens the database in a file. If that leaves no database there, and no other program has the file
-// open, removes the mark of the unfinished store. An error is the fault with its reason.
+// open, removes the mark of the unfinished store.
 fn open_database<D: Databases>(
     rt: &HostRuntime,
     databases: &D,
     image: D::Image,
     mark: &MakingMark<'_>,
     file: &str,
-) -> Result<Connection<D::Engine>, (StoreTrouble, Fault)>
+) -> Result<Connection<D::Engine>, UnopenedStore<D::Unopened>>
     ensures opened { IfOk result (OpensFrom D.Engine.Store D.Opener.image) }
-    ensures err { IfErr result IsUnopenedDatabase }
+    ensures err { IfErr result (λ failed. IsUnopenedDatabase D.keeps failed.report failed.rest) }
 {
     match databases.open(image, file) {
         Ok(conn) => Ok(conn),
-        Err(cause) => {
+        Err((cause, rest)) => {
             if cause == Cause::UnknownSchema {
                 report_unread(rt, file);
             }
@@ -86,7 +95,10 @@ fn open_database<D: Databases>(
             if is_mark_void(trouble, file_state(&fs::metadata(rt, file))) {
                 mark.remove();
             }
-            Err((trouble, cause.fault()))
+            Err(UnopenedStore {
+                report: (trouble, cause.fault()),
+                rest,
+            })
         }
     }
 }
@@ -133,23 +145,36 @@ impl<S: Alter> StoreDatabase<'_, S> {
     }
 }
 
-// Opens the database of the store in a file for a task. An error is the fault with its reason.
+// Returns the fault of a store whose files weren't opened, with its reason.
+fn without_files<U>(trouble: StoreTrouble, fault: Fault) -> UnopenedStore<U>
+    ensures { result ≡ record { report = (trouble, fault); rest = None } }
+{
+    UnopenedStore {
+        report: (trouble, fault),
+        rest: None,
+    }
+}
+
+// Opens the database of the store in a file for a task.
 fn open_store<'r, D: Databases>(
     rt: &'r HostRuntime,
     databases: &D,
     image: D::Image,
     task: &Task,
     file: &str,
-) -> Result<StoreDatabase<'r, D::Engine>, (StoreTrouble, Fault)>
-    ensures opens { OpensStore task.now result }
+) -> Result<StoreDatabase<'r, D::Engine>, UnopenedStore<D::Unopened>>
+    ensures opens { OpensStore D.keeps task.now result }
     ensures opened { IfOk result (λ store. OpensFrom D.Engine.Store D.Opener.image store.conn) }
 {
     let mark = match MakingMark::new(rt, file) {
         Ok(mark) => mark,
-        Err(fault) => return Err((StoreTrouble::Unreadable, fault)),
+        Err(fault) => return Err(without_files(StoreTrouble::Unreadable, fault)),
     };
     let found = file_state(&fs::metadata(rt, file));
-    let opening = opening_for(rt, task, found, &mark, file)?;
+    let opening = match opening_for(rt, task, found, &mark, file) {
+        Ok(opening) => opening,
+        Err((trouble, fault)) => return Err(without_files(trouble, fault)),
+    };
     if opening == Opening::New {
         mark.make();
     }
@@ -284,12 +309,17 @@ struct FileJob {
 }
 
 // Returns the reason why a job isn't opened, with the connection to the database of its store.
-fn failed_over<S: Alter>(failure: StartFailure, store: StoreDatabase<'_, S>) -> FailedStart<S>
-    ensures { result ≡ record { failure = failure; conn = Some store.entry.conn } }
+fn failed_over<S: Alter, U>(failure: StartFailure, store: StoreDatabase<'_, S>) -> FailedStart<S, U>
+    ensures { result ≡ record {
+      failure = failure;
+      conn = Some store.entry.conn;
+      rest = None;
+    } }
 {
     FailedStart {
         failure,
         conn: Some(store.into_connection()),
+        rest: None,
     }
 }
 
@@ -300,10 +330,10 @@ fn open_over<'r, D: Databases>(
     databases: &D,
     mut store: StoreDatabase<'r, D::Engine>,
     job: FileJob,
-) -> Result<OpenJob<'r, D::Engine, D::Opener>, FailedStart<D::Engine>>
+) -> Result<OpenJob<'r, D::Engine, D::Opener>, FailedStart<D::Engine, D::Unopened>>
     requires opens { IsOpenedFor job.task store }
     requires opened { OpensFrom D.Engine.Store D.Opener.image store.conn }
-    ensures opens { OpensJob D.Engine.Store D.Opener.image
+    ensures opens { OpensJob D.Engine.Store D.Opener.image D.keeps
         (job_in_file job.task job.file job.setting) result }
     ensures ready { IfOk result (IsReadyJob D.Engine.Store D.Opener.image) }
     ensures serves { IfErr result (λ failed.
@@ -355,8 +385,8 @@ fn open_in_file<'r, D: Databases>(
     databases: &D,
     image: D::Image,
     job: FileJob,
-) -> Result<OpenJob<'r, D::Engine, D::Opener>, FailedStart<D::Engine>>
-    ensures opens { OpensJob D.Engine.Store D.Opener.image
+) -> Result<OpenJob<'r, D::Engine, D::Opener>, FailedStart<D::Engine, D::Unopened>>
+    ensures opens { OpensJob D.Engine.Store D.Opener.image D.keeps
         (job_in_file job.task job.file job.setting) result }
     ensures ready { IfOk result (IsReadyJob D.Engine.Store D.Opener.image) }
     ensures serves { IfErr result (λ failed.
@@ -364,15 +394,17 @@ fn open_in_file<'r, D: Databases>(
 {
     match open_store(rt, databases, image, &job.task, job.file.as_str()) {
         Ok(store) => open_over(rt, databases, store, job),
-        Err((trouble, fault)) => {
+        Err(UnopenedStore { report, rest }) => {
             let FileJob {
                 task: _,
                 file,
                 setting: _,
             } = job;
+            let (trouble, fault) = report;
             Err(FailedStart {
                 failure: StartFailure::InStore(file, trouble, fault),
                 conn: None,
+                rest,
             })
         }
     }
@@ -383,8 +415,9 @@ fn open_in_memory<D: Databases>(
     rt: &HostRuntime,
     task: Task,
     setting: StoreSetting,
-) -> Result<OpenJob<'_, D::Engine, D::Opener>, FailedStart<D::Engine>>
-    ensures opens { OpensJob D.Engine.Store D.Opener.image (job_in_memory task setting) result }
+) -> Result<OpenJob<'_, D::Engine, D::Opener>, FailedStart<D::Engine, D::Unopened>>
+    ensures opens { OpensJob D.Engine.Store D.Opener.image D.keeps
+        (job_in_memory task setting) result }
     ensures ready { IfOk result (IsReadyJob D.Engine.Store D.Opener.image) }
     ensures serves { IfErr result (λ failed.
         ServesIfOpen D.Engine.Store D.Opener.image failed.conn) }
@@ -400,20 +433,22 @@ fn open_in_memory<D: Databases>(
         Err(unopened) => Err(FailedStart {
             failure: StartFailure::Unopened(unopened),
             conn: None,
+            rest: None,
         }),
     }
 }
 
 /// Opens the store that a job names, and the file or socket of its task. If the files of a store
 /// held tables, its database serves them; in a new file it has those of an empty store. A failure
-/// comes with the connection to the store, if that was opened.
+/// comes with the connection to the store, if that was opened, or with what is left of its files,
+/// which hold what they held.
 pub fn open_job<'r, D: Databases>(
     rt: &'r HostRuntime,
     databases: &D,
     image: D::Image,
     planned: Result<Job, EarlyExit>,
-) -> Result<OpenJob<'r, D::Engine, D::Opener>, FailedStart<D::Engine>>
-    ensures opens { OpensPlan D.Engine.Store D.Opener.image planned result }
+) -> Result<OpenJob<'r, D::Engine, D::Opener>, FailedStart<D::Engine, D::Unopened>>
+    ensures opens { OpensPlan D.Engine.Store D.Opener.image D.keeps planned result }
     ensures ready { IfOk result (IsReadyJob D.Engine.Store D.Opener.image) }
     ensures serves { IfErr result (λ failed.
         ServesIfOpen D.Engine.Store D.Opener.image failed.conn) }
@@ -439,6 +474,7 @@ pub fn open_job<'r, D: Databases>(
         Err(early_exit) => Err(FailedStart {
             failure: StartFailure::EarlyExit(early_exit),
             conn: None,
+            rest: None,
         }),
     }
 }

@@ -1,10 +1,10 @@
 //! The files of a store, which are opened and closed, and can be opened again by their names.
-ghost use Rattle.std.specs.Prelude.{◌≡◌, Ok, IfOk};
+ghost use Rattle.std.specs.Prelude.{IfErr, IfOk};
 ghost use Rattle.sqlite.specs.Files.{over_files};
 ghost use Rattle.sqlite_wal.specs.Files.{image_at};
-ghost use Rattle.thes_jobs.specs.Databases.{ClosesFrom, OpensFrom};
+ghost use Rattle.thes_jobs.specs.Databases.{ClosesFrom, KeepsImage, OpensFrom};
 
-use sqlite::{Connection, FileFrom, FileStore, Start, Unknown};
+use sqlite::{Connection, FileFrom, FileStore, Leftover, Start, Unknown};
 use sqlite_disk::{Disk, Files};
 use std::fs;
 use std::io::ErrorKind;
@@ -14,17 +14,6 @@ use thes_base::fault::Fault;
 use thes_sqlite::cause::Cause;
 use thes_sqlite::files::{close_files, open_files};
 use thes_sqlite::reopening::{HeldTables, Reopen};
-
-// Returns the connection that was opened, or the cause of the failure without what is left of the
-// files.
-fn without_rest<T, L: Drop>(opened: Result<T, (Cause, L)>) -> Result<T, Cause>
-    ensures { IfOk result (λ conn. opened ≡ Ok conn) }
-{
-    match opened {
-        Ok(conn) => Ok(conn),
-        Err((cause, _)) => Err(cause),
-    }
-}
 
 /// A sign that files are opened again, which only this module makes.
 #[derive(Drop)]
@@ -45,15 +34,18 @@ impl ReopenedImage for Unknown {
 }
 
 /// Opens the database in the files at a path, which may hold anything; if there are none, makes
-/// them. An error leaves the files closed.
+/// them. Returns the cause of a failure with what is left of the files, if they were opened: they
+/// hold what they held.
 pub fn open_database_files<S: Start>(
     rt: &HostRuntime,
     image: S,
     file: &str,
-) -> Result<Connection<FileStore<FileFrom<S>>>, Cause>
-    ensures { IfOk result (OpensFrom over_files (image_at S.Start)) }
+) -> Result<Connection<FileStore<FileFrom<S>>>, (Cause, Option<Leftover<FileFrom<S>>>)>
+    ensures opens { IfOk result (OpensFrom over_files (image_at S.Start)) }
+    ensures fails { IfErr result (λ failed.
+        KeepsImage ⟦<FileFrom<S> as Disk>⟧ (image_at S.Start) failed.0 failed.1) }
 {
-    without_rest(open_files(rt, file, image))
+    open_files(rt, file, image)
 }
 
 /// Closes a database and returns its files; None after an error. The log holds every change that
@@ -150,6 +142,9 @@ impl<S: Start + ReopenedImage> Reopen<Connection<FileStore<FileFrom<S>>>> for St
             return Err(Cause::Missing);
         }
         let image = S::image_of_reopened(Reopening(()));
-        open_database_files(self.rt, image, self.file.as_str())
+        match open_database_files(self.rt, image, self.file.as_str()) {
+            Ok(conn) => Ok(conn),
+            Err((cause, _)) => Err(cause),
+        }
     }
 }

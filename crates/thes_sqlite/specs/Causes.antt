@@ -54,3 +54,9 @@ files_cause opening.OutOfMemory = causes.NoMemory
 files_cause opening.Busy = causes.Locked
 files_cause opening.HotJournal = causes.Journal
 files_cause (opening.Io error) = kind_cause (error_kind error)
+
+-- The cause of a failure before the files of a database are open: it isn't one that is found in them.
+abbrev pub PrecedesOpening : Cause → Type 0
+PrecedesOpening causes.UnknownSchema = ⊥
+PrecedesOpening causes.Damaged = ⊥
+PrecedesOpening _ = Unit {0}

@@ -1,10 +1,11 @@
 //! The two files of a database, from opening to closing.
-ghost use Rattle.std.specs.Prelude.{◌≡◌, true, false, IfErr, IfOk, IfSome, IsTrue};
+ghost use Rattle.std.specs.Prelude.{◌≡◌, true, false, None, IfErr, IfOk, IfSome, IsTrue};
 ghost use Rattle.sqlite.specs.Files.{file_state};
 ghost use Rattle.sqlite.specs.State.{HasCleanDisk};
 ghost use Rattle.sqlite_std_file.specs.File.{file_is_usable, IsFresh};
 ghost use Rattle.sqlite_wal.specs.Files.{image_at};
 ghost use Rattle.sqlite_wal.specs.Reads.{AreClean};
+ghost use Rattle.thes_sqlite.specs.Causes.{PrecedesOpening};
 ghost use Rattle.thes_sqlite.specs.DatabaseFiles.{ClosesFiles, FailsToOpen, OpensFiles};
 
 use crate::cause::{Cause, cause_of_files, cause_of_opening};
@@ -28,7 +29,9 @@ pub(crate) struct FoundFile {
 }
 
 // Reads the first bytes of a database's file, which has this size.
-fn read_head(rt: &HostRuntime, path: &str, size: u64) -> Result<FoundFile, Cause> {
+fn read_head(rt: &HostRuntime, path: &str, size: u64) -> Result<FoundFile, Cause>
+    ensures { IfErr result PrecedesOpening }
+{
     let mut head = [0; HEAD_SIZE];
     let Ok(mut file) = File::open(rt, path) else {
         return Err(Cause::Unreadable);
@@ -41,7 +44,9 @@ fn read_head(rt: &HostRuntime, path: &str, size: u64) -> Result<FoundFile, Cause
 
 /// Finds the size and the first bytes of a database's file before the database is opened. The name
 /// must be that of no file, or of a regular file without other names.
-pub(crate) fn find_file(rt: &HostRuntime, path: &str) -> Result<FoundFile, Cause> {
+pub(crate) fn find_file(rt: &HostRuntime, path: &str) -> Result<FoundFile, Cause>
+    ensures { IfErr result PrecedesOpening }
+{
     match fs::metadata(rt, path) {
         Ok(found) if !found.is_file() => Err(Cause::NotAFile),
         Ok(found) if found.nlink() > 1 => Err(Cause::Linked),
@@ -60,7 +65,9 @@ pub(crate) fn find_file(rt: &HostRuntime, path: &str) -> Result<FoundFile, Cause
 
 // Returns whether the database in a file has a log, which is next to the file to which symbolic
 // links lead.
-fn has_log(rt: &HostRuntime, path: &str) -> Result<bool, Cause> {
+fn has_log(rt: &HostRuntime, path: &str) -> Result<bool, Cause>
+    ensures { IfErr result PrecedesOpening }
+{
     let Ok(real) = fs::canonicalize(rt, path) else {
         return Ok(false);
     };
@@ -72,7 +79,9 @@ fn has_log(rt: &HostRuntime, path: &str) -> Result<bool, Cause> {
 
 // Checks that a file may be a database, so that no log is made next to any other file: by its first
 // bytes or, since it may have been cut short, by its log.
-fn check_head(rt: &HostRuntime, path: &str, head: &[u8]) -> Result<(), Cause> {
+fn check_head(rt: &HostRuntime, path: &str, head: &[u8]) -> Result<(), Cause>
+    ensures { IfErr result PrecedesOpening }
+{
     if begins_as_database(head) || has_log(rt, path)? {
         Ok(())
     } else {
@@ -82,7 +91,9 @@ fn check_head(rt: &HostRuntime, path: &str, head: &[u8]) -> Result<(), Cause> {
 
 /// Returns the options to open a database with: random salts, and a page cache for this file's
 /// size.
-pub(crate) fn options_for(rt: &HostRuntime, found: &FoundFile) -> Result<Options, Cause> {
+pub(crate) fn options_for(rt: &HostRuntime, found: &FoundFile) -> Result<Options, Cause>
+    ensures { IfErr result PrecedesOpening }
+{
     let Ok(state) = RandomState::new(rt) else {
         return Err(Cause::Other);
     };
@@ -93,7 +104,9 @@ pub(crate) fn options_for(rt: &HostRuntime, found: &FoundFile) -> Result<Options
 
 // Looks at the file of a database, and returns the options to open it with. Names that SQLite takes
 // for something other than a file are `Unwritable`.
-fn options_at(rt: &HostRuntime, path: &str) -> Result<Options, Cause> {
+fn options_at(rt: &HostRuntime, path: &str) -> Result<Options, Cause>
+    ensures { IfErr result PrecedesOpening }
+{
     if path == ":memory:" || path.starts_with("file:") {
         return Err(Cause::Unwritable);
     }
@@ -107,6 +120,7 @@ fn open_pair<S: Start>(rt: &HostRuntime, path: &str, start: S) -> Result<Files<F
     ensures log { IfOk result (λ files. IsTrue (file_is_usable S.Start files.log)) }
     ensures db { IfOk result (λ files. IsTrue (file_is_usable S.Start files.db)) }
     ensures fresh { IfOk result (λ files. IsFresh true files.log × IsFresh false files.db) }
+    ensures early { IfErr result PrecedesOpening }
 {
     match sqlite_std_file::open(rt, path, start) {
         Ok(files) => Ok(files),
@@ -116,7 +130,8 @@ fn open_pair<S: Start>(rt: &HostRuntime, path: &str, start: S) -> Result<Files<F
 
 /// Opens the database in the files at a path; if they hold a store, it is this store. `start`
 /// represents their contents, which may be anything. Returns the cause of a failure with what is
-/// left of the files, if they were opened: the database that they held.
+/// left of the files, if they were opened: the database that they held. If the cause is the schema
+/// or damage, they were.
 pub fn open_files<S: Start>(
     rt: &HostRuntime,
     path: &str,
@@ -127,6 +142,7 @@ pub fn open_files<S: Start>(
     ensures idle { IfOk result (λ conn. conn.in_transaction ≡ false) }
     ensures fails { IfErr result (λ failed. IfSome failed.1
         (FailsToOpen (λ files. IsFresh true files.log × IsFresh false files.db) failed.0)) }
+    ensures early { IfErr result (λ failed. failed.1 ≡ None → PrecedesOpening failed.0) }
 {
     let options = match options_at(rt, path) {
         Ok(options) => options,

@@ -1,9 +1,13 @@
 //! Finds the name of an object in a database's schema that the library sqlite can't read, for a
-//! message alone; no contract promises anything of the name.
+//! message alone; no contract promises anything of the name. It is looked up in copies of the files
+//! in memory, since what a failed opening left of them may still be open.
+ghost use Rattle.std.specs.Prelude.{IfSome, IsTrue};
+ghost use Rattle.sqlite_disk.specs.Memory.{memory_is_usable};
+
 use crate::files::{FoundFile, find_file, options_for};
 use crate::page_cache::stated_page_size;
-use sqlite::Unknown;
 use sqlite_catalog::load::{read, read_table, with_code};
+use sqlite_disk::{Disk, Files, Memory};
 use sqlite_pager::Pager;
 use sqlite_store::Unopened;
 use sqlite_trees::sound::bytes_of;
@@ -11,6 +15,7 @@ use sqlite_trees::store::Shape;
 use sqlite_value::row::Row;
 use sqlite_wal::PageSize;
 use std::alloc::{AllocError, Global};
+use std::fs;
 
 // The positions of columns in a row of the schema: an object's kind, its name, the name of its
 // table, and its SQL text.
@@ -100,15 +105,45 @@ fn first_unread(alloc: Global, rows: &[Row]) -> Result<Option<String>, AllocErro
     Ok(None)
 }
 
+// Returns a copy of a file in memory; None if it can't be read, or memory runs out.
+fn copy_of(rt: &HostRuntime, path: &str) -> Option<Memory>
+    ensures { IfSome result (λ copy. IsTrue (memory_is_usable copy)) }
+{
+    let Ok(bytes) = fs::read(rt, path) else {
+        return None;
+    };
+    let mut copy = Memory::new(rt.alloc());
+    match copy.write_at(0, bytes.as_slice()) {
+        Ok(()) => Some(copy),
+        Err(_) => None,
+    }
+}
+
+// Returns copies in memory of the two files of a database. Its log is next to the file to which
+// symbolic links lead.
+fn copy_files(rt: &HostRuntime, path: &str) -> Option<Files<Memory>>
+    ensures log { IfSome result (λ files. IsTrue (memory_is_usable files.log)) }
+    ensures db { IfSome result (λ files. IsTrue (memory_is_usable files.db)) }
+{
+    let Ok(real) = fs::canonicalize(rt, path) else {
+        return None;
+    };
+    let Ok(log) = format!(in rt.alloc(); "{}-wal", real.as_str()) else {
+        return None;
+    };
+    match (copy_of(rt, log.as_str()), copy_of(rt, real.as_str())) {
+        (Some(log), Some(db)) => Some(Files { log, db }),
+        _ => None,
+    }
+}
+
 // Reads the rows of the schema of the database in a file; None if they can't be read.
 fn read_catalog(rt: &HostRuntime, path: &str, found: &FoundFile) -> Option<Vec<Row>> {
     let size = PageSize::new(stated_page_size(&found.head) as usize)?;
     let Ok(options) = options_for(rt, found) else {
         return None;
     };
-    let Ok(files) = sqlite_std_file::open(rt, path, Unknown) else {
-        return None;
-    };
+    let files = copy_files(rt, path)?;
     let Ok(pager) = Pager::new(rt.alloc(), files, size, options) else {
         return None;
     };

@@ -15,4 +15,4 @@ returns-in-Ok-None-clause-opens g c =
     (migrates _ _ c.args.task (is_some c.screen_of-progress.result) (rw c.in-Ok-None.field-0-is at c.in-Ok-None.ensures), refl)
 
 pub returns-in-Err-clause-opens : goal.returns-in-Err-clause-opens
-returns-in-Err-clause-opens g c = ((is_some c.screen_of-progress.result, c.in-Err.ensures), refl)
+returns-in-Err-clause-opens g c = ((is_some c.screen_of-progress.result, c.in-Err.ensures), refl, refl)

@@ -12,6 +12,7 @@ pub returns-in-Err-clause-opens : goal.returns-in-Err-clause-opens
 returns-in-Err-clause-opens g c = rw c.failed_over.ensures (
   (is_some c.screen_of-progress.result, c.in-Err.ensures),
   (c.args.store, c.requires.opens, c.requires.opened, refl),
+  refl,
 )
 
 pub returns-in-Err-clause-serves : goal.returns-in-Err-clause-serves
@@ -21,7 +22,7 @@ returns-in-Err-clause-serves g c = rw c.failed_over.ensures c.requires.opened.se
 pub returns-in-Err-prepare_store-clause-opens : goal.returns-in-Err-prepare_store-clause-opens
 returns-in-Err-prepare_store-clause-opens g c = rw c.failed_over-in-Err-prepare_store.ensures (
   refl,
-  unprepared c.args.store c.requires.opens c.requires.opened c.prepare_store.new.store.conn refl
+  unprepared c.args.store c.requires.opens c.requires.opened c.prepare_store.new.store.conn refl refl
       (rw (← c.only_reads-reads_only.ensures) c.in-Err-prepare_store.ensures.prepares),
 )
 
@@ -34,7 +35,7 @@ returns-in-Err-prepare_store-clause-serves g c = rw c.failed_over-in-Err-prepare
 pub returns-in-Err-reopener-clause-opens : goal.returns-in-Err-reopener-clause-opens
 returns-in-Err-reopener-clause-opens g c = rw c.failed_over-in-Err-reopener.ensures (
   refl,
-  lost refl c.prepare_store.new.store.conn refl
+  lost refl c.prepare_store.new.store.conn refl refl
       (is_prepared g.D.Engine.Store g.D.Opener.HeldTables.image c.args.job.task
       c.args.job.setting.base c.args.store c.only_reads-reads_only.result c.prepare_store.new.store.conn
       c.only_reads-reads_only.ensures c.requires.opens c.requires.opened c.in-Ok-prepare_store.ensures.prepares

@@ -1,11 +1,10 @@
-use Rattle.std.proofs.Common.{◌≡◌, Err, rules}
+use Rattle.std.proofs.Common.{◌≡◌, Err, refl, rules}
 use Rattle.thes_jobs.specs.OpenStore.{unchosen, unopened}
 use Rattle.thes_jobs.proofs.starting.open_store.Goals as goal
 
-pub returns-in_err-opening-clause-opens : goal.returns-in_err-opening-clause-opens
-returns-in_err-opening-clause-opens g c =
-    let same : c.from_residual.result ≡ Err c.in_err-opening.field-0.0 = search rules in
-    rw same (unchosen c.file_state-found.result c.in_err-opening.ensures)
+pub returns-in-Err-opening_for-clause-opens : goal.returns-in-Err-opening_for-clause-opens
+returns-in-Err-opening_for-clause-opens g c = rw c.without_files.ensures (unchosen c.file_state-found.result
+    c.in-Err-opening_for.ensures refl)
 
 pub returns-in_err-conn-clause-opens : goal.returns-in_err-conn-clause-opens
 returns-in_err-conn-clause-opens g c =

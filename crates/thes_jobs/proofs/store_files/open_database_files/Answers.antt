@@ -1,8 +1,25 @@
+use Rattle.std.proofs.Common.{ℕ, Bool, cond, List, ap₂}
+use Rattle.sqlite_disk.specs.Events.{Event, replay}
 use Rattle.sqlite_wal.specs.Files.{image_at}
-use Rattle.thes_jobs.proofs.DatabaseLemmas.{opened_from}
+use Rattle.sqlite_wal.specs.Recovery.{Image}
+use Rattle.thes_jobs.proofs.DatabaseLemmas.{keeps_image, left_as_opened, opened_from}
 use Rattle.thes_jobs.proofs.store_files.open_database_files.Goals as goal
 
-pub returns : goal.returns
-returns g c =
-    opened_from (image_at g.S.Start) c.open_files.result c.without_rest.result c.without_rest.ensures
-    c.open_files.ensures.opens c.open_files.ensures.idle
+abbrev image : List ℕ → List ℕ → Image
+image log db = record { log = log; db = db }
+
+abbrev seen : List ℕ → List ℕ → Bool → List Event → List ℕ
+seen log db is_log history = (replay (cond is_log log db) history).seen
+
+pub returns-clause-opens : goal.returns-clause-opens
+returns-clause-opens g c =
+    opened_from (image_at g.S.Start) c.open_files.result c.open_files.ensures.opens c.open_files.ensures.idle
+
+pub returns-clause-fails : goal.returns-clause-fails
+returns-clause-fails g c = keeps_image (image_at g.S.Start) _ (λ files fresh. record {
+  reads = ap₂ image (ap₂ (seen g.S.Start.log g.S.Start.db) fresh.0.0 fresh.0.1)
+      (ap₂ (seen g.S.Start.log g.S.Start.db) fresh.1.0 fresh.1.1);
+  crash = λ after left. ap₂ image
+      (left_as_opened g.S.Start.log g.S.Start.db _ _ _ _ _ fresh.0.0 fresh.0.1 after.log left.0)
+      (left_as_opened g.S.Start.log g.S.Start.db _ _ _ _ _ fresh.1.0 fresh.1.1 after.db left.1);
+}) c.open_files.result c.open_files.ensures.fails c.open_files.ensures.early
