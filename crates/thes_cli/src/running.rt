@@ -7,8 +7,8 @@ ghost use Rattle.thes_cli.specs.Running.{LeadsIfClosed, LeavesNoFiles, MigratesI
 ghost use Rattle.thes_cli.specs.Stores.{ClosesLeft, open_leaving};
 ghost use Rattle.thes_cli.specs.Streams.{AreFresh};
 
-use crate::closing::Closed;
-use crate::stores::{close_open, work_in_database, work_in_memory};
+use crate::closing::{Closed, close_open};
+use crate::stores::{work_in_database, work_in_memory};
 use crate::streams::{Console, Devices, Given, SystemDevices};
 use sqlite::{Connection, FileFrom, FileStore, Leftover, Start};
 use sqlite_disk::{Disk, Files};
