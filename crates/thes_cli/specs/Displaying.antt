@@ -33,7 +33,8 @@ module _ {K W : Type 0} (view : K → StorageView) (out : W → Option (List ℕ
   WritesDisplay old_office output result new_office output' =
       WritesState view (λ base. WritesDisplayOf out display scheme tag) old_office output result new_office output'
 
-  -- The commands `alphabetical` and `hierarchical`: a display is written, and the outcome determines the status.
+  -- The commands `alphabetical` and `hierarchical`: a display is written, refused or stopped, and the result determines
+  -- the status.
   pub record DisplaysStore {E : Type 0} (err : E → Option (List ℕ))
       (old_office : OfficeView K) (output output' : Pipe W) (errors errors' : Pipe E) (status : ℕ)
       (new_office : OfficeView K) : Type 0 where

@@ -27,7 +27,7 @@ module _ {K W : Type 0} (view : K → StorageView) (out : W → Option (List ℕ
   WritesExport old_office output result new_office output' =
       WritesState view (WritesExportOf out) old_office output result new_office output'
 
-  -- The command `export`: the export is written, and the result determines the status.
+  -- The command `export`: the export is written or stopped, and the result determines the status.
   pub record ExportsStore {E : Type 0} (err : E → Option (List ℕ))
       (old_office : OfficeView K) (output output' : Pipe W) (errors errors' : Pipe E) (status : ℕ)
       (new_office : OfficeView K) : Type 0 where

@@ -36,7 +36,7 @@ module _ {K F W : Type 0} (view : K → StorageView)
       EndsFileImport given out view (import_streams file output old_office)
       (import_streams file' output' new_office) result
 
-  -- The command `import`: the file is imported, and the result determines the status.
+  -- The command `import`: the file is imported, or a fault stops the import; the result determines the status.
   pub record ImportsStore {E : Type 0} (err : E → Option (List ℕ)) (prints_it : Bool) (file : F)
       (old_office : OfficeView K) (output output' : Pipe W) (errors errors' : Pipe E) (status : ℕ)
       (new_office : OfficeView K) : Type 0 where

@@ -61,8 +61,8 @@ LeadsIfClosed err image is_clean holds planned old new status closed =
 
 module _ {R W E S : Type 0} (out : W → Option (List ℕ)) (err : E → Option (List ℕ)) (store : Ghosts S)
     (old : Streams R W E) (status : ℕ) (new : Streams R W E) where
-  -- The store in the file with this name was migrated in its database, which was closed, and its version or the fault
-  -- was printed.
+  -- The database of the store in the file with this name was migrated, or a fault prevented that; the database was
+  -- closed, and the version or the fault was printed.
   pub record MigratesInFile {C : Type 0} (is_clean : C → Type 0) (holds : C → Schema → Tables → Type 0)
       (file : String Global) (conn : Held S) (closed : Closed C) : Type 0 where
     pub input : new.input ≡ old.input
@@ -71,7 +71,7 @@ module _ {R W E S : Type 0} (out : W → Option (List ℕ)) (err : E → Option 
     pub migrates : MigratesDatabase out err old.output new.output old.errors new.errors store (string_bytes file) conn
         status conn_after
 
-  -- Nothing was opened, for this reason, which is reported.
+  -- No job was opened, for this reason, which is reported.
   pub record ReportsNoJob (failure : StartFailure) : Type 0 where
     pub input : new.input ≡ old.input
     pub reports : ReportsStartFailure out err old.output new.output old.errors new.errors failure status

@@ -393,7 +393,7 @@ impl Graph {
         Ok(())
     }
 
-    /// Removes those of these links that are held with their ends in this order; it can't fail.
+    /// Removes those of these links that are held with their ends in this order; never fails.
     pub fn detach_all(&mut self, links: &[Link])
         ensures { self.new ≡ record self.old { links = without_links self.old.links links.now } }
     {
@@ -413,7 +413,7 @@ impl Graph {
         }
     }
 
-    /// Removes all links with an end at the node; it can't fail.
+    /// Removes all links with an end at the node; never fails.
     #[tactic(auto, using(crate::proofs::ChangeLemmas::fewer_links, crate::proofs::ChangeLemmas::without_node_none, crate::proofs::ChangeLemmas::without_node_removed))]
     pub fn drop_all(&mut self, n: ResNo)
         ensures { self.new ≡ record self.old { links = links_after_deprecation n self.old.links } }
@@ -452,7 +452,7 @@ impl Graph {
         Ok(())
     }
 
-    /// Removes the mark of a resource without links as an outside concept; it can't fail.
+    /// Removes the mark of a resource without links as an outside concept; never fails.
     pub fn unmark_outside(&mut self, n: ResNo)
         requires { (l : Link) → Holds self.old.links l → HasEnd n l → ⊥ }
         ensures { self.new ≡ record self.old { outside = remove self.old.outside n } }

@@ -53,7 +53,7 @@ fn meet_related(nodes: &mut Nodes, link: &Link) -> Result<(), AllocError>
     Ok(())
 }
 
-// Lists the nodes at the ends of related links, each once.
+// Collects the nodes at the ends of related links and related matches, each once.
 fn related_nodes(alloc: Global, all: &[Link]) -> Result<Nodes, AllocError>
     ensures { IfOk result (λ nodes. (l : Link) → Contains all.now l
         → HasDirection relation.Related l → Contains nodes l.a × Contains nodes l.b) }

@@ -63,7 +63,7 @@ pub record BufferGrowth (old new : Option (List ℕ)) (before after : List ℕ) 
   pub taken : Consumes old new more
   pub all : after ≡ before ++ more
 
--- The whole body arrived: it is the first `count` bytes of `start` followed by the bytes consumed.
+-- The whole body arrived: it is the first `count` bytes of the text that is `start` and then the bytes consumed.
 pub record ReadsBody (old new : Option (List ℕ))
     (start : List ℕ) (count : ℕ) (body : List ℕ) : Type 0 where
   pub more : List ℕ

@@ -30,7 +30,8 @@ module _ {W E : Type 0} (out : W → Option (List ℕ)) (err : E → Option (Lis
   ReportsMigration file (Err fault) status = ReportsUnmigrated file fault status
 
   module _ {S : Type 0} (store : Ghosts S) where
-    -- The command `migrate` over an existing store: the database is migrated, and the version or the fault is printed.
+    -- The command `migrate` over an existing store: the database is migrated, or a fault prevents that; the version or
+    -- the fault is printed.
     pub record MigratesDatabase (file : List ℕ) (conn : Held S) (status : ℕ) (back : Held S) : Type 0 where
       pub result : Result ℕ Fault
       pub migrates : Migrates store conn back result

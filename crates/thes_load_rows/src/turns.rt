@@ -56,7 +56,8 @@ pub fn run_out(stage: &mut Stage)
     drop(mem::replace(stage, Stage::Stopped(Fault::OutOfMemory, Table::Meta)));
 }
 
-/// Adds a row of a table to the stage; if the stage is past the table, stops it with `BadStore`.
+/// Adds a row of a table to the stage. A stage that is past the table stops with `BadStore`; any
+/// other that has stopped keeps its fault.
 pub fn add_row(
     stage: &mut Stage,
     alloc: Global,

@@ -28,26 +28,29 @@ pub record LoadFrame {T : Type 0} (old new : StorageView) (result : Result T Fau
 abbrev pub InStateOfTables : Raw → (State → Type 0) → Type 0
 InStateOfTables raw P = (base : List ℕ) (s : State) → TablesOfState raw base s → P s
 
--- The facts are those that the command needs about the postings of the rows.
+-- In every state that the rows encode, the facts are those that the command needs about the postings.
 abbrev pub FactsInTables : Raw → Command → Facts → Type 0
 FactsInTables raw command facts = InStateOfTables raw (λ s. AreFacts command s.histories facts)
 
--- The result is the row of the posting with this key, or None if there is none.
+-- In every state that the rows encode, the result is the row of the posting with this key, or None if there is none.
 abbrev pub KeyInTables : Raw → List ℕ → Option PostingRow → Type 0
 KeyInTables raw key found = InStateOfTables raw (λ s. IsRowOfKey key s.histories found)
 
--- The result is the row of the posting with this number, or None if there is none.
+-- In every state that the rows encode, the result is the row of the posting with this number, or None if there is
+-- none.
 abbrev pub RowInTables : Raw → ℕ → Option PostingRow → Type 0
 RowInTables raw n row = InStateOfTables raw (λ s. row ≡ posting_row_at s.histories n)
 
--- The result is the history of the posting with this number, or None if there is none.
+-- In every state that the rows encode, the result is the history of the posting with this number, or None if there is
+-- none.
 abbrev pub HistoryInTables : Raw → ℕ → Option History → Type 0
 HistoryInTables raw n told = InStateOfTables raw (λ s. told ≡ entry_at s.histories n)
 
--- The results are the rows of the postings with these numbers, in that order.
+-- In every state that the rows encode, the results are the rows of the postings with these numbers, in that order.
 abbrev pub RowsInTables : Raw → List ℕ → List (Option PostingRow) → Type 0
 RowsInTables raw ns rows = InStateOfTables raw (λ s. rows ≡ map (posting_row_at s.histories) ns)
 
--- The numbers are those of the postings assigned to the concept, in increasing order.
+-- In every state that the rows encode, the numbers are those of the postings assigned to the concept, in increasing
+-- order.
 abbrev pub AssignedInTables : Raw → ℕ → List ℕ → Type 0
 AssignedInTables raw concept numbers = InStateOfTables raw (λ s. numbers ≡ assigned_posting_numbers concept s.histories)

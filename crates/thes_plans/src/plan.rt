@@ -5,8 +5,8 @@ use thes_base::request::{Answer, Command};
 /// The greatest number of requests in a plan.
 pub const REQUEST_LIMIT: usize = 128;
 
-/// A request of a plan: a command, some of whose numbers refer to what earlier requests of the
-/// plan make.
+/// A request of a plan: a command, in which numbers may refer to what earlier requests of the plan
+/// make.
 #[derive(Debug, Drop)]
 pub struct PlanRequest {
     /// The command. A number that a reference replaces is filled in when the plan is performed.

@@ -107,7 +107,7 @@ impl<T: IndexedRow + Drop> Slots<T> {
         Ok(position + 1)
     }
 
-    /// Appends a row whose memory is reserved and whose position is indexed; it can't fail.
+    /// Appends a row whose memory is reserved and whose position is indexed; never fails.
     pub fn push(&mut self, row: T)
         requires { IsReady T.number_of self.old (row ∷ []) }
         ensures { AppendsRow T.number_of row self.old self.new }

@@ -68,7 +68,7 @@ impl Vocab {
         Ok(())
     }
 
-    /// Removes a label that passes `check_drop`; it can't fail.
+    /// Removes a label that passes `check_drop`; never fails.
     pub fn drop_label(&mut self, owner: ResNo, label: &Label)
         requires owner { IsLiveOwner self.old.resources owner }
         requires allowed { unless_droppable self.old.labels
@@ -158,7 +158,7 @@ impl Vocab {
         Ok(gained)
     }
 
-    /// Marks a live concept as dead, with its replacement if it was merged; it can't fail.
+    /// Marks a live concept as dead, with its replacement if it was merged; never fails.
     pub fn mark_dead(&mut self, n: ResNo, replaced: Option<ResNo>)
         requires concept { IsLiveConcept self.old.resources n }
         requires replacement { IsReplacement self.old.resources n replaced }

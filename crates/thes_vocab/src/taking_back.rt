@@ -16,7 +16,7 @@ use thes_base::number::ResNo;
 use thes_base::text::{Iri, Tag, Text};
 
 impl Vocab {
-    /// Takes back the creation of the last resource with its preferred label; it can't fail.
+    /// Takes back the creation of the last resource with its preferred label; never fails.
     pub fn take_back_named(&mut self, tag: &Tag, text: &Text)
         requires { (before : Vocabulary) × IsBeforeCreation tag.now text.now before self.old }
         ensures { (before : Vocabulary) → IsBeforeCreation tag.now text.now before self.old
@@ -73,7 +73,7 @@ impl Vocab {
         Ok(())
     }
 
-    /// Removes these labels of an owner; those that are left must be legal. It can't fail.
+    /// Removes these labels of an owner; those that are left must be legal. Never fails.
     pub fn drop_labels(&mut self, owner: ResNo, labels: &[Label])
         requires { AreLegalLabels self.old.resources
             (set.difference self.old.labels (labels_of_owner owner labels.now)) }
