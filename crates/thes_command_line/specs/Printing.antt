@@ -54,7 +54,7 @@ abbrev pub fault_lines : Option Bytes → StoreTrouble → Fault → Bytes
 fault_lines None trouble fault = fault_line (faults.Fault fault)
 fault_lines (Some file) trouble fault = file_fault_lines file trouble fault
 
--- The line for a file or socket that couldn't be opened.
+-- The line for a file or socket that couldn't be opened, or the two for a server that may open too few files.
 abbrev pub open_failure_line : OpenFailure → Bytes
 open_failure_line File = fault_line Read
 open_failure_line Socket = net_line

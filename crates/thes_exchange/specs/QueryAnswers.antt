@@ -20,7 +20,7 @@ abbrev pub IsViewLine : View → List ℕ → Type 0
 IsViewLine (views.No r) text = ⊥
 IsViewLine view text = text ≡ view_text view
 
--- The answer to a query in a state: the line of the view or the refusal, unless memory runs out.
+-- The answer to a query in a state: the line of the view, or the refusal; or else the fault OutOfMemory.
 abbrev pub IsQueryAnswer : State → Query → Result QueryAnswer Fault → Type 0
 IsQueryAnswer s query (Ok (viewed.Page text)) =
     (view : View) × IsView s query view × IsViewLine view text

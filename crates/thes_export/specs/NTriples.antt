@@ -107,13 +107,13 @@ piece_value (Plain b) = b ∷ []
 piece_value (Echar letter) = escaped_value letter ∷ []
 piece_value (Uchar letter digits) = encode_utf8 (digits_value 16 digits)
 
--- [^#x00-#x20<>"{}|^`\] | UCHAR
+-- Of IRIREF: [^#x00-#x20<>"{}|^`\] | UCHAR
 abbrev pub IsIriPiece : Piece → Type 0
 IsIriPiece (Plain b) = IsIriByte b
 IsIriPiece (Echar letter) = ⊥
 IsIriPiece (Uchar letter digits) = IsUchar letter digits
 
--- [^#x22#x5C#xA#xD] | ECHAR | UCHAR
+-- Of STRING_LITERAL_QUOTE: [^#x22#x5C#xA#xD] | ECHAR | UCHAR
 abbrev pub IsStringPiece : Piece → Type 0
 IsStringPiece (Plain b) = (b ≢ 34) × (b ≢ 92) × (b ≢ 10) × (b ≢ 13)
 IsStringPiece (Echar letter) = IsEchar letter

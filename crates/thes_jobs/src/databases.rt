@@ -57,8 +57,8 @@ pub trait Databases {
         ensures opens { IfOk result (OpensFrom Self.Engine.Store Self.Opener.image) }
         ensures fails { IfErr result (λ failed. keeps failed.0 failed.1) };
 
-    /// Returns what opens the database in a file again. It takes the database's connection, since
-    /// nothing may be opened again before it is open.
+    /// Returns what opens the database in a file again. The call takes the database's connection,
+    /// since only a database that is open may be opened again.
     fn reopener(&self, conn: &Connection<Self::Engine>, file: &str) -> Result<Self::Opener, Fault>;
 
     /// Takes a connection, if there is one, closes it, and returns what is left of its files, which

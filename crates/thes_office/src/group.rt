@@ -1,5 +1,6 @@
 //! Groups of posts with different keys: each is decided on the state that those before it make, and
-//! the changes of all are committed in one transaction.
+//! the changes of all are committed in one transaction. `Decided`, the answers and changes so far,
+//! also serves plans.
 ghost use Rattle.std.specs.Prelude.{◌≡◌, ◌⊎◌, ◌≤◌, ◌<◌, ◌↔◌, ◌++◌, ◌+◌, ◌∷◌, [], ℕ, List, false, true};
 ghost use Rattle.std.specs.Prelude.{IsTrue, IfOk, IfErr, OnOk, OnErr, take, length};
 ghost use Rattle.thes_base.specs.declared.request.Answer.{Answer};

@@ -24,7 +24,8 @@ pub record IsField (Is : List ℕ → Type 0) (bytes : List ℕ) : Type 0 where
 abbrev pub HasNumber : List ℕ → Type 0
 HasNumber bytes = IsField (λ text. (n : ℕ) × IsNumber n × IsNumeral text n) bytes
 
--- The result of reading a field as a number: the number, or `BadNumber` if the field isn't the numeral of one.
+-- The result of reading a field as a resource's number: the number, or `BadNumber` if the field isn't the decimal
+-- numeral of a resource's number.
 abbrev pub ReadsField : List ℕ → Result ℕ FormFault → Type 0
 ReadsField bytes (Ok n) = IsField (λ text. IsNumeral text n) bytes × IsNumber n
 ReadsField bytes (Err fault) = (fault ≡ bad.BadNumber) × ¬ HasNumber bytes

@@ -63,7 +63,7 @@ pair_of m n = record {
   form = λ p. m.form p.0 >>= (λ a. n.form p.1 >>= (λ b. reads (a, b)));
 }
 
--- A row of the table of requests, with one member after `do` or `get`, for an object of `count`
+-- A row of the table of requests, with one member besides `do` or `get`, for an object of `count`
 -- names.
 abbrev pub row : {X A C : Type 0} → ℕ → (A → C) → Member X A → Data → RequestReading C
 row count makes m d =

@@ -123,7 +123,7 @@ members0 makes d = do
   _ ← present_or_bad_shape (counted_members 1 d)
   reads makes
 
--- A row with one member after `do` or `get`.
+-- A row with one member besides `do` or `get`.
 unfoldable pub members1 : {X A C : Type 0} → (A → C) → Member X A → Data → RequestReading C
 members1 makes m d = do
   _ ← present_or_bad_shape (counted_members 2 d)
@@ -131,7 +131,7 @@ members1 makes m d = do
   a ← m.form x
   reads (makes a)
 
--- A row with two members after `do` or `get`.
+-- A row with two members besides `do` or `get`.
 unfoldable pub members2 : {X A Y B C : Type 0}
     → (A → B → C) → Member X A → Member Y B → Data → RequestReading C
 members2 makes m n d = do
@@ -142,7 +142,7 @@ members2 makes m n d = do
   b ← n.form y
   reads (makes a b)
 
--- A row with three members after `do` or `get`.
+-- A row with three members besides `do` or `get`.
 unfoldable pub members3 : {X A Y B Z D C : Type 0}
     → (A → B → D → C) → Member X A → Member Y B → Member Z D → Data → RequestReading C
 members3 makes m n o d = do
@@ -155,7 +155,7 @@ members3 makes m n o d = do
   e ← o.form z
   reads (makes a b e)
 
--- A row with four members after `do` or `get`.
+-- A row with four members besides `do` or `get`.
 unfoldable pub members4 : {X A Y B Z D U E C : Type 0}
     → (A → B → D → E → C) → Member X A → Member Y B → Member Z D → Member U E → Data → RequestReading C
 members4 makes m n o p d = do

@@ -72,8 +72,8 @@ fn unsigned(numeral: &Numeral<'_>) -> Option<Number>
     }
 }
 
-// Returns the value of a JSON numeral, given after its minus sign: a negative 64-bit integer, or
-// else a float, as for -0.
+// Returns the value of a JSON numeral, given without its minus sign: a negative 64-bit integer, or
+// else a float, as for -0; `None` if it is too large for a float.
 fn negative(numeral: &Numeral<'_>) -> Option<Number>
     ensures { option_map number_view result ≡ number_from true numeral.now }
 {

@@ -1,4 +1,4 @@
--- The rows of the tables as a database stores them.
+-- The rows of the tables as a database stores them. The tree of a table is the list of its stored rows, by rowid.
 use Rattle.std.specs.Prelude.{◌≡◌, ◌<◌, ◌+◌, ℕ, pos, List, [], ◌∷◌, map, ⊤, IsUtf8}
 use Rattle.std.specs.List.{AllByRecursion}
 use Rattle.sqlite.specs.declared.types.Value.{Value}

@@ -94,7 +94,7 @@ abbrev pub IsOpenFirst : {S : Type 0} → Ghosts S → Option (KeeperView S) →
 IsOpenFirst g None = ⊥
 IsOpenFirst g (Some k) = IsKeeperOpen g k
 
--- The database of the first connection, as it is.
+-- The database that the first connection has now; None if a failure has shut that connection.
 abbrev pub database_of_first : {S : Type 0} → Ghosts S → Option (KeeperView S) → Option Database
 database_of_first g None = None
 database_of_first g (Some k) = Some (state g k.conn).now
