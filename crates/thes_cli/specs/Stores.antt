@@ -130,7 +130,7 @@ module _ {F R W E : Type 0} (given : F → Option (List ℕ)) (remaining : R →
       pub back_is : IfSome keeper.first (λ k. (left.conn ≡ Some k.conn) × (left.is_reopened ≡ false))
       pub returns : left.is_reopened ≡ false → ReturnsFirst store image keeper left.conn
       -- A connection to a database that began as that of the files was lost only since a failure had shut it.
-      pub lost : IsTrue left.is_reopened → (k : KeeperView S) × LosesShut store image k
+      pub loses : IsTrue left.is_reopened → (k : KeeperView S) × LosesShut store image k
       pub certain : left.is_reopened ≡ false → left.is_in_doubt ≡ false
       -- A request is in doubt if it is so for the storage at the end.
       pub doubt : left.is_in_doubt ≡ keeper.is_in_doubt
