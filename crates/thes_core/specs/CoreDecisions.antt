@@ -52,7 +52,7 @@ IsAcceptedWithoutPostings setting s (request.Post key rec concept) = Unit {0}
 IsAcceptedWithoutPostings setting s (request.Withdraw posting) = Unit {0}
 IsAcceptedWithoutPostings setting s command = IsAccepted setting s command
 
--- In the core's state without its postings, the request passes its checks, except those of the postings that it names.
+-- In the core's state without its postings, the request passes the checks that `IsAcceptedWithoutPostings` has for it.
 abbrev pub MayApply : CoreView → Command → Type 0
 MayApply core command = IsAcceptedWithoutPostings core.setting (with_histories [] core) command
 

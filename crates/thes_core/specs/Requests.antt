@@ -39,7 +39,8 @@ pub record PartsAccept (t : Thesaurus) (histories : List History) (command : Com
   pub kept : AreLegal t histories
   pub accepts : IsAccepted (setting_of t) (parts_state t histories) command
 
--- The parts are legal, and the request passes the checks that need no postings.
+-- The parts are legal, and the request passes its checks in their state without postings: a Split with an empty list of
+-- postings, a Post or a Withdraw without any check, any other request in full.
 abbrev pub MayChange : Thesaurus → Command → Type 0
 MayChange t command = AreLegal t [] × MayApply (parts_view t false) command
 

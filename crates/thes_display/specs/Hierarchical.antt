@@ -89,7 +89,8 @@ pub record HasOneHome (terms : List Term) (lines : List TreeLine) (n : ℕ) : Ty
   pub unique : (other : TreeLine) → Contains lines other → HasRank terms n other.rank → other.at_home ≡ true → other
       ≡ line
 
--- In the hierarchical display of a legal state, each live concept of the scheme has exactly one line at home.
+-- In the hierarchical display of a legal state, each live concept of the scheme has exactly one line at home: as a top
+-- concept, or below the broader concept that is its home.
 abbrev pub EachHasOneHome : Type 0
 EachHasOneHome =
     (base : List ℕ) (s : State) (scheme : ℕ) (tag text : List ℕ) → IsLegalState base s

@@ -1,4 +1,5 @@
-//! The symbols of a display (ISO 25964-1, clause 12).
+//! The symbols of a display, and the types of hierarchical links that they tell apart (ISO 25964-1,
+//! clauses 10.2 and 12).
 ghost use Rattle.std.specs.Prelude.{◌≡◌};
 ghost use Rattle.thes_display.specs.Alphabetical.{hierarchy_kind, symbol_text, symbols};
 ghost use Rattle.thes_base.specs.Links.{IsHierarchical};
@@ -34,7 +35,8 @@ pub enum Symbol {
 }
 
 impl Hierarchy {
-    /// Returns the link kind of this type, from the narrower to the broader concept.
+    /// Returns the kind of the links that a symbol of this type shows, from the narrower to the
+    /// broader concept.
     pub fn kind(self) -> LinkKind
         ensures kind { result ≡ hierarchy_kind self }
         ensures hierarchical { IsHierarchical result }

@@ -1,5 +1,5 @@
-//! Mappings and typed hierarchical links as seen from one of their ends, in the order of their
-//! names.
+//! Mappings and typed hierarchical links as seen from one of their ends, in the order in which views
+//! list them: by the name of the kind, then by the other end.
 ghost use Rattle.std.specs.Prelude.{◌≡◌, OnOk};
 ghost use Rattle.std.specs.BTreeSet.{insert_key};
 ghost use Rattle.std.specs.List.Sorted.{IsStrictlySortedBy};
@@ -10,7 +10,8 @@ use std::alloc::AllocError;
 use thes_base::data::{Link, LinkKind, TypedKind};
 use thes_base::number::ResNo;
 
-// Returns the rank of a link kind's name among the names of all kinds, sorted by their bytes.
+// Returns the rank by which views sort mappings: that of the kind's name among the names of all
+// kinds, sorted by their bytes.
 fn place_of(kind: LinkKind) -> u8
     ensures { result ≡ kind_name_rank kind }
 {

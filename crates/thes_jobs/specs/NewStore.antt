@@ -38,8 +38,8 @@ module _ {S : Type 0} (store : Ghosts S) where
     pub fault_is : fault ≡ error_fault error
     pub leaves : IsUp (state store new) → IsUnwritten (state store old) (state store new)
 
-  -- The tables of a new store with this base were made in an empty database, if the disk hasn't failed silently; or an
-  -- error left a database that is up unchanged.
+  -- If the database was empty and the disk hasn't failed silently, it has the tables of a new store with this base; or
+  -- an error left a database that is up unchanged.
   abbrev pub MakesStore : List ℕ → Held S → Result (Unit {0}) (StoreTrouble × Fault) → Held S → Type 0
   MakesStore base old (Ok done) new =
       HasCleanDisk (state store new) → IsEmpty empty_schema (state store old).now

@@ -1,4 +1,4 @@
-//! New stores in databases.
+//! Recognizes a blank database, and makes the tables of a new store in one.
 ghost use Rattle.std.specs.Prelude.{◌≡◌, ◌↔◌, false, IsTrue};
 ghost use Rattle.sqlite.specs.Held.{state};
 ghost use Rattle.thes_sql.specs.Schema.{empty_schema};
@@ -35,8 +35,8 @@ pub fn check_blank(is_blank: bool) -> Result<(), (StoreTrouble, Fault)>
 }
 
 /// Makes the tables of a new store with this base in a database without tables, atomically. An
-/// error is the fault with its reason. A mark beside the file says that they are being made, as the
-/// file can't be renamed together with its log (DECISIONS.md, The tables).
+/// error is the fault with its reason. The caller keeps a mark beside the file until they are made,
+/// as the file can't be renamed together with its log (DECISIONS.md, The tables).
 pub fn make_store<S: Alter>(
     conn: &mut Connection<S>,
     base: &Base,

@@ -1,4 +1,5 @@
-//! Opens what the job of a command line names: its store, and its file or socket.
+//! Opens what the job of a command line names: its store, which is made if it is new, and its file
+//! or socket.
 ghost use Rattle.std.specs.Prelude.{◌≡◌, false, IfErr, IfOk, None, Some, is_some};
 ghost use Rattle.std.specs.Result.{result_map_both};
 ghost use Rattle.sqlite.specs.Held.{state};

@@ -24,8 +24,8 @@ pub fn has_bit(words: &[u64], place: u32, j: usize) -> bool
     (word_of(words, place) >> j) & 1 == 1
 }
 
-// The number of words by which a list of words that ends too early is extended past the one that is
-// written, so that words in ascending order extend it seldom.
+// A list that ends before the word to be written is extended to this many words from that word on,
+// so that writes in ascending order seldom extend it.
 const SPARE: usize = 16;
 
 // Extends the words by zeros past the index `place`, at which they end or before it.

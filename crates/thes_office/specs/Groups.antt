@@ -104,8 +104,8 @@ pub record PerformsGroup (old new : StorageView) (limits : Limits) (commands : L
   pub unspent : copy.spent ≡ false
   pub copies : new.is_up → IsCopy new.rows limits copy
 
--- All requests of a group are performed and answered; or, on a fault, none is answered, and the tables are unchanged if
--- the storage is still up.
+-- All requests of a group are answered, or, on a fault, none is. If the storage is still up, the tables are those after
+-- the requests, or, on a fault, unchanged.
 abbrev pub GroupResult : {K : Type 0} → (K → StorageView) → OfficeView K → List Command → List Answer
     → List Answer → Result (Unit {0}) Fault → OfficeView K → Type 0
 GroupResult view old commands before after (Ok done) new = CompleteRun view old commands before after new

@@ -144,8 +144,9 @@ fn decide_and_record<K: Keeper>(
     }
 }
 
-// Decides one more request of a plan, with its references replaced by numbers, and returns its
-// refusal, if it is refused.
+// Decides one more request of a plan, with its references replaced by numbers, and, if it is
+// accepted, applies it to the core and records the postings that it changes. Returns its refusal,
+// if it is refused.
 fn decide_request<K: Keeper>(
     alloc: Global,
     keeper: &mut K,

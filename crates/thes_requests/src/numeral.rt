@@ -62,7 +62,8 @@ fn has_minus(bytes: &[u8]) -> bool
     !bytes.is_empty() && bytes[0] == b'-'
 }
 
-// Returns the value of a JSON numeral without a sign: an unsigned 64-bit integer, or else a float.
+// Returns the value of a JSON numeral without a sign: an unsigned 64-bit integer, or else a float;
+// `None` if it is too large for a float.
 fn unsigned(numeral: &Numeral<'_>) -> Option<Number>
     ensures { option_map number_view result ≡ number_from false numeral.now }
 {
