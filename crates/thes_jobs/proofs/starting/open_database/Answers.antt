@@ -5,5 +5,5 @@ returns-after-is_mark_void-clause-err g c = record {
   cause = c.in-Err.cause;
   trouble = c.trouble_of-trouble.ensures;
   fault = c.fault.ensures;
-  keeps_files = c.in-Err.ensures;
+  keeps_files = c.in-Err.ensures.fails;
 }
