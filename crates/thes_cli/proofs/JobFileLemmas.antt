@@ -19,7 +19,7 @@ use Rattle.thes_sqlite.specs.KeeperView.{IsUp, ServesTables}
 use Rattle.thes_sqlite.specs.MigrationEffects.{IsUnwritten, Migrates}
 use Rattle.thes_sqlite.specs.declared.cause.Cause.{Cause}
 use Rattle.thes_command_line.specs.Printing.{file_fault_lines, open_failure_line}
-use Rattle.thes_command_line.specs.declared.arguments.EarlyExit.{EarlyExit}
+use Rattle.thes_command_line.specs.declared.early_exit.EarlyExit.{EarlyExit}
 use Rattle.thes_command_line.specs.declared.arguments.Job.{Job}
 use Rattle.thes_command_line.specs.declared.arguments.StoreSetting.{StoreSetting}
 use Rattle.thes_command_line.specs.declared.start_failure.StartFailure.{StartFailure}

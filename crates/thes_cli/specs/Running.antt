@@ -14,7 +14,7 @@ use Rattle.thes_sqlite.specs.DatabaseFiles.{HoldsStore}
 use Rattle.thes_sqlite.specs.declared.cause.Cause.{Cause}
 use Rattle.thes_command_line.specs.Printing.{Prints, PrintsText, file_fault_lines, open_failure_line}
 use Rattle.thes_command_line.specs.StartFailure.{ReportsStartFailure}
-use Rattle.thes_command_line.specs.declared.arguments.EarlyExit.{EarlyExit}
+use Rattle.thes_command_line.specs.declared.early_exit.EarlyExit.{EarlyExit}
 use Rattle.thes_command_line.specs.declared.arguments.Job.{Job}
 use Rattle.thes_command_line.specs.declared.arguments.Task.TheVariants.{Migrate}
 use Rattle.thes_command_line.specs.declared.printing.OpenFailure.{OpenFailure}

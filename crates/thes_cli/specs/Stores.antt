@@ -1,6 +1,6 @@
 -- Work over a store in a database, and over a new store in memory.
 use mathlib.Core.Logic.{inl, inr}
-use Rattle.std.specs.Prelude.{◌≡◌, ◌⊎◌, ℕ, List, Option, None, Some, false, IfSome, string_bytes}
+use Rattle.std.specs.Prelude.{◌≡◌, ◌⊎◌, ℕ, List, Option, None, Some, false, IfSome, IsTrue, string_bytes}
 use Rattle.sqlite.specs.Held.{Held}
 use Rattle.sqlite.specs.Schema.{Schema}
 use Rattle.sqlite_trees.specs.declared.store.Store.{Ghosts}
@@ -18,7 +18,8 @@ use Rattle.thes_tables.specs.Tables.{Tables, empty_tables}
 use Rattle.thes_store.specs.Storage.{StorageView}
 use Rattle.thes_sqlite.specs.DatabaseFiles.{IsInitialStore}
 use Rattle.thes_sqlite.specs.Reopening.{ReopeningView, view_of_connection, storage_still, IsStillOpen, FindsStill}
-use Rattle.thes_sqlite.specs.Reopening.{IsKeeperStillUp, ReturnsFirst, rows_still}
+use Rattle.thes_sqlite.specs.KeeperView.{KeeperView}
+use Rattle.thes_sqlite.specs.Reopening.{IsKeeperStillUp, LosesShut, ReturnsFirst, rows_still}
 use Rattle.thes_sqlite.specs.declared.cause.Cause.{Cause}
 use Rattle.thes_sqlite.specs.declared.reopening.Leaving.{Leaving}
 use Rattle.thes_office.specs.Office.{TablesAfterRun}
@@ -128,6 +129,8 @@ module _ {F R W E : Type 0} (given : F → Option (List ℕ)) (remaining : R →
       -- The first connection is returned, unless a failure has shut it.
       pub back_is : IfSome keeper.first (λ k. (left.conn ≡ Some k.conn) × (left.is_reopened ≡ false))
       pub returns : left.is_reopened ≡ false → ReturnsFirst store image keeper left.conn
+      -- A connection to a database that began as that of the files was lost only since a failure had shut it.
+      pub loses : IsTrue left.is_reopened → (k : KeeperView S) × LosesShut store image k
       pub certain : left.is_reopened ≡ false → left.is_in_doubt ≡ false
       -- A request is in doubt if it is so for the storage at the end.
       pub doubt : left.is_in_doubt ≡ keeper.is_in_doubt

@@ -2,7 +2,7 @@
 use Rattle.std.specs.Prelude.{Result, Ok, Err}
 use Rattle.thes_base.specs.Pipe.{IsFresh}
 use Rattle.thes_command_line.specs.CommandLine.{NamesDisplay, command_of}
-use Rattle.thes_command_line.specs.declared.arguments.EarlyExit.{EarlyExit}
+use Rattle.thes_command_line.specs.declared.early_exit.EarlyExit.{EarlyExit}
 use Rattle.thes_command_line.specs.declared.arguments.Job.{Job}
 use Rattle.thes_cli.specs.declared.streams.Streams.{Streams}
 

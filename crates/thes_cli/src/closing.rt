@@ -1,4 +1,9 @@
-//! What is left of a store's database when its work has ended.
+//! Closes the database of a store when its work has ended.
+ghost use Rattle.thes_cli.specs.Stores.{ClosesLeft, open_leaving};
+
+use sqlite::Connection;
+use thes_jobs::databases::Databases;
+use thes_sqlite::reopening::Leaving;
 
 /// What closing the database of a store leaves.
 #[derive(Drop)]
@@ -9,4 +14,36 @@ pub struct Closed<C> {
     pub is_in_doubt: bool,
     /// Whether a failure has shut the database that was opened first.
     pub is_reopened: bool,
+}
+
+/// Closes the database that work over a store leaves, if there is one.
+pub fn close_left<D: Databases>(databases: &D, left: Leaving<D::Engine>) -> Closed<D::Left>
+    ensures { ClosesLeft D.Engine.Store D.is_clean D.holds left result }
+{
+    let Leaving {
+        conn,
+        is_in_doubt,
+        is_reopened,
+    } = left;
+    let mut conn = conn;
+    Closed {
+        files: databases.close(&mut conn),
+        is_in_doubt,
+        is_reopened,
+    }
+}
+
+/// Closes a database that no failure has shut, if there is one.
+pub fn close_open<D: Databases>(
+    databases: &D,
+    conn: Option<Connection<D::Engine>>,
+) -> Closed<D::Left>
+    ensures { ClosesLeft D.Engine.Store D.is_clean D.holds (open_leaving conn) result }
+{
+    let left = Leaving {
+        conn,
+        is_in_doubt: false,
+        is_reopened: false,
+    };
+    close_left(databases, left)
 }

@@ -7,15 +7,16 @@ ghost use Rattle.thes_cli.specs.Running.{LeadsIfClosed, LeavesNoFiles, MigratesI
 ghost use Rattle.thes_cli.specs.Stores.{ClosesLeft, open_leaving};
 ghost use Rattle.thes_cli.specs.Streams.{AreFresh};
 
-use crate::closing::Closed;
-use crate::stores::{close_open, work_in_database, work_in_memory};
+use crate::closing::{Closed, close_open};
+use crate::stores::{work_in_database, work_in_memory};
 use crate::streams::{Console, Devices, Given, SystemDevices};
 use sqlite::{Connection, FileFrom, FileStore, Leftover, Start};
 use sqlite_disk::{Disk, Files};
 use sqlite_trees::store::Store;
 use std::fs::File;
 use std::io::Read;
-use thes_command_line::arguments::{EarlyExit, Job};
+use thes_command_line::arguments::Job;
+use thes_command_line::early_exit::EarlyExit;
 use thes_command_line::start_failure::report_start_failure;
 use thes_jobs::databases::{Databases, FileDatabases};
 use thes_jobs::migrating::{migrate_in_database, print_version};

@@ -1,50 +1,17 @@
 //! Work over the stores of the program: in a database, and in memory.
 ghost use Rattle.thes_jobs.specs.Databases.{IsReadyConnection};
-ghost use Rattle.thes_cli.specs.Stores.{ClosesLeft, WorksInMemory, WorksToClosing, open_leaving};
+ghost use Rattle.thes_cli.specs.Stores.{WorksInMemory, WorksToClosing};
 ghost use Rattle.thes_cli.specs.Streams.{AreFresh};
 
-use crate::closing::Closed;
+use crate::closing::{Closed, close_left};
 use crate::streams::{Devices, Given};
 use crate::work::work_over_keeper;
-use sqlite::Connection;
 use std::net::Net;
 use thes_command_line::arguments::StoreSetting;
 use thes_jobs::databases::Databases;
 use thes_jobs::work::{DatabaseWork, MemoryWork};
-use thes_sqlite::reopening::{Leaving, ReopeningKeeper};
+use thes_sqlite::reopening::ReopeningKeeper;
 use thes_store::mem::MemKeeper;
-
-// Closes the database that work over a store leaves, if there is one.
-fn close_left<D: Databases>(databases: &D, left: Leaving<D::Engine>) -> Closed<D::Left>
-    ensures { ClosesLeft D.Engine.Store D.is_clean D.holds left result }
-{
-    let Leaving {
-        conn,
-        is_in_doubt,
-        is_reopened,
-    } = left;
-    let mut conn = conn;
-    Closed {
-        files: databases.close(&mut conn),
-        is_in_doubt,
-        is_reopened,
-    }
-}
-
-/// Closes a database that no failure has shut, if there is one.
-pub fn close_open<D: Databases>(
-    databases: &D,
-    conn: Option<Connection<D::Engine>>,
-) -> Closed<D::Left>
-    ensures { ClosesLeft D.Engine.Store D.is_clean D.holds (open_leaving conn) result }
-{
-    let left = Leaving {
-        conn,
-        is_in_doubt: false,
-        is_reopened: false,
-    };
-    close_left(databases, left)
-}
 
 /// Works over the store in a database, and closes it. Returns the exit status with what is left of
 /// its files. If the disk has returned what was written, and no failure has shut the database, the

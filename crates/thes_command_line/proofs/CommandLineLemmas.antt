@@ -16,8 +16,8 @@ use Rattle.thes_command_line.specs.Commands.{program}
 use Rattle.thes_command_line.specs.CommandLine.{base_in, ExitsFor, PlanResult, MatchedPlanResult, RefusesArguments}
 use Rattle.thes_command_line.specs.EarlyExit.{exit_of_stop}
 use Rattle.thes_command_line.specs.declared.arguments.Job.{Job}
-use Rattle.thes_command_line.specs.declared.arguments.EarlyExit.{EarlyExit}
-use Rattle.thes_command_line.specs.declared.arguments.EarlyExit.TheVariants.{OutOfMemory}
+use Rattle.thes_command_line.specs.declared.early_exit.EarlyExit.{EarlyExit}
+use Rattle.thes_command_line.specs.declared.early_exit.EarlyExit.TheVariants.{OutOfMemory}
 
 pub exits_for : (found : Kinds) (e : Error) (early_exit : EarlyExit)
     → (kind_of e ≡ kinds.OutOfMemory → early_exit ≡ OutOfMemory) → ExitsFor (kind_of e) early_exit

@@ -13,8 +13,8 @@ use Rattle.thes_base.specs.Forms.{IsBase, IsNumber, IsNumeral, IsTag, stored_tex
 use Rattle.thes_base.specs.declared.fault.FormFault.{FormFault}
 use Rattle.thes_base.specs.declared.fault.FormFault.TheVariants.{BadIri, BadNumber, BadTag}
 use Rattle.thes_command_line.specs.Commands.{program}
-use Rattle.thes_command_line.specs.declared.arguments.EarlyExit.{EarlyExit}
-use Rattle.thes_command_line.specs.declared.arguments.EarlyExit.TheVariants.{Help, Usage, NotText, BadForm, OutOfMemory}
+use Rattle.thes_command_line.specs.declared.early_exit.EarlyExit.{EarlyExit}
+use Rattle.thes_command_line.specs.declared.early_exit.EarlyExit.TheVariants.{Help, Usage, NotText, BadForm, OutOfMemory}
 use Rattle.thes_command_line.specs.declared.arguments.Job.{Job}
 use Rattle.thes_command_line.specs.declared.arguments.ServeOptions.{ServeOptions}
 use Rattle.thes_command_line.specs.declared.arguments.DisplayOptions.{DisplayOptions}

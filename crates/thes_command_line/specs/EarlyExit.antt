@@ -8,8 +8,8 @@ use Rattle.thes_base.specs.declared.fault.ReadStop.TheVariants as stops
 use Rattle.thes_base.specs.declared.fault.PipeFault.TheVariants.{Fault}
 use Rattle.thes_base.specs.declared.pipe.Pipe.{Pipe}
 use Rattle.thes_command_line.specs.Printing.{PrintsError, PrintsText, fault_line, form_line}
-use Rattle.thes_command_line.specs.declared.arguments.EarlyExit.{EarlyExit}
-use Rattle.thes_command_line.specs.declared.arguments.EarlyExit.TheVariants.{Help, Usage, NotText, BadForm, OutOfMemory}
+use Rattle.thes_command_line.specs.declared.early_exit.EarlyExit.{EarlyExit}
+use Rattle.thes_command_line.specs.declared.early_exit.EarlyExit.TheVariants.{Help, Usage, NotText, BadForm, OutOfMemory}
 
 -- The exit status: 0 for help and version, 2 for a fault of the command line, and 3 for running out
 -- of memory.

@@ -1,19 +1,15 @@
 //! The arguments of the command line, and the job that they describe.
 ghost use Rattle.std.specs.Prelude.{◌≡◌, ◌↔◌, IsTrue, codes, map, option_map, string_bytes, IfOk, IsSome};
-ghost use Rattle.std.specs.IoError.{error_kind};
 ghost use Rattle.std.specs.Vec.Iter.{into_iter_items};
-ghost use Rattle.clap.specs.Words.{first_of, found_of, kind_of, rows_of, subcommand_rows_of};
-ghost use Rattle.thes_command_line.specs.CommandLine.{base_in, command_of, NamesDisplay, IsCompleteCommand, HasCommand, HasLimit, HasLimits, HasOptions, HasPort, IsServeOptions, is_set, limits_in, number_of_option, ExitsFor, PlanResult, MatchedPlanResult, PlansTask, ReadsDisplayOptions};
-ghost use Rattle.thes_command_line.specs.EarlyExit.{exit_status};
+ghost use Rattle.clap.specs.Words.{first_of, found_of, rows_of, subcommand_rows_of};
+ghost use Rattle.thes_command_line.specs.CommandLine.{base_in, command_of, NamesDisplay, IsCompleteCommand, HasCommand, HasLimit, HasLimits, HasOptions, HasPort, IsServeOptions, is_set, limits_in, number_of_option, PlanResult, MatchedPlanResult, PlansTask, ReadsDisplayOptions};
 
 use crate::commands::program;
-use clap::error::ErrorKind;
-use clap::{ArgMatches, Error};
+use crate::early_exit::{EarlyExit, early_exit_of};
+use clap::ArgMatches;
 use std::alloc::{AllocError, Global};
 use std::env::Args;
-use std::io::{Error as IoError, ErrorKind as IoErrorKind};
 use thes_base::data::Limits;
-use thes_base::fault::{FormFault, ReadStop};
 use thes_base::number::ResNo;
 use thes_base::text::{Base, Tag};
 
@@ -92,90 +88,6 @@ pub struct Job {
     /// The name of the store's file; without one, the store is in memory.
     pub file: Option<String>,
     pub setting: StoreSetting,
-}
-
-/// The reason for an early exit: help, the version, a fault of the command line, or running out of
-/// memory.
-#[derive(Debug, Drop)]
-pub enum EarlyExit {
-    /// The text of the help or the version.
-    Help(String),
-    /// The text of a usage error.
-    Usage(String),
-    /// An argument that isn't UTF-8.
-    NotText,
-    /// The form fault of an option's value, such as a base that isn't an IRI.
-    BadForm(FormFault),
-    OutOfMemory,
-}
-
-/// Running out of memory becomes `OutOfMemory`.
-impl From<AllocError> for EarlyExit {
-    ghost use Rattle.thes_command_line.specs.declared.arguments.EarlyExit.TheVariants.{OutOfMemory};
-
-    ghost from_gives = { λ _ early_exit. early_exit ≡ OutOfMemory };
-
-    fn from(_error: AllocError) -> EarlyExit {
-        EarlyExit::OutOfMemory
-    }
-}
-
-/// A form fault becomes `BadForm` with that fault, and running out of memory `OutOfMemory`.
-impl From<ReadStop> for EarlyExit {
-    ghost use Rattle.thes_command_line.specs.EarlyExit.{exit_of_stop};
-
-    ghost from_gives = { λ stop early_exit. early_exit ≡ exit_of_stop stop };
-
-    fn from(stop: ReadStop) -> EarlyExit {
-        match stop {
-            ReadStop::Form(fault) => EarlyExit::BadForm(fault),
-            ReadStop::OutOfMemory => EarlyExit::OutOfMemory,
-        }
-    }
-}
-
-/// Any error of reading the arguments becomes `NotText`, except running out of memory.
-impl From<IoError> for EarlyExit {
-    ghost use Rattle.thes_command_line.specs.EarlyExit.{exit_of_error};
-
-    ghost from_gives = { λ error early_exit. early_exit ≡ exit_of_error (error_kind error) };
-
-    fn from(error: IoError) -> EarlyExit {
-        match error.kind() {
-            IoErrorKind::OutOfMemory => EarlyExit::OutOfMemory,
-            _ => EarlyExit::NotText,
-        }
-    }
-}
-
-impl EarlyExit {
-    /// Returns the exit status: 0 for help and version, 2 for a fault of the command line, and 3
-    /// for running out of memory.
-    pub fn status(&self) -> u8
-        ensures { result ≡ exit_status self.now }
-    {
-        match self {
-            EarlyExit::Help(_) => 0,
-            EarlyExit::Usage(_) | EarlyExit::NotText | EarlyExit::BadForm(_) => 2,
-            EarlyExit::OutOfMemory => 3,
-        }
-    }
-}
-
-// Converts an error of `clap` to the text of the help, the version or the usage error, or to
-// `OutOfMemory`.
-fn early_exit_of(alloc: Global, error: &Error) -> EarlyExit
-    ensures kind { ExitsFor (kind_of error.now) result }
-    ensures memory { kind_of error.now ≡ ErrorKind.OutOfMemory → result ≡ EarlyExit.OutOfMemory }
-{
-    if error.kind() == ErrorKind::OutOfMemory {
-        return EarlyExit::OutOfMemory;
-    }
-    match error.to_string(alloc) {
-        Ok(text) if error.use_stderr() => EarlyExit::Usage(text),
-        Ok(text) => EarlyExit::Help(text),
-        Err(_) => EarlyExit::OutOfMemory,
-    }
 }
 
 // Returns the value of `--base`, or the default base.

@@ -1,14 +1,104 @@
 //! Early exits: help, the version, and faults of the command line.
-ghost use Rattle.thes_command_line.specs.EarlyExit.{ExitsEarly};
+ghost use Rattle.std.specs.Prelude.{◌≡◌};
+ghost use Rattle.std.specs.IoError.{error_kind};
+ghost use Rattle.clap.specs.Words.{kind_of};
+ghost use Rattle.thes_command_line.specs.CommandLine.{ExitsFor};
+ghost use Rattle.thes_command_line.specs.EarlyExit.{ExitsEarly, exit_status};
 ghost use Rattle.thes_command_line.specs.Printing.{AreFreshOutputs};
 
-use crate::arguments::EarlyExit;
 use crate::printing::{print_error, print_out, report_fault, report_form_fault};
-use std::io::Write;
-use thes_base::fault::{Fault, PipeFault};
+use clap::Error;
+use clap::error::ErrorKind;
+use std::alloc::{AllocError, Global};
+use std::io::{Error as IoError, ErrorKind as IoErrorKind, Write};
+use thes_base::fault::{Fault, FormFault, PipeFault, ReadStop};
 use thes_base::pipe::Pipe;
 
 const NOT_TEXT: &str = "thesaurus: a word of the command line is not UTF-8\n";
+
+/// The reason for an early exit: help, the version, a fault of the command line, or running out of
+/// memory.
+#[derive(Debug, Drop)]
+pub enum EarlyExit {
+    /// The text of the help or the version.
+    Help(String),
+    /// The text of a usage error.
+    Usage(String),
+    /// An argument that isn't UTF-8.
+    NotText,
+    /// The form fault of an option's value, such as a base that isn't an IRI.
+    BadForm(FormFault),
+    OutOfMemory,
+}
+
+/// Running out of memory becomes `OutOfMemory`.
+impl From<AllocError> for EarlyExit {
+    ghost use Rattle.thes_command_line.specs.declared.early_exit.EarlyExit.TheVariants.{OutOfMemory};
+
+    ghost from_gives = { λ _ early_exit. early_exit ≡ OutOfMemory };
+
+    fn from(_error: AllocError) -> EarlyExit {
+        EarlyExit::OutOfMemory
+    }
+}
+
+/// A form fault becomes `BadForm` with that fault, and running out of memory `OutOfMemory`.
+impl From<ReadStop> for EarlyExit {
+    ghost use Rattle.thes_command_line.specs.EarlyExit.{exit_of_stop};
+
+    ghost from_gives = { λ stop early_exit. early_exit ≡ exit_of_stop stop };
+
+    fn from(stop: ReadStop) -> EarlyExit {
+        match stop {
+            ReadStop::Form(fault) => EarlyExit::BadForm(fault),
+            ReadStop::OutOfMemory => EarlyExit::OutOfMemory,
+        }
+    }
+}
+
+/// Any error of reading the arguments becomes `NotText`, except running out of memory.
+impl From<IoError> for EarlyExit {
+    ghost use Rattle.thes_command_line.specs.EarlyExit.{exit_of_error};
+
+    ghost from_gives = { λ error early_exit. early_exit ≡ exit_of_error (error_kind error) };
+
+    fn from(error: IoError) -> EarlyExit {
+        match error.kind() {
+            IoErrorKind::OutOfMemory => EarlyExit::OutOfMemory,
+            _ => EarlyExit::NotText,
+        }
+    }
+}
+
+impl EarlyExit {
+    /// Returns the exit status: 0 for help and version, 2 for a fault of the command line, and 3
+    /// for running out of memory.
+    pub fn status(&self) -> u8
+        ensures { result ≡ exit_status self.now }
+    {
+        match self {
+            EarlyExit::Help(_) => 0,
+            EarlyExit::Usage(_) | EarlyExit::NotText | EarlyExit::BadForm(_) => 2,
+            EarlyExit::OutOfMemory => 3,
+        }
+    }
+}
+
+/// Converts an error of `clap` to the text of the help, the version or the usage error, or to
+/// `OutOfMemory`.
+pub(crate) fn early_exit_of(alloc: Global, error: &Error) -> EarlyExit
+    ensures kind { ExitsFor (kind_of error.now) result }
+    ensures memory { kind_of error.now ≡ ErrorKind.OutOfMemory → result ≡ EarlyExit.OutOfMemory }
+{
+    if error.kind() == ErrorKind::OutOfMemory {
+        return EarlyExit::OutOfMemory;
+    }
+    match error.to_string(alloc) {
+        Ok(text) if error.use_stderr() => EarlyExit::Usage(text),
+        Ok(text) => EarlyExit::Help(text),
+        Err(_) => EarlyExit::OutOfMemory,
+    }
+}
 
 /// Prints the help or version to standard output, or the fault to standard error, and returns the
 /// exit status.

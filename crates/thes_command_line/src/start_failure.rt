@@ -2,8 +2,7 @@
 ghost use Rattle.thes_command_line.specs.Printing.{AreFreshOutputs};
 ghost use Rattle.thes_command_line.specs.StartFailure.{ReportsStartFailure};
 
-use crate::arguments::EarlyExit;
-use crate::early_exit::exit_early;
+use crate::early_exit::{EarlyExit, exit_early};
 use crate::printing::{OpenFailure, report_in_file, report_open_failure};
 use crate::trouble::StoreTrouble;
 use std::io::Write;

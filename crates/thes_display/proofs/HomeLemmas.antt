@@ -14,7 +14,7 @@ use Rattle.thes_display.specs.Hierarchical.{IsHome, IsNarrowerTerm}
 use Rattle.thes_display.specs.HierarchyParts.{AreHomes, AreHomesSet, IsChild, IsChildAt, IsHomeBelow, rank_at}
 use Rattle.thes_display.proofs.WalkLemmas.{IsOneOf, among_append, among_from, among_left, among_right, contains_of}
 use Rattle.thes_display.proofs.RankLemmas.{same_or}
-use Rattle.thes_display.proofs.GatherLemmas.{types_are, types_between}
+use Rattle.thes_display.proofs.HierarchyLemmas.{types_are, types_between}
 
 -- A rank found for a list with one more concept is that concept's rank, or was found before.
 from_one : (f : ℕ → Option ℕ) (x k : ℕ) (xs : List ℕ) (o : Option ℕ) → f x ≡ o

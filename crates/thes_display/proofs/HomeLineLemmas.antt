@@ -24,7 +24,7 @@ use Rattle.thes_display.specs.Hierarchical.{HasOneHome}
 use Rattle.thes_display.specs.HierarchyParts.{HaveOneRank, IsClosed}
 use Rattle.thes_display.specs.Lines.{HasTypes, IsHomeward, IsTreeLine, IsPlaced, TreeLine, line_cmp, untyped}
 use Rattle.thes_display.proofs.ChildLemmas.{one_types}
-use Rattle.thes_display.proofs.GatherLemmas.{rank_within, one_concept, types_are, types_between}
+use Rattle.thes_display.proofs.HierarchyLemmas.{rank_within, one_concept, types_are, types_between}
 use Rattle.thes_display.proofs.SchemeRankLemmas.{scheme_is_closed, rank_of, one_rank}
 
 abbrev has_link_test : Links → LinkKind → ℕ → ℕ → Bool

@@ -12,7 +12,7 @@ use Rattle.thes_display.specs.Lines.{untyped}
 use Rattle.thes_display.specs.ChildLists.{child, child_cmp}
 use Rattle.thes_display.specs.HierarchyParts.{AreHomes, AreBelow, IsHomeBelow, IsTopByHomes, IsGathered, IsRoot, rank_at}
 use Rattle.thes_display.proofs.ListingLemmas.{listing_as, listing_more, listing_none}
-use Rattle.thes_display.proofs.GatherLemmas.{rank_within}
+use Rattle.thes_display.proofs.HierarchyLemmas.{rank_within}
 
 less_from : (x y : ℕ) → x < y → nat_cmp x y ≡ Less
 less_from x y l = rw lt-ltb

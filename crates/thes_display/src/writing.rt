@@ -9,7 +9,7 @@ ghost use Rattle.thes_display.specs.Hierarchical.{IsHierarchicalDisplay};
 ghost use Rattle.thes_display.specs.DisplayWrites.{DisplayResult, IsDisplay, IsSchemeRefusal};
 
 use crate::entry::alphabetical_text;
-use crate::gather::hierarchical_text;
+use crate::hierarchy::hierarchical_text;
 use std::alloc::{AllocError, Global};
 use std::io::Write;
 use thes_base::data::ResourceKind;

@@ -2,7 +2,7 @@
 use Rattle.std.proofs.lemmas.Grind.{common_steps}
 use Rattle.std.proofs.Common.{◌≡◌, ◌∙◌, sym, refl, subst, inl, inr, ⊎_elim, ℕ, ◌+◌, ◌-◌, ◌<◌, ◌≤◌, Bool, true}
 use Rattle.std.proofs.Common.{false, List, [], ◌∷◌, ◌++◌, length, get_or, take, Contains, IsPermutation, IsSorted}
-use Rattle.std.proofs.Common.{nat_eq, arith, eqb, eqb-true}
+use Rattle.std.proofs.Common.{◌^◌, ap, length-append, min, nat_eq, arith, eqb, eqb-true}
 use borrow.Author.Tests.{eqb-false}
 use Rattle.std.specs.List.{concat}
 use Rattle.std.specs.List.Retain.{DiffersFromLast, IsFiltered}
@@ -100,6 +100,16 @@ sorted_listing xs ys zs moved sorted filtered =
 pub joined_more : (xs : List (List ℕ)) (i : ℕ) (x old new : List ℕ) → i < length xs → x ≡ get_or xs i x → old
     ≡ concat (take i xs) → new ≡ old ++ x → new ≡ concat (take (i + 1) xs)
 joined_more xs i x old new below at so_far more = grind (arith, common_steps, append-nil, concat-append, take_more)
+
+-- The bytes of one more part are counted.
+pub counted_more : (xs : List (List ℕ)) (i : ℕ) (x : List ℕ) (count more : ℕ) → i < length xs → x ≡ get_or xs i x
+    → count ≡ min (length (concat (take i xs))) (2 ^ 64 - 1) → more ≡ min (count + length x) (2 ^ 64 - 1)
+    → more ≡ min (length (concat (take (i + 1) xs))) (2 ^ 64 - 1)
+counted_more xs i x count more below at so_far next =
+    let joined = joined_more xs i x (concat (take i xs)) _ below at refl refl in
+    let size = ap (λ (l : List ℕ). length l) joined in
+    let both = length-append (concat (take i xs)) x in
+    omega (arith, size, both, so_far, next)
 
 -- Each number up to the number of resources is that of a resource.
 exists_up : (xs : List Resource) (n : ℕ) → 1 ≤ n → n ≤ length xs → Exists xs n

@@ -1,5 +1,5 @@
 //! Collects the lines of an export, resource by resource, and joins them into its text.
-ghost use Rattle.std.specs.Prelude.{◌≡◌, ◌+◌, ◌++◌, [], Contains, false, IfOk, OnOk, length};
+ghost use Rattle.std.specs.Prelude.{◌≡◌, ◌+◌, ◌-◌, ◌^◌, ◌++◌, [], Contains, false, IfOk, OnOk, length, min};
 ghost use Rattle.std.specs.List.{concat};
 ghost use Rattle.std.specs.Ordering.{nat_cmp};
 ghost use Rattle.std.specs.Cmp.Lexicographic.{slice_cmp};
@@ -61,11 +61,22 @@ fn push_text(text: &mut Vec<u8>, part: &ExportPart) -> Result<(), AllocError>
     Ok(())
 }
 
+// Returns the number of bytes of these parts, or the greatest `usize` if there are more.
+fn byte_count(parts: &[ExportPart]) -> usize
+    ensures { result ≡ min (length (concat parts.now)) (2 ^ 64 - 1) }
+{
+    let mut count = 0usize;
+    for part in parts {
+        count = count.saturating_add(part.as_bytes().len());
+    }
+    count
+}
+
 // Returns the text of these parts of an export, one after another.
 fn join_parts(alloc: Global, parts: &[ExportPart]) -> Result<Vec<u8>, AllocError>
     ensures { IfOk result (λ text. text.items ≡ concat parts.now) }
 {
-    let mut text = Vec::new(alloc);
+    let mut text = Vec::with_capacity(alloc, byte_count(parts))?;
     for part in parts {
         push_text(&mut text, part)?;
     }

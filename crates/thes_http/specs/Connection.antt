@@ -1,5 +1,5 @@
 -- The outcome of one connection: the bytes consumed, the response, and the bytes written.
-use Rattle.std.specs.Prelude.{ℕ, ◌≡◌, Bool, true, List, Option, Result, IfOk, OnErr, IsErrOf}
+use Rattle.std.specs.Prelude.{ℕ, ◌≡◌, Bool, true, false, List, Option, Result, IfOk, OnErr, IsErrOf}
 use Rattle.std.specs.Io.KnownBytes.{Consumes, IsAtEnd}
 use Rattle.thes_base.specs.Pipe.{ended_of, unread_bytes, PaysCalls}
 use Rattle.thes_base.specs.declared.pipe.Pipe.{Pipe}
@@ -14,6 +14,11 @@ use Rattle.thes_http.specs.declared.connection.ConnectionEnd.TheVariants.{Answer
 use Rattle.thes_http.specs.Responses.{WritesPrefix, WritesResponse}
 use Rattle.thes_http.specs.ServiceBehaviour.{ServiceBehaviour}
 use Rattle.thes_http.specs.Serving.{Answers, IsCutRequest}
+
+-- Whether the response was written completely.
+abbrev pub is_complete : ConnectionEnd → Bool
+is_complete (Answered status) = true
+is_complete outcome = false
 
 -- The service answers the bytes consumed with this response.
 pub record IsConnectionAnswer {S : Type 0} (d : ServiceBehaviour S) (known left : Option (List ℕ))

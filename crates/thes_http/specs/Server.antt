@@ -10,8 +10,6 @@ use Rattle.thes_requests.specs.Script.{session}
 use Rattle.thes_http.specs.Connection.{EndsAs}
 use Rattle.thes_http.specs.declared.deadline.TimedStream.{TimedStream}
 use Rattle.thes_http.specs.declared.response.Response.{Response}
-use Rattle.thes_http.specs.declared.connection.ConnectionEnd.{ConnectionEnd}
-use Rattle.thes_http.specs.declared.connection.ConnectionEnd.TheVariants.{Answered}
 use Rattle.thes_http.specs.declared.timed_connection.Ends.{Ends}
 use Rattle.thes_http.specs.declared.timed_connection.ServedStream.{ServedStream}
 use Rattle.thes_http.specs.ServiceBehaviour.{ServiceBehaviour}
@@ -23,11 +21,6 @@ is_wait WouldBlock = true
 is_wait TimedOut = true
 is_wait Interrupted = true
 is_wait kind = false
-
--- Whether the response was written completely.
-abbrev pub is_complete : ConnectionEnd → Bool
-is_complete (Answered status) = true
-is_complete outcome = false
 
 -- The outcome of an accept: its stream; None if the client closed the connection before it was accepted; any other
 -- error.

@@ -3,7 +3,7 @@
 ghost use Rattle.std.specs.Prelude.{◌≡◌, true};
 ghost use Rattle.thes_base.specs.Pipe.{IsFresh, KeepsSharedCallLimit};
 ghost use Rattle.thes_requests.specs.Script.{session, IsFreshSession};
-ghost use Rattle.thes_http.specs.Connection.{RequestOutcome, EndsAs};
+ghost use Rattle.thes_http.specs.Connection.{RequestOutcome, EndsAs, is_complete};
 
 use crate::act::act;
 use crate::response::{Response, Status};
@@ -30,6 +30,18 @@ pub enum ConnectionEnd {
     ReadFault,
     /// The writer failed, or no write was left in the budget, within the response.
     WriteFault,
+}
+
+impl ConnectionEnd {
+    /// Returns whether the response was written completely.
+    pub(crate) fn is_answered(self) -> bool
+        ensures { result ≡ is_complete self }
+    {
+        match self {
+            ConnectionEnd::Answered(_) => true,
+            ConnectionEnd::WriteFault | ConnectionEnd::Cut | ConnectionEnd::ReadFault => false,
+        }
+    }
 }
 
 // Returns the routes, with whether the service takes plans.

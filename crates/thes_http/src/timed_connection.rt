@@ -2,7 +2,7 @@
 //! the client still sends after the response.
 ghost use Rattle.std.specs.Prelude.{◌≡◌, ◌↔◌, ◌≤◌, true, IsTrue};
 ghost use Rattle.std.specs.Duration.{as_nanos};
-ghost use Rattle.thes_http.specs.Server.{IsServedBy, LeadsBy, is_complete, is_wait};
+ghost use Rattle.thes_http.specs.Server.{IsServedBy, LeadsBy, is_wait};
 
 use crate::connection::{ConnectionEnd, serve_one};
 use crate::deadline::TimedStream;
@@ -115,23 +115,13 @@ fn has_waited(kind: ErrorKind) -> bool
     )
 }
 
-// Returns whether the response was written completely.
-fn is_answered(end: ConnectionEnd) -> bool
-    ensures { result ≡ is_complete end }
-{
-    match end {
-        ConnectionEnd::Answered(_) => true,
-        ConnectionEnd::WriteFault | ConnectionEnd::Cut | ConnectionEnd::ReadFault => false,
-    }
-}
-
 /// Closes a connection; if the response was written, it first discards what the client still sends.
 pub(crate) fn close_stream<C: Clock, T: Read + OpenStream + Drop>(
     clock: &C,
     served: ServedStream<'_, C, T>,
 ) {
     // Else an early answer would be lost while the client still sends (DECISIONS.md, HTTP).
-    if is_answered(served.end) {
+    if served.end.is_answered() {
         drain_input(clock, served.reader.into_device().into_stream());
     }
 }

@@ -10,6 +10,7 @@ use std::io::{Read, Write};
 use thes_base::fault::{Fault, PipeFault, ReadStop};
 use thes_base::pipe::{Budget, Pipe};
 use thes_office::Office;
+use thes_posting_files::block::Block;
 use thes_posting_files::reading::open_rows;
 use thes_posting_files::report::{Counts, Report};
 use thes_posting_files::whole_input::read_whole;
@@ -97,8 +98,9 @@ fn import_bytes<W: Write, K: Keeper>(
         return Err(ImportStop::at_start(PipeFault::Fault(Fault::OutOfMemory)));
     };
     write_report(writer, budget, &mut report)?;
+    let mut block = Block::new(alloc);
     while reader.has_more {
-        let done = import_block(alloc, office, &mut reader, &mut report);
+        let done = import_block(alloc, office, &mut reader, &mut block, &mut report);
         // Written before the next block, so that a killed import has reported all blocks but one,
         // and before a fault of the office is returned, since a fault of the writer comes first
         // (DECISIONS.md, Posting files and The office).

@@ -6,16 +6,19 @@ ghost use Rattle.thes_import.specs.Imports.{CountsRowsRead, ImportsBlock};
 use std::alloc::Global;
 use thes_base::fault::Fault;
 use thes_office::Office;
+use thes_posting_files::block::Block;
 use thes_posting_files::reading::{RowReader, read_block};
 use thes_posting_files::report::Report;
 use thes_store::keeper::Keeper;
 
 /// Reads the next block of rows, performs them, and appends their outcomes to the report. On a
-/// fault, the report has the outcomes of the rows performed before it.
+/// fault, the report has the outcomes of the rows performed before it. The block's rows are
+/// replaced by those that were read, which take its memory.
 pub(crate) fn import_block<K: Keeper>(
     alloc: Global,
     office: &mut Office<K>,
     reader: &mut RowReader<'_>,
+    block: &mut Block,
     report: &mut Report,
 ) -> Result<(), Fault>
     requires some { reader.old.has_more ≡ true }
@@ -26,7 +29,7 @@ pub(crate) fn import_block<K: Keeper>(
 {
     // No effect; states for the proof that the tables encode a state.
     let _ = office.is_stale();
-    let block = read_block(alloc, reader)?;
+    read_block(alloc, reader, block)?;
     // Room for the lines is made before the posts, so that none is performed without its line.
     report.make_room(block.faults.len())?;
     let mut answers = Vec::new(alloc);

@@ -8,6 +8,7 @@ use crate::perform::import_block;
 use std::alloc::Global;
 use thes_base::fault::{Fault, ReadStop};
 use thes_office::Office;
+use thes_posting_files::block::Block;
 use thes_posting_files::reading::open_rows;
 use thes_posting_files::report::Report;
 use thes_store::keeper::Keeper;
@@ -37,8 +38,9 @@ pub fn import_postings<K: Keeper>(
     let Ok(mut report) = Report::new(alloc) else {
         return Err((Fault::OutOfMemory, Report::blank(alloc)));
     };
+    let mut block = Block::new(alloc);
     while reader.has_more {
-        if let Err(fault) = import_block(alloc, office, &mut reader, &mut report) {
+        if let Err(fault) = import_block(alloc, office, &mut reader, &mut block, &mut report) {
             return Err((fault, report));
         }
     }

@@ -27,6 +27,15 @@ impl Block {
         }
     }
 
+    /// Removes all rows, and keeps the memory for others.
+    pub fn clear(&mut self)
+        ensures posts { self.new.posts.items ≡ [] }
+        ensures faults { self.new.faults.items ≡ [] }
+    {
+        self.posts.clear();
+        self.faults.clear();
+    }
+
     /// Appends a row: its request, or its fault.
     pub fn push(&mut self, row: CsvRow) -> Result<(), AllocError>
         ensures posts { OnOk result

@@ -1,5 +1,5 @@
 //! Reads the rows of a posting file, block by block.
-ghost use Rattle.std.specs.Prelude.{◌≡◌, ◌↔◌, ◌++◌, [], ◌∷◌, true, IsTrue, IfErr, IfOk, List, ℕ};
+ghost use Rattle.std.specs.Prelude.{◌≡◌, ◌↔◌, ◌++◌, [], ◌∷◌, true, IsTrue, IfErr, IfOk, OnOk, List, ℕ};
 ghost use Rattle.csv.specs.Records.{fields_of};
 ghost use Rattle.thes_posting_files.specs.PostingFile.{IsFileReadStop, header};
 ghost use Rattle.thes_posting_files.specs.RecordReading.{TakesHeader};
@@ -104,14 +104,19 @@ fn next_row(alloc: Global, reader: &mut RowReader<'_>) -> Result<CsvRow, AllocEr
     Ok(row)
 }
 
-/// Reads the rows of the next block: up to 1,000, and at least one if any is left.
-pub fn read_block(alloc: Global, reader: &mut RowReader<'_>) -> Result<Block, AllocError>
-    ensures { IfOk result (ReadsBlock reader.old reader.new) }
+/// Reads the rows of the next block, in place of those that the block has: up to 1,000, and at
+/// least one if any is left.
+pub fn read_block(
+    alloc: Global,
+    reader: &mut RowReader<'_>,
+    block: &mut Block,
+) -> Result<(), AllocError>
+    ensures { OnOk result (ReadsBlock reader.old reader.new block.new) }
 {
-    let mut block = Block::new(alloc);
+    block.clear();
     while reader.has_more && block.faults.len() < BLOCK_ROWS {
         let row = next_row(alloc, reader)?;
         block.push(row)?;
     }
-    Ok(block)
+    Ok(())
 }

@@ -10,10 +10,9 @@ use Rattle.thes_plans.specs.References.{MakesFirst, MakesPosting, MakesResource}
 use Rattle.thes_plans.specs.declared.plan.PlanRequest.{PlanRequest}
 use Rattle.thes_requests.specs.Laws.{OnePlanReading, SameAsked, SamePlans, SameReading}
 use Rattle.thes_requests.specs.PlanReadings.{AreRequests, IsFirstMalformed, IsNoPlanRequest, IsPlanArray, IsPlanRequest}
-use Rattle.thes_requests.specs.PlanReadings.{IsPlanOfRequests, PlanValueReadsAs, first_name, keyword_in}
-use Rattle.thes_requests.specs.PlanReadings.{listed_references, plan_command_in, reference_at, second_name}
+use Rattle.thes_requests.specs.PlanReadings.{IsPlanOfRequests, PlanValueReadsAs, keyword_in, plan_command_in}
 use Rattle.thes_requests.specs.Readings.{ReadsAs}
-use Rattle.thes_requests.specs.References.{without_references}
+use Rattle.thes_requests.specs.References.{first_name, listed_references, reference_at, second_name, without_references}
 use Rattle.thes_requests.specs.Requests.{command_in}
 use Rattle.thes_requests.specs.declared.keywords.CommandKeyword.{CommandKeyword}
 use Rattle.thes_requests.specs.declared.plan.PlanFault.{PlanFault}

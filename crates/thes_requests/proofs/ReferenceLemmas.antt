@@ -12,9 +12,10 @@ use Rattle.std.proofs.lemmas.List.Folds.{list_all_at}
 use Rattle.serde_json.specs.Data.{Data, array, Items, item, Members, no_members, member, put}
 use Rattle.serde_json.specs.View.{items_of}
 use Rattle.thes_plans.specs.declared.plan.PlanRequest.{PlanRequest}
-use Rattle.thes_requests.specs.PlanReadings.{AreRequests, IsPlanArray, IsPlanRequest, item_references, request_limit}
-use Rattle.thes_requests.specs.References.{greatest_place, is_place, reference_in, without_reference, items_without_references}
-use Rattle.thes_requests.specs.References.{member_without_references, members_without_references}
+use Rattle.thes_requests.specs.PlanReadings.{AreRequests, IsPlanArray, IsPlanRequest, request_limit}
+use Rattle.thes_requests.specs.References.{greatest_place, is_place, item_references, items_without_references}
+use Rattle.thes_requests.specs.References.{member_without_references, members_without_references, reference_in}
+use Rattle.thes_requests.specs.References.{without_reference}
 use Rattle.thes_requests.specs.Tree.{view, items_view, members_view}
 use Rattle.thes_requests.specs.declared.tree.Value.{Value}
 use Rattle.thes_requests.proofs.TreeLemmas.{Entry, members_view-push}

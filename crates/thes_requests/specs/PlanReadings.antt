@@ -4,8 +4,8 @@
 use Rattle.std.specs.Prelude.{◌≡◌, ◌<◌, ◌≤◌, ◌+◌, ◌++◌, ℕ, Bool, true, false, List, [], ◌∷◌, length, codes, Option, None}
 use Rattle.std.specs.Prelude.{Some, option_and_then, Result, Ok, Err, Vec}
 use Rattle.std.specs.declared.alloc.Global.{Global}
-use Rattle.serde_json.specs.Data.{Data, array, Items, no_items, item}
-use Rattle.serde_json.specs.Find.{get, as_str, as_array}
+use Rattle.serde_json.specs.Data.{Data, array}
+use Rattle.serde_json.specs.Find.{get, as_str}
 use Rattle.serde_json.specs.View.{items_of}
 use Rattle.thes_base.specs.declared.fault.FormFault.{FormFault}
 use Rattle.thes_base.specs.declared.fault.FormFault.TheVariants.{NotJson, BadShape}
@@ -16,10 +16,9 @@ use Rattle.thes_plans.specs.References.{AreGoodReferences, IsFirstBadReference}
 use Rattle.thes_plans.specs.declared.plan.PlanRequest.{PlanRequest}
 use Rattle.thes_requests.specs.Keywords.{verb_named}
 use Rattle.thes_requests.specs.Readings.{RequestReading, ReadsAs, ◌>>=◌, present_or_bad_shape}
-use Rattle.thes_requests.specs.References.{reference_in, without_references}
+use Rattle.thes_requests.specs.References.{first_name, listed_references, reference_at, second_name, without_references}
 use Rattle.thes_requests.specs.Requests.{command_in, json_in}
 use Rattle.thes_requests.specs.declared.keywords.CommandKeyword.{CommandKeyword}
-use Rattle.thes_requests.specs.declared.keywords.CommandKeyword.TheVariants as does
 use Rattle.thes_requests.specs.declared.plan.PlanFault.{PlanFault}
 use Rattle.thes_requests.specs.declared.plan.PlanFault.TheVariants.{Whole, Request, Reference}
 use Rattle.thes_requests.specs.declared.plan.PlanStop.{PlanStop}
@@ -28,50 +27,6 @@ use Rattle.thes_requests.specs.declared.plan.PlanStop.TheVariants.{Bad, OutOfMem
 -- The greatest number of requests in a plan.
 abbrev pub request_limit : ℕ
 request_limit = 128
-
--- The name of the member that is the command's first number, if it has one.
-abbrev pub first_name : CommandKeyword → Option (List ℕ)
-first_name does.Scheme = None
-first_name does.Concept = Some (codes "scheme")
-first_name does.Collection = Some (codes "scheme")
-first_name does.Outside = None
-first_name does.AddLabel = Some (codes "owner")
-first_name does.DropLabel = Some (codes "owner")
-first_name does.Relabel = Some (codes "owner")
-first_name does.Link = Some (codes "a")
-first_name does.Unlink = Some (codes "a")
-first_name does.Deprecate = Some (codes "concept")
-first_name does.Merge = Some (codes "source")
-first_name does.Split = Some (codes "source")
-first_name does.Post = Some (codes "concept")
-first_name does.Withdraw = Some (codes "posting")
-
--- The name of the member that is the command's second number, if it has one.
-abbrev pub second_name : CommandKeyword → Option (List ℕ)
-second_name does.Link = Some (codes "b")
-second_name does.Unlink = Some (codes "b")
-second_name does.Merge = Some (codes "target")
-second_name _ = None
-
--- The place to which the member with this name refers, if there is a name and a reference.
-abbrev pub reference_at : Option (List ℕ) → Data → Option ℕ
-reference_at name d = option_and_then (λ n. option_and_then reference_in (get n d)) name
-
--- For each item, the place to which it refers, if it is a reference.
-abbrev pub item_references : Items → List (Option ℕ)
-item_references no_items = []
-item_references (item d ds) = reference_in d ∷ item_references ds
-
--- The references of the items of an array, or an empty list if there is no array.
-abbrev pub array_references : Option Items → List (Option ℕ)
-array_references None = []
-array_references (Some ds) = item_references ds
-
--- For each posting that a split lists, the place to which it refers, if it is a reference; an empty list for other
--- commands.
-abbrev pub listed_references : CommandKeyword → Data → List (Option ℕ)
-listed_references does.Split d = array_references (option_and_then as_array (get (codes "postings") d))
-listed_references _ d = []
 
 -- The command that the member `do` names, if there is one.
 abbrev pub keyword_in : Data → Option CommandKeyword

@@ -6,7 +6,9 @@ use Rattle.std.specs.List.{list_all}
 use Rattle.std.specs.Str.{bytes_eq}
 use Rattle.std.specs.Str.Parse.{digits_value}
 use Rattle.serde_json.specs.Data.{Data, number, unsigned, array, object, Items, no_items, item, Members, no_members, member}
-use Rattle.serde_json.specs.Find.{as_str}
+use Rattle.serde_json.specs.Find.{get, as_str, as_array}
+use Rattle.thes_requests.specs.declared.keywords.CommandKeyword.{CommandKeyword}
+use Rattle.thes_requests.specs.declared.keywords.CommandKeyword.TheVariants as does
 
 -- The greatest place that is kept: 2³² - 1, which is past every plan.
 abbrev pub greatest_place : ℕ
@@ -32,6 +34,50 @@ place_in (b ∷ digits) =
 -- The place to which a value refers, if it is a reference.
 abbrev pub reference_in : Data → Option ℕ
 reference_in d = option_and_then place_in (as_str d)
+
+-- The name of the member that is the command's first number, if it has one.
+abbrev pub first_name : CommandKeyword → Option (List ℕ)
+first_name does.Scheme = None
+first_name does.Concept = Some (codes "scheme")
+first_name does.Collection = Some (codes "scheme")
+first_name does.Outside = None
+first_name does.AddLabel = Some (codes "owner")
+first_name does.DropLabel = Some (codes "owner")
+first_name does.Relabel = Some (codes "owner")
+first_name does.Link = Some (codes "a")
+first_name does.Unlink = Some (codes "a")
+first_name does.Deprecate = Some (codes "concept")
+first_name does.Merge = Some (codes "source")
+first_name does.Split = Some (codes "source")
+first_name does.Post = Some (codes "concept")
+first_name does.Withdraw = Some (codes "posting")
+
+-- The name of the member that is the command's second number, if it has one.
+abbrev pub second_name : CommandKeyword → Option (List ℕ)
+second_name does.Link = Some (codes "b")
+second_name does.Unlink = Some (codes "b")
+second_name does.Merge = Some (codes "target")
+second_name _ = None
+
+-- The place to which the member with this name refers, if there is a name and a reference.
+abbrev pub reference_at : Option (List ℕ) → Data → Option ℕ
+reference_at name d = option_and_then (λ n. option_and_then reference_in (get n d)) name
+
+-- For each item, the place to which it refers, if it is a reference.
+abbrev pub item_references : Items → List (Option ℕ)
+item_references no_items = []
+item_references (item d ds) = reference_in d ∷ item_references ds
+
+-- The references of the items of an array, or an empty list if there is no array.
+abbrev pub array_references : Option Items → List (Option ℕ)
+array_references None = []
+array_references (Some ds) = item_references ds
+
+-- For each posting that a split lists, the place to which it refers, if it is a reference; an empty list for other
+-- commands.
+abbrev pub listed_references : CommandKeyword → Data → List (Option ℕ)
+listed_references does.Split d = array_references (option_and_then as_array (get (codes "postings") d))
+listed_references _ d = []
 
 -- 1 if there is a reference, else the value.
 abbrev pub one_or : Data → Option ℕ → Data

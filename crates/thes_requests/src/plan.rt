@@ -1,14 +1,15 @@
 //! Reads a plan from JSON: an array of requests, in which numbers may be references.
-ghost use Rattle.std.specs.Prelude.{◌≡◌, ◌≤◌, codes, length, map, option_and_then, option_map, IfOk};
+ghost use Rattle.std.specs.Prelude.{◌≡◌, ◌≤◌, length, map};
 ghost use Rattle.serde_json.specs.Data.{Data, array};
-ghost use Rattle.serde_json.specs.Find.{as_array, get};
 ghost use Rattle.thes_requests.specs.PlanReadings as plan;
 ghost use Rattle.thes_requests.specs.PlanReadings.{GivesPlan, GivesPlanRequest, IsPlanOfRequests, PlanReadsAs, PlanValueReadsAs, RequestsReadAs};
 ghost use Rattle.thes_requests.specs.Tree.{view, items_view};
 
 use crate::keywords::CommandKeyword;
 use crate::members::{BAD_SHAPE, command_keyword_at};
-use crate::references::{reference_in, without_references};
+use crate::references::{
+    first_name, listed_references, reference_at, second_name, without_references,
+};
 use crate::request::{RequestScratch, command_in, json_in};
 use crate::tree::Value;
 use std::alloc::{AllocError, Global};
@@ -58,82 +59,6 @@ impl From<PlanFault> for PlanStop {
     fn from(fault: PlanFault) -> PlanStop {
         PlanStop::Bad(fault)
     }
-}
-
-// Returns the name of the member that is the command's first number, if it has one.
-fn first_name(verb: CommandKeyword) -> Option<&'static str>
-    ensures { option_map (λ s. s.now) result ≡ plan.first_name verb }
-{
-    match verb {
-        CommandKeyword::Concept | CommandKeyword::Collection => Some("scheme"),
-        CommandKeyword::AddLabel | CommandKeyword::DropLabel | CommandKeyword::Relabel => {
-            Some("owner")
-        }
-        CommandKeyword::Link | CommandKeyword::Unlink => Some("a"),
-        CommandKeyword::Deprecate | CommandKeyword::Post => Some("concept"),
-        CommandKeyword::Merge | CommandKeyword::Split => Some("source"),
-        CommandKeyword::Withdraw => Some("posting"),
-        CommandKeyword::Scheme | CommandKeyword::Outside => None,
-    }
-}
-
-// Returns the name of the member that is the command's second number, if it has one.
-fn second_name(verb: CommandKeyword) -> Option<&'static str>
-    ensures { option_map (λ s. s.now) result ≡ plan.second_name verb }
-{
-    match verb {
-        CommandKeyword::Link | CommandKeyword::Unlink => Some("b"),
-        CommandKeyword::Merge => Some("target"),
-        _ => None,
-    }
-}
-
-// Returns the place to which the member with this name refers, or `None` without a name or a
-// reference.
-fn reference_at(name: Option<&str>, value: &Value<'_>) -> Option<u32>
-    ensures { result ≡ plan.reference_at (option_map (λ s. s.now) name.entry) (view value.now) }
-{
-    reference_in(value.get(name?)?)
-}
-
-// Returns, for each posting that a split lists, the place to which it refers, or `None` if it is no
-// reference; an empty list for other commands.
-fn listed_references(
-    alloc: Global,
-    verb: CommandKeyword,
-    value: &Value<'_>,
-) -> Result<Vec<Option<u32>>, AllocError>
-    ensures { IfOk result (λ v. v.items ≡ plan.listed_references verb (view value.now)) }
-{
-    match verb {
-        CommandKeyword::Split => posting_references(alloc, value),
-        _ => Ok(Vec::new(alloc)),
-    }
-}
-
-// Returns, for each item of the member `postings`, the place to which it refers, if it is a
-// reference; an empty list if the member is no array.
-fn posting_references(alloc: Global, value: &Value<'_>) -> Result<Vec<Option<u32>>, AllocError>
-    ensures { IfOk result (λ v. v.items
-        ≡ plan.array_references
-        (option_and_then as_array (get (codes "postings") (view value.now)))) }
-{
-    match value.get("postings").and_then(Value::as_array) {
-        Some(items) => references_in(alloc, items),
-        None => Ok(Vec::new(alloc)),
-    }
-}
-
-// Returns, for each item of a JSON array, the place to which it refers, if it is a reference.
-#[tactic(auto, using(crate::proofs::ReferenceLemmas::references_next))]
-fn references_in(alloc: Global, items: &[Value<'_>]) -> Result<Vec<Option<u32>>, AllocError>
-    ensures { IfOk result (λ v. v.items ≡ plan.item_references (items_view items.now)) }
-{
-    let mut found = Vec::new(alloc);
-    for item in items {
-        found.push(reference_in(item))?;
-    }
-    Ok(found)
 }
 
 // Reads a request of a plan: a command, in which each number may be a reference.

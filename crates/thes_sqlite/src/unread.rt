@@ -27,6 +27,9 @@ const TABLE: usize = 3;
 
 const TEXT: usize = 5;
 
+// The size of the largest file that is copied, in bytes: a name isn't worth more memory.
+const MOST_COPIED: u64 = 268_435_456;
+
 // Returns a row of the schema without the column of its root page, as the library reads rows.
 fn without_root(alloc: Global, row: &Row) -> Result<Row, AllocError> {
     let mut unrooted = Row::new(alloc);
@@ -105,10 +108,14 @@ fn first_unread(alloc: Global, rows: &[Row]) -> Result<Option<String>, AllocErro
     Ok(None)
 }
 
-// Returns a copy of a file in memory; None if it can't be read, or memory runs out.
+// Returns a copy of a file in memory; None if it is too large or can't be read, or memory runs out.
 fn copy_of(rt: &HostRuntime, path: &str) -> Option<Memory>
     ensures { IfSome result (λ copy. IsTrue (memory_is_usable copy)) }
 {
+    match fs::metadata(rt, path) {
+        Ok(found) if found.len() <= MOST_COPIED => {}
+        _ => return None,
+    }
     let Ok(bytes) = fs::read(rt, path) else {
         return None;
     };

@@ -24,6 +24,7 @@ returns g c =
           c.work_over_keeper-status.new.given.streams) c.new-keeper.ensures c.work_over_keeper-status.ensures;
       back_is = c.leave.ensures.first;
       returns = c.leave.ensures.returns;
+      loses = c.leave.ensures.lost;
       certain = c.leave.ensures.certain;
       doubt = c.leave.ensures.doubt;
     }

@@ -10,7 +10,7 @@ use Rattle.thes_import.proofs.perform.import_block.Goals as goal
 
 pub returns-clause-imports : goal.returns-clause-imports
 returns-clause-imports g c =
-    let read = c.in_ok-block.ensures in
+    let read = c.in_ok-read_block.ensures in
     let rows = read.rows in
     let posts : c.as_slice.result.now ≡ posts_of rows = c.as_slice.ensures.value ∙ read.posts in
     let faults : c.as_slice-2.result.now ≡ map fault_of_row rows = c.as_slice-2.ensures.value ∙ read.faults in
@@ -31,8 +31,8 @@ returns-clause-imports g c =
     c.make_room.new.self c.push_outcomes.new.self c.make_room.ensures.text c.make_room.ensures.counts
     c.push_outcomes.ensures))
 
-pub returns-in_err-block-clause-imports : goal.returns-in_err-block-clause-imports
-returns-in_err-block-clause-imports g c =
+pub returns-in_err-read_block-clause-imports : goal.returns-in_err-read_block-clause-imports
+returns-in_err-read_block-clause-imports g c =
     block_unread g.K.Keeper.view c.args.office.now c.args.reader.now c.read_block.new.reader c.args.report.now
     c.args.report.now c.from_residual.result OutOfMemory (search rules) c.is_stale.ensures.shows c.requires.some refl
     refl
@@ -45,7 +45,7 @@ returns-in_err-make_room-clause-imports g c =
 
 pub push_outcomes-requires-clause-fits : goal.push_outcomes-requires-clause-fits
 push_outcomes-requires-clause-fits g c =
-    let read = c.in_ok-block.ensures in
+    let read = c.in_ok-read_block.ensures in
     let rows = read.rows in
     let faults : c.as_slice-2.result.now ≡ map fault_of_row rows = c.as_slice-2.ensures.value ∙ read.faults in
     let as_many = length-map rows fault_of_row in

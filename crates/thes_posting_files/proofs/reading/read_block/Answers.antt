@@ -14,8 +14,8 @@ loop-reader-init c = record {
       (sym (append-nil first)) h;
   begun = λ none i. c.args.reader.now.has_more;
   few = omega arith;
-  posts = c.new-block.ensures.posts;
-  faults = c.new-block.ensures.faults;
+  posts = c.clear.ensures.posts;
+  faults = c.clear.ensures.faults;
 }
 
 pub loop-reader-preserved : goal.loop-reader-preserved

@@ -14,9 +14,9 @@ use Rattle.thes_display.specs.EntryTerms.{HasNoTypedLink}
 use Rattle.thes_display.specs.Hierarchical.{HasRank, IsNarrowerTerm}
 use Rattle.thes_display.specs.HierarchyParts.{AreRanks, IsChild, rank_at}
 use Rattle.thes_display.proofs.RankLemmas.{rank_of_term}
-use Rattle.thes_display.proofs.GatherLemmas.{one_concept, rank_within}
+use Rattle.thes_display.proofs.HierarchyLemmas.{one_concept, rank_within}
 use Rattle.thes_display.proofs.ChildLemmas.{AreChildren, children_none, children_more, children_listed, broader_at}
-use Rattle.thes_display.proofs.gather.children_of.Goals as goal
+use Rattle.thes_display.proofs.hierarchy.children_of.Goals as goal
 
 -- The ranks found are those of the narrower concepts.
 module _ (links : Links) (terms : List Term) (rank : ℕ) (ranks : ℕ → Option ℕ) (are : AreRanks terms ranks)

@@ -4,7 +4,7 @@ use Rattle.thes_core.specs.CoreView.{with_histories}
 use Rattle.thes_display.specs.Hierarchical.{AreTerms}
 use Rattle.thes_display.proofs.TermLemmas.{terms_are}
 use Rattle.thes_display.proofs.SchemeRankLemmas.{one_rank, scheme_is_closed}
-use Rattle.thes_display.proofs.gather.terms_of.Goals as goal
+use Rattle.thes_display.proofs.hierarchy.terms_of.Goals as goal
 
 pub returns : goal.returns
 returns c =

@@ -1,7 +1,7 @@
 use Rattle.std.proofs.Common.{sym, subst}
 use Rattle.thes_display.specs.Hierarchical.{AreTypes}
 use Rattle.thes_display.proofs.SideLemmas.{untyped_at}
-use Rattle.thes_display.proofs.gather.types_at.Goals as goal
+use Rattle.thes_display.proofs.hierarchy.types_at.Goals as goal
 
 pub returns-then-not-is_typed : goal.returns-then-not-is_typed
 returns-then-not-is_typed c =

@@ -1,5 +1,5 @@
 use Rattle.std.proofs.Common.{refl}
-use Rattle.thes_cli.proofs.stores.close_left.Goals as goal
+use Rattle.thes_cli.proofs.closing.close_left.Goals as goal
 
 pub returns : goal.returns
 returns g c = record { is_reopened = refl; is_in_doubt = refl; files = c.close.ensures }

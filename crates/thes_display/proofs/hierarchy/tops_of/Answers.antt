@@ -3,8 +3,8 @@ use Rattle.thes_base.specs.Listing.{IsListing}
 use Rattle.thes_display.specs.ChildLists.{child, child_cmp}
 use Rattle.thes_display.specs.HierarchyParts.{IsTopByHomes}
 use Rattle.thes_display.proofs.TopLemmas.{tops_none, tops_more, tops_same}
-use Rattle.thes_display.proofs.gather.tops_of.Goals as goal
-use Rattle.thes_display.proofs.gather.tops_of.Goals.{then-is_homeless+in_ok-push, else-is_homeless}
+use Rattle.thes_display.proofs.hierarchy.tops_of.Goals as goal
+use Rattle.thes_display.proofs.hierarchy.tops_of.Goals.{then-is_homeless+in_ok-push, else-is_homeless}
 
 pub loop-rank-init : goal.loop-rank-init
 loop-rank-init c = tops_none c.args.homes.now _ c.new-tops.ensures.items

@@ -3,8 +3,8 @@ use Rattle.std.proofs.lemmas.List.{take_more}
 use Rattle.thes_display.specs.declared.walk.Child.{Child}
 use Rattle.thes_display.specs.HierarchyParts.{AreHomesSet, rank_at}
 use Rattle.thes_display.proofs.HomeLemmas.{home_kept, home_set, homes_start}
-use Rattle.thes_display.proofs.gather.set_homes.Goals as goal
-use Rattle.thes_display.proofs.gather.set_homes.Goals.{then-child+in_ok-set_rank, else-child}
+use Rattle.thes_display.proofs.hierarchy.set_homes.Goals as goal
+use Rattle.thes_display.proofs.hierarchy.set_homes.Goals.{then-child+in_ok-set_rank, else-child}
 
 pub loop-child-init : goal.loop-child-init
 loop-child-init c = homes_start c.args.rank c.args.homes.now.items
