@@ -51,9 +51,8 @@ pub data EndsInFiles {E : Type 0} (err : E → Option (List ℕ)) (image : Image
   without_work : PrintsStartFault err old new status → (HoldsStore image schema t → holds schema t)
       → EndsInFiles err image job old new status holds schema t
 
--- If no failure has shut the database of a job, and its files are clean now (nobody else wrote them, and the disk
--- returned what was written), they end as `EndsInFiles` says of the store with which its work began: the one that the
--- files held, or, in new files, an empty one with the job's base.
+-- If no failure has shut the database of a job, and its files are clean now, they end as `EndsInFiles` says of the
+-- store with which its work began: theirs, or an empty one in new files.
 abbrev pub LeadsIfClosed : {E C : Type 0} → (E → Option (List ℕ)) → Image → (C → Type 0)
     → (C → Schema → Tables → Type 0) → Result Job EarlyExit → Pipe E → Pipe E → ℕ → Closed C → Type 0
 LeadsIfClosed err image is_clean holds planned old new status closed =

@@ -1,5 +1,5 @@
-//! Mappings and typed hierarchical links as seen from one of their ends, in the order in which views
-//! list them: by the name of the kind, then by the other end.
+//! Mappings and typed hierarchical links as seen from one of their ends, in the order in which
+//! views list them: by the name of the kind, then by the other end.
 ghost use Rattle.std.specs.Prelude.{◌≡◌, OnOk};
 ghost use Rattle.std.specs.BTreeSet.{insert_key};
 ghost use Rattle.std.specs.List.Sorted.{IsStrictlySortedBy};

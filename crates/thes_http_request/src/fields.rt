@@ -20,8 +20,8 @@ pub fn has_field(bytes: &[u8], headers: &[HeaderSpan], name: &[u8]) -> bool
 }
 
 /// Returns the length of the body in bytes: that of `Content-Length`, or 0 if `limit` is `None`,
-/// since then no body is read. `NoLength` if the field is missing, `BadHead` if there are several or
-/// its value isn't a number, and `TooLong` if it exceeds the limit.
+/// since then no body is read. `NoLength` if the field is missing, `BadHead` if there are several
+/// or its value isn't a number, and `TooLong` if it exceeds the limit.
 pub fn body_length(bytes: &[u8], headers: &[HeaderSpan], limit: Option<u32>) -> Result<u32, Problem>
     requires { All (IsHeaderWithin (length bytes.now)) headers.now }
     ensures { result ≡ body_length limit (map (header_bytes bytes.now) headers.now) }

@@ -1,7 +1,7 @@
 //! Checks links against the rules Cycle, S27 and S46: those after an edit, or those held, if only
 //! links at one node, the pivot, may break a rule. A check reads only links near the edit or the
-//! pivot. Two searches, for broader and for narrower concepts, decide Cycle and S27; one along exact
-//! matches decides S46.
+//! pivot. Two searches, for broader and for narrower concepts, decide Cycle and S27; one along
+//! exact matches decides S46.
 ghost use Rattle.std.specs.Prelude.{◌≡◌, ◌+◌, ◌*◌, ◌≤◌, List, Contains, OnOk, IfOk, length};
 ghost use Rattle.thes_base.specs.declared.data.Link.{Link};
 ghost use Rattle.thes_base.specs.Links.{Holds, normal_form, links_after_merge, IsFirstBroken};
