@@ -10,7 +10,7 @@ ghost use Rattle.thes_cli.specs.Streams.{AreFresh};
 use crate::closing::{Closed, close_open};
 use crate::stores::{work_in_database, work_in_memory};
 use crate::streams::{Console, Devices, Given, SystemDevices};
-use sqlite::{Connection, FileFrom, FileStore, Leftover, Start};
+use sqlite::{Connection, FileFrom, FileStore, Start};
 use sqlite_disk::{Disk, Files};
 use sqlite_trees::store::Store;
 use std::fs::File;
@@ -121,7 +121,7 @@ pub fn run_in_files<'r, C: Console, S: Start + ReopenedImage>(
 ) -> (
     u8,
     Closed<Option<Files<FileFrom<S>>>>,
-    Option<Leftover<FileFrom<S>>>,
+    Option<Files<FileFrom<S>>>,
 )
     requires { AreFresh given.old.streams }
     ensures runs { RunsPlan ⟦<File as Read>⟧.remaining C.Input.remaining C.Output.contents

@@ -7,7 +7,7 @@ ghost use Rattle.thes_sqlite.specs.declared.cause.Cause.{Cause};
 ghost use Rattle.thes_jobs.specs.Databases.{ClosesIfOpen, OpensFrom};
 
 use crate::store_files::{ReopenedImage, StoreFiles, close_database_files, open_database_files};
-use sqlite::{Alter, Connection, FileFrom, FileStore, Leftover, Start};
+use sqlite::{Alter, Connection, FileFrom, FileStore, Start};
 use sqlite_disk::{Disk, Files};
 use std::marker::PhantomData;
 use thes_base::fault::Fault;
@@ -93,7 +93,7 @@ impl<'r, S: Start + ReopenedImage> Databases for FileDatabases<'r, S> {
 
     type Left = Option<Files<FileFrom<S>>>;
 
-    type Unopened = Leftover<FileFrom<S>>;
+    type Unopened = Files<FileFrom<S>>;
 
     type Image = S;
 
@@ -109,7 +109,7 @@ impl<'r, S: Start + ReopenedImage> Databases for FileDatabases<'r, S> {
         &self,
         image: S,
         file: &str,
-    ) -> Result<Connection<FileStore<FileFrom<S>>>, (Cause, Option<Leftover<FileFrom<S>>>)> {
+    ) -> Result<Connection<FileStore<FileFrom<S>>>, (Cause, Option<Files<FileFrom<S>>>)> {
         open_database_files(self.rt, image, file)
     }
 
