@@ -54,8 +54,8 @@ of_closed {A} {C} (Some a) None Closes P Q so is closes = tt
 of_closed {A} {C} (Some a) (Some f) Closes P Q so is closes = so a f is closes
 
 module _ {S : Type 0} (g : Ghosts S) (image : Image) {E C : Type 0} (err : E → Option (List ℕ))
-    (is_clean : C → Type 0) (holds : C → Schema → Tables → Type 0) {U : Type 0}
-    (keeps : Cause → Option U → Type 0) where
+    (is_clean : C → Type 0) (holds : C → Schema → Tables → Type 0)
+    (keeps : Cause → C → Type 0) where
   -- A job leaves nothing in files if it has none.
   pub leads_without_files : (planned : Result Job EarlyExit) (old new : Pipe E) (status : ℕ) (closed : Closed C)
       → LeavesNoFiles closed → LeadsIfClosed err image is_clean holds planned old new status closed
@@ -68,7 +68,7 @@ module _ {S : Type 0} (g : Ghosts S) (image : Image) {E C : Type 0} (err : E →
 
   -- The reason why work couldn't begin is printed.
   prints_fault : {R W : Type 0} (out : W → Option (List ℕ)) (old new : Streams R W E) (status : ℕ) (job : Job)
-      (failure : StartFailure) (conn : Option (Held S)) (rest : Option U)
+      (failure : StartFailure) (conn : Option (Held S)) (rest : Option C)
       → IsOpenFailure g image keeps job failure conn rest
       → ReportsNoJob out err g old status new failure → PrintsStartFault err old.errors new.errors status
   prints_fault out old new status job (failures.EarlyExit early_exit) conn rest failed reports = absurd failed
@@ -87,10 +87,10 @@ module _ {S : Type 0} (g : Ghosts S) (image : Image) {E C : Type 0} (err : E →
 
   -- Files of a job whose work couldn't begin hold the store that they held.
   pub leads_without_work : {R W : Type 0} (O : Type 0) (out : W → Option (List ℕ)) (planned : Result Job EarlyExit)
-      (old new : Streams R W E) (status : ℕ) (failed : FailedStart S U) (closed : Closed C)
+      (old new : Streams R W E) (status : ℕ) (failed : FailedStart S C) (closed : Closed C)
       → OpensPlan g image keeps {O = O} planned (Err failed) → ServesIfOpen g image failed.conn
       → ReportsNoJob out err g old status new failed.failure
-      → ClosesLeft g is_clean holds (open_leaving failed.conn) closed
+      → ClosesLeft g is_clean holds (open_leaving failed.conn) failed.rest closed
       → LeadsIfClosed err image is_clean holds planned old.errors new.errors status closed
   leads_without_work O out (Err early_exit) old new status failed closed opens serves reports closes = tt
   leads_without_work O out (Ok job) old new status failed closed opens serves reports closes = λ kept.

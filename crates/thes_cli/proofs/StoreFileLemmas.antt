@@ -166,7 +166,7 @@ module _ {S : Type 0} (g : Ghosts S) where
           }
 
       -- Work over the store of files, and the closing of its database, leave the store in the files.
-      pub works_to_closing : (closed : Closed C) → ClosesLeft g is_clean holds left closed
+      pub works_to_closing : (closed : Closed C) → ClosesLeft g is_clean holds left None closed
           → WorksToClosing given remaining out err g image is_clean holds job old status closed new
       works_to_closing closed closes = record {
         leaving = left;

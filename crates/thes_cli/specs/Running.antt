@@ -21,7 +21,7 @@ use Rattle.thes_command_line.specs.declared.printing.OpenFailure.{OpenFailure}
 use Rattle.thes_command_line.specs.declared.start_failure.StartFailure.{StartFailure}
 use Rattle.thes_command_line.specs.declared.trouble.StoreTrouble.{StoreTrouble}
 use Rattle.thes_jobs.specs.Migrating.{MigratesDatabase, version_line}
-use Rattle.thes_jobs.specs.Starting.{IsReadyJob, OpensPlan, unopened_of}
+use Rattle.thes_jobs.specs.Starting.{IsReadyJob, OpensPlan}
 use Rattle.thes_jobs.specs.declared.starting.FailedStart.{FailedStart}
 use Rattle.thes_jobs.specs.declared.starting.OpenJob.{OpenJob}
 use Rattle.thes_jobs.specs.declared.starting.OpenJob.TheVariants.{InFile, InMemory, Migration, Version}
@@ -31,7 +31,7 @@ use Rattle.thes_cli.specs.declared.streams.Streams.{Streams}
 
 -- Nothing is left of a store's files, no request is in doubt, and no failure has shut a database.
 abbrev pub LeavesNoFiles : {C : Type 0} → Closed C → Type 0
-LeavesNoFiles closed = closed ≡ record { files = None; is_in_doubt = false; is_reopened = false }
+LeavesNoFiles closed = closed ≡ record { files = None; rest = None; is_in_doubt = false; is_reopened = false }
 
 -- The fault of a posting file, a socket or a store that kept work from beginning is printed, and the status is 3.
 pub record PrintsStartFault {E : Type 0} (err : E → Option (List ℕ)) (old new : Pipe E) (status : ℕ) : Type 0 where
@@ -67,7 +67,7 @@ module _ {R W E S : Type 0} (out : W → Option (List ℕ)) (err : E → Option 
       (file : String Global) (conn : Held S) (closed : Closed C) : Type 0 where
     pub input : new.input ≡ old.input
     pub conn_after : Held S
-    pub closes_it : ClosesLeft store is_clean holds (open_leaving (Some conn_after)) closed
+    pub closes_it : ClosesLeft store is_clean holds (open_leaving (Some conn_after)) None closed
     pub migrates : MigratesDatabase out err old.output new.output old.errors new.errors store (string_bytes file) conn
         status conn_after
 
@@ -81,12 +81,12 @@ module _ {R W E S : Type 0} (out : W → Option (List ℕ)) (err : E → Option 
     pub input : new.input ≡ old.input
     pub prints_it : PrintsText out err old.output new.output old.errors new.errors version_line status
 
-module _ {R W E S C U : Type 0} (given : File → Option (List ℕ)) (remaining : R → Option (List ℕ))
+module _ {R W E S C : Type 0} (given : File → Option (List ℕ)) (remaining : R → Option (List ℕ))
     (out : W → Option (List ℕ)) (err : E → Option (List ℕ)) (store : Ghosts S) (image : Image) (is_clean : C → Type 0)
-    (holds : C → Schema → Tables → Type 0) (keeps : Cause → Option U → Type 0) where
+    (holds : C → Schema → Tables → Type 0) (keeps : Cause → C → Type 0) where
   -- The work of the job that was opened was done and its store closed, or the reason why none was opened is reported,
   -- and the database was closed if that was opened.
-  abbrev pub DoesOpened : {O : Type 0} → Result (OpenJob S O) (FailedStart S U) → Streams R W E → ℕ → Closed C
+  abbrev pub DoesOpened : {O : Type 0} → Result (OpenJob S O) (FailedStart S C) → Streams R W E → ℕ → Closed C
       → Streams R W E → Type 0
   DoesOpened (Ok (InFile work)) old status closed new =
       WorksToClosing given remaining out err store image is_clean holds work old status closed new
@@ -97,15 +97,13 @@ module _ {R W E S C U : Type 0} (given : File → Option (List ℕ)) (remaining 
   DoesOpened (Ok Version) old status closed new = PrintsVersion out err store old status new × LeavesNoFiles closed
   DoesOpened (Err failed) old status closed new =
       ReportsNoJob out err store old status new failed.failure
-      × ClosesLeft store is_clean holds (open_leaving failed.conn) closed
+      × ClosesLeft store is_clean holds (open_leaving failed.conn) failed.rest closed
 
   -- The job of a command line was opened as the command line says, and done. The database of work over a store is the
-  -- one that was opened in files with these contents. If these files were opened, and their database couldn't be, what
-  -- is left of them keeps what they held.
+  -- one that was opened in files with these contents. If it couldn't be opened, what is left of them keeps what they held.
   pub record RunsPlan (O : Type 0) (planned : Result Job EarlyExit) (old : Streams R W E) (status : ℕ)
-      (closed : Closed C) (unopened : Option U) (new : Streams R W E) : Type 0 where
-    pub open_job : Result (OpenJob S O) (FailedStart S U)
+      (closed : Closed C) (new : Streams R W E) : Type 0 where
+    pub open_job : Result (OpenJob S O) (FailedStart S C)
     pub opens_it : OpensPlan store image keeps planned open_job
     pub ready : IfOk open_job (IsReadyJob store image)
     pub does : DoesOpened open_job old status closed new
-    pub leaves : unopened ≡ unopened_of open_job

@@ -79,12 +79,13 @@ abbrev pub open_leaving : {S : Type 0} → Option (Held S) → Leaving S
 open_leaving conn = record { conn = conn; is_in_doubt = false; is_reopened = false }
 
 module _ {S : Type 0} (store : Ghosts S) where
-  -- The database was closed, if there is one.
+  -- The database was closed, if there is one. `rest` is what an opening that failed has left.
   pub record ClosesLeft {C : Type 0} (is_clean : C → Type 0) (holds : C → Schema → Tables → Type 0)
-      (left : Leaving S) (closed : Closed C) : Type 0 where
+      (left : Leaving S) (rest : Option C) (closed : Closed C) : Type 0 where
     pub is_reopened : closed.is_reopened ≡ left.is_reopened
     pub is_in_doubt : closed.is_in_doubt ≡ left.is_in_doubt
     pub files : ClosesIfOpen store is_clean holds left.conn closed.files
+    pub rest_is : closed.rest ≡ rest
 
   -- The storage was up to the end of the work, so that all promises of the work hold. The files hold the tables that it
   -- then had; if an office was opened, a run of the machine leads to these from the tables with which the work began,
@@ -142,7 +143,7 @@ module _ {F R W E : Type 0} (given : F → Option (List ℕ)) (remaining : R →
         (closed : Closed C) (new : Streams R W E) : Type 0 where
       pub leaving : Leaving S
       pub works : WorksInDatabase image job old status leaving new
-      pub closes : ClosesLeft store is_clean holds leaving closed
+      pub closes : ClosesLeft store is_clean holds leaving None closed
       -- A request is in doubt only if a failure has shut the database.
       pub certain : closed.is_reopened ≡ false → closed.is_in_doubt ≡ false
       pub leaves : EndsIfClosed image job.setting.base is_clean closed (λ files schema t.

@@ -83,7 +83,7 @@ fn main(rt: HostRuntime) -> ExitCode {
             connections: ConnectionCount::new(),
         },
     };
-    let (status, closed, _) = run_in_files(&mut given, Unknown, planned);
+    let (status, closed) = run_in_files(&mut given, Unknown, planned);
     let Given {
         alloc: _,
         system: _,

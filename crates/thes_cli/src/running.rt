@@ -10,7 +10,7 @@ ghost use Rattle.thes_cli.specs.Streams.{AreFresh};
 use crate::closing::{Closed, close_open};
 use crate::stores::{work_in_database, work_in_memory};
 use crate::streams::{Console, Devices, Given, SystemDevices};
-use sqlite::{Connection, FileFrom, FileStore, Leftover, Start};
+use sqlite::{Connection, FileFrom, FileStore, Start};
 use sqlite_disk::{Disk, Files};
 use sqlite_trees::store::Store;
 use std::fs::File;
@@ -38,22 +38,21 @@ fn migrate<T: Devices, D: Databases>(
 {
     let (output, errors) = (&mut given.streams.output, &mut given.streams.errors);
     let (status, conn) = migrate_in_database(given.alloc, file.as_str(), conn, output, errors);
-    (status, close_open(databases, Some(conn)))
+    (status, close_open(databases, Some(conn), None))
 }
 
 // Reports why no job was opened, and closes the database of its store if that was opened. Returns
-// the exit status with what is left of the files, after closing and after an opening that failed.
+// the exit status with what is left of the files.
 fn report_no_job<T: Devices, D: Databases>(
     given: &mut Given<'_, T>,
     databases: &D,
-    failed: FailedStart<D::Engine, D::Unopened>,
-) -> (u8, Closed<D::Left>, Option<D::Unopened>)
+    failed: FailedStart<D::Engine, D::Left>,
+) -> (u8, Closed<D::Left>)
     requires { AreFresh given.old.streams }
     ensures reports { ReportsNoJob T.Output.contents T.Errors.contents D.Engine.Store
         given.old.streams result.0 given.new.streams failed.failure }
     ensures closes { ClosesLeft D.Engine.Store D.is_clean D.holds (open_leaving failed.conn)
-        result.1 }
-    ensures leaves { result.2 ≡ failed.rest }
+        failed.rest result.1 }
 {
     let FailedStart {
         failure,
@@ -62,7 +61,7 @@ fn report_no_job<T: Devices, D: Databases>(
     } = failed;
     let (output, errors) = (&mut given.streams.output, &mut given.streams.errors);
     let status = report_start_failure(output, errors, &failure);
-    (status, close_open(databases, conn), rest)
+    (status, close_open(databases, conn, rest))
 }
 
 // Returns what a job without a store in files leaves.
@@ -71,39 +70,34 @@ fn without_files<L>() -> Closed<L>
 {
     Closed {
         files: None,
+        rest: None,
         is_in_doubt: false,
         is_reopened: false,
     }
 }
 
 // Opens the store of a job, does its work, and closes it. Returns the exit status with what is left
-// of the store's files, if they were opened: after closing, or after an opening that failed.
+// of the store's files, if they were opened.
 fn run_job<'r, C: Console, D: Databases>(
     given: &mut Given<'r, SystemDevices<'r, C>>,
     databases: &D,
     image: D::Image,
     planned: Result<Job, EarlyExit>,
-) -> (u8, Closed<D::Left>, Option<D::Unopened>)
+) -> (u8, Closed<D::Left>)
     requires { AreFresh given.old.streams }
     ensures runs { RunsPlan ⟦<File as Read>⟧.remaining C.Input.remaining C.Output.contents
         C.Errors.contents D.Engine.Store D.Opener.image D.is_clean D.holds D.keeps D.Opener planned
-        given.old.streams result.0 result.1 result.2 given.new.streams }
+        given.old.streams result.0 result.1 given.new.streams }
     ensures leads { LeadsIfClosed C.Errors.contents D.Opener.image D.is_clean D.holds planned
         given.old.streams.errors given.new.streams.errors result.0 result.1 }
 {
     match open_job(given.system, databases, image, planned) {
-        Ok(OpenJob::InFile(job)) => {
-            let (status, closed) = work_in_database(given, databases, job);
-            (status, closed, None)
-        }
-        Ok(OpenJob::InMemory(job)) => (work_in_memory(given, job), without_files(), None),
-        Ok(OpenJob::Migration(file, conn)) => {
-            let (status, closed) = migrate(given, databases, file, conn);
-            (status, closed, None)
-        }
+        Ok(OpenJob::InFile(job)) => work_in_database(given, databases, job),
+        Ok(OpenJob::InMemory(job)) => (work_in_memory(given, job), without_files()),
+        Ok(OpenJob::Migration(file, conn)) => migrate(given, databases, file, conn),
         Ok(OpenJob::Version) => {
             let (output, errors) = (&mut given.streams.output, &mut given.streams.errors);
-            (print_version(output, errors), without_files(), None)
+            (print_version(output, errors), without_files())
         }
         Err(failed) => report_no_job(given, databases, failed),
     }
@@ -118,17 +112,13 @@ pub fn run_in_files<'r, C: Console, S: Start + ReopenedImage>(
     given: &mut Given<'r, SystemDevices<'r, C>>,
     image: S,
     planned: Result<Job, EarlyExit>,
-) -> (
-    u8,
-    Closed<Option<Files<FileFrom<S>>>>,
-    Option<Leftover<FileFrom<S>>>,
-)
+) -> (u8, Closed<Option<Files<FileFrom<S>>>>)
     requires { AreFresh given.old.streams }
     ensures runs { RunsPlan ⟦<File as Read>⟧.remaining C.Input.remaining C.Output.contents
         C.Errors.contents ⟦<FileStore<FileFrom<S>> as Store>⟧ (image_at S.Start)
         (AreCleanFiles ⟦<FileFrom<S> as Disk>⟧) (HoldTables ⟦<FileFrom<S> as Disk>⟧)
         (KeepsImage ⟦<FileFrom<S> as Disk>⟧ (image_at S.Start)) (StoreFiles S) planned
-        given.old.streams result.0 result.1 result.2 given.new.streams }
+        given.old.streams result.0 result.1 given.new.streams }
     ensures leads { LeadsIfClosed C.Errors.contents (image_at S.Start)
         (AreCleanFiles ⟦<FileFrom<S> as Disk>⟧) (HoldTables ⟦<FileFrom<S> as Disk>⟧) planned
         given.old.streams.errors given.new.streams.errors result.0 result.1 }

@@ -44,7 +44,7 @@ pub fn work_in_database<T: Devices, D: Databases>(
     } = job;
     let keeper = ReopeningKeeper::new(given.alloc, conn, opener, progress);
     let (status, keeper) = work_over_keeper(given, work, keeper, setting.limits, Some(file));
-    (status, close_left(databases, keeper.leave()))
+    (status, close_left(databases, keeper.leave(), None))
 }
 
 /// Works over a new store in memory with this base and these limits, and returns the exit status.

@@ -1,6 +1,6 @@
 -- Proves that opening a database and closing it keep the store in its files.
 use Rattle.std.proofs.Common.{arith, ◌≡◌, ◌⊎◌, inl, inr, ◌∙◌, refl, sym, ap, subst, ℕ, Bool, cond, List, [], ◌∷◌, length}
-use Rattle.std.specs.Prelude.{Result, Ok, Err, Option, None, Some, IfErr, IfOk, IfSome, false}
+use Rattle.std.specs.Prelude.{Option, None, Some, IfSome, option_map, false}
 use Rattle.sqlite.specs.Effect.{Database}
 use Rattle.sqlite.specs.Files.{file_state, over_files}
 use Rattle.sqlite.specs.Held.{Held}
@@ -21,36 +21,36 @@ use Rattle.thes_sqlite.specs.Causes.{PrecedesOpening}
 use Rattle.thes_sqlite.specs.DatabaseFiles.{ClosesFiles, FailsToOpen, OpensFiles}
 use Rattle.thes_sqlite.specs.KeeperView.{IsUp, ServesTables}
 use Rattle.thes_sqlite.specs.declared.cause.Cause.{Cause}
-use Rattle.thes_jobs.specs.Databases.{ClosesStore, HoldImage, HoldTables, KeepsImage, KeepsTables, OpensFrom}
+use Rattle.thes_jobs.specs.Databases.{ClosesStore, HoldImage, HoldTables, KeepsImage, KeepsTables, OpensFrom, files_of_left}
 
 -- A database that was opened is that of its files.
-pub opened_from : {D E : Type 0} {g : disk.Ghosts D} (image : Image) (opened : Result (Held (FileStore D g)) E)
-    → IfOk opened (λ conn. HasCleanDisk (file_state conn) → OpensFiles image (file_state conn))
-    → IfOk opened (λ conn. conn.in_transaction ≡ false) → IfOk opened (OpensFrom over_files image)
-opened_from image (Ok conn) opens idle = record {
+pub opened_from : {D : Type 0} {g : disk.Ghosts D} (image : Image) (conn : Held (FileStore D g))
+    → (HasCleanDisk (file_state conn) → OpensFiles image (file_state conn)) → conn.in_transaction ≡ false
+    → OpensFrom over_files image conn
+opened_from image conn opens idle = record {
   idle = idle;
   is_settled = λ up. let here = opens up.0 in here.settled;
   serves = λ up schema t store. let here = opens up.0 in (here.settled, here.serves schema t store);
   empty = λ up new. let here = opens up.0 in here.empty new;
 }
-opened_from image (Err e) opens idle = tt
 
 -- Files with some contents, whose database can't be opened, keep these.
-pub keeps_image : {C D : Type 0} {g : disk.Ghosts D} (image : Image) (AreOpened : Files D → Type 0)
-    → ((files : Files D) → AreOpened files → HoldImage g image files)
-    → (opened : Result C (Cause × Option (Leftover D g)))
-    → IfErr opened (λ failed. IfSome failed.1 (FailsToOpen AreOpened failed.0))
-    → IfErr opened (λ failed. failed.1 ≡ None → PrecedesOpening failed.0)
-    → IfErr opened (λ failed. KeepsImage g image failed.0 failed.1)
-keeps_image image AreOpened hold (Ok conn) fails early = tt
-keeps_image image AreOpened hold (Err (cause, None)) fails early = early refl
-keeps_image image AreOpened hold (Err (cause, Some rest)) fails early = record {
-  files = fails.files;
-  are_opened = hold fails.files fails.are_opened;
-  error = fails.error;
-  cause_is = fails.cause_is;
-  reason = fails.reason;
-  keeps_files = fails.keeps_files;
+pub keeps_image : {D : Type 0} {g : disk.Ghosts D} (image : Image) (AreOpened : Files D → Type 0)
+    → ((files : Files D) → AreOpened files → HoldImage g image files) → (cause : Cause)
+    → (left : Option (Leftover D g)) → IfSome left (FailsToOpen AreOpened cause)
+    → (left ≡ None → PrecedesOpening cause) → KeepsImage g image cause (option_map files_of_left left)
+keeps_image image AreOpened hold cause None fails early = early refl
+keeps_image image AreOpened hold cause (Some left) fails early = record {
+  left = left;
+  files_are = refl;
+  fails = record {
+    files = fails.files;
+    are_opened = hold fails.files fails.are_opened;
+    error = fails.error;
+    cause_is = fails.cause_is;
+    reason = fails.reason;
+    keeps_files = fails.keeps_files;
+  };
 }
 
 -- A crash leaves a file, to which nothing has happened since it was opened, as it was then.

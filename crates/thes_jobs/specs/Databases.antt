@@ -1,5 +1,6 @@
 -- The databases of stores from opening to closing, and what their files hold afterwards.
 use Rattle.std.specs.Prelude.{◌≡◌, ℕ, List, IfSome, IsSomeAnd, MatchOption, Option, Some, None, false}
+use Rattle.sqlite.specs.Closing.{files_left}
 use Rattle.sqlite.specs.Files.{file_state, image_of}
 use Rattle.sqlite.specs.Held.{Held, state}
 use Rattle.sqlite.specs.Schema.{Schema}
@@ -69,11 +70,21 @@ pub record HoldImage {D : Type 0} (g : disk.Ghosts D) (image : Image) (files : F
   pub reads : image_of g files ≡ image
   pub crash : (after : Image) → outcomes g files.log files.db after → after ≡ image
 
+-- The two files of what a failed opening has left.
+abbrev pub files_of_left : {D : Type 0} {g : disk.Ghosts D} → Leftover D g → Files D
+files_of_left left = record { log = (files_left left).0; db = (files_left left).1 }
+
+-- A failed opening, for this cause, of files with these contents has left them so.
+pub record AreUnopened {D : Type 0} (g : disk.Ghosts D) (image : Image) (cause : Cause) (files : Files D) : Type 0 where
+  pub left : Leftover D g
+  pub files_are : files ≡ files_of_left left
+  pub fails : FailsToOpen (HoldImage g image) cause left
+
 -- Files whose database can't be opened keep these contents, unless the disk fails silently. `FailsToOpen` says how, and
 -- ties the cause to what is left of them. If nothing is, they weren't opened, and the cause isn't found in them.
-abbrev pub KeepsImage : {D : Type 0} → (g : disk.Ghosts D) → Image → Cause → Option (Leftover D g) → Type 0
+abbrev pub KeepsImage : {D : Type 0} → (g : disk.Ghosts D) → Image → Cause → Option (Files D) → Type 0
 KeepsImage g image cause None = PrecedesOpening cause
-KeepsImage g image cause (Some rest) = FailsToOpen (HoldImage g image) cause rest
+KeepsImage g image cause (Some files) = AreUnopened g image cause files
 
 -- The files were closed, and the disk has returned what was written.
 abbrev pub AreCleanFiles : {D : Type 0} → disk.Ghosts D → Option (Files D) → Type 0

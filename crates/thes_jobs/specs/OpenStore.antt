@@ -22,19 +22,21 @@ ChoosesOpening task found (Err reported) =
     ((names : Result Bool Fault) × (name_trouble names ≡ Some reported))
     ⊎ ((is_marked : Bool) × (opening_of task found is_marked ≡ Err reported.0) × (reported.1 ≡ Store))
 
-module _ {U : Type 0} (keeps : Cause → Option U → Type 0) where
-  -- A cause kept a database from being opened: its reason and its fault are reported, and what is left of the files, if
-  -- they were opened, keeps what they held.
-  pub record IsUnopenedDatabase (reported : StoreTrouble × Fault) (rest : Option U) : Type 0 where
+module _ {L : Type 0} (keeps : Cause → L → Type 0) where
+  -- A cause kept a database from being opened: its reason and its fault are reported, and what is left of the files
+  -- keeps what they held.
+  pub record IsUnopenedDatabase (reported : StoreTrouble × Fault) (rest : Option L) : Type 0 where
     pub cause : Cause
     pub trouble : reported.0 ≡ trouble_of cause Unwritable
     pub fault : reported.1 ≡ fault_of_cause cause
-    pub keeps_files : keeps cause rest
+    pub left : L
+    pub rest_is : rest ≡ Some left
+    pub keeps_files : keeps cause left
 
   -- The trouble and the fault of a store whose database wasn't opened for a task, and what is left of its files: memory
   -- for the name of its mark ran out, no way to open it was chosen, or the database couldn't be opened in the chosen
   -- way.
-  pub data IsUnopenedStore (task : Task) (reported : StoreTrouble × Fault) (rest : Option U) : Type 0 where
+  pub data IsUnopenedStore (task : Task) (reported : StoreTrouble × Fault) (rest : Option L) : Type 0 where
     no_memory : reported ≡ (Unreadable, OutOfMemory) → rest ≡ None → IsUnopenedStore task reported rest
     unchosen : (found : FileState) → ChoosesOpening task found (Err reported) → rest ≡ None
         → IsUnopenedStore task reported rest
@@ -48,7 +50,7 @@ pub record IsOpenedFor {S : Type 0} (task : Task) (store : StoreDatabase S) : Ty
   pub idle : store.conn.in_transaction ≡ false
 
 -- The database of a store was opened for a task, or the trouble and the fault say why not.
-abbrev pub OpensStore : {S U : Type 0} → (Cause → Option U → Type 0) → Task → Result (StoreDatabase S) (UnopenedStore U)
+abbrev pub OpensStore : {S L : Type 0} → (Cause → L → Type 0) → Task → Result (StoreDatabase S) (UnopenedStore L)
     → Type 0
 OpensStore keeps task (Ok store) = IsOpenedFor task store
 OpensStore keeps task (Err failed) = IsUnopenedStore keeps task failed.report failed.rest

@@ -91,11 +91,11 @@ module _ {S : Type 0} (store : Ghosts S) (image : Image) where
   LeavesUnused (Some file) task left = (database : StoreDatabase S) × IsOpenedFor task database
       × OpensFrom store image database.conn × (left ≡ Some database.conn)
 
-  module _ {U : Type 0} (keeps : Cause → Option U → Type 0) where
+  module _ {L : Type 0} (keeps : Cause → L → Type 0) where
     -- The trouble and the fault of a store that couldn't be opened, or not prepared, for a task, or whose file's full
     -- path wasn't found; and the connection to its database, if that was opened, or what is left of its files.
     pub data IsUnpreparedStore (task : Task) (base : List ℕ) (reported : StoreTrouble × Fault) (left : Option (Held S))
-        (rest : Option U) : Type 0 where
+        (rest : Option L) : Type 0 where
       unopened : IsUnopenedStore keeps task reported rest → left ≡ None
           → IsUnpreparedStore task base reported left rest
       unprepared : (database : StoreDatabase S) → IsOpenedFor task database → OpensFrom store image database.conn
@@ -107,7 +107,7 @@ module _ {S : Type 0} (store : Ghosts S) (image : Image) where
 
     -- The reason why a job couldn't be opened: its posting file or socket, or its store; and the connection to its
     -- database, or what is left of its files.
-    abbrev pub IsOpenFailure : Job → StartFailure → Option (Held S) → Option U → Type 0
+    abbrev pub IsOpenFailure : Job → StartFailure → Option (Held S) → Option L → Type 0
     IsOpenFailure job (failures.EarlyExit early_exit) left rest = ⊥
     IsOpenFailure job (failures.Unopened failure) left rest =
         ((prints_it : Bool) × OpensPlanned {F = File} {L = TcpListener} (planned_work job.task) prints_it (Err failure))
@@ -116,17 +116,12 @@ module _ {S : Type 0} (store : Ghosts S) (image : Image) where
         (job.file ≡ Some file) × IsUnpreparedStore job.task job.setting.base (trouble, fault) left rest
 
     -- The job is opened, or the reason says why not.
-    abbrev pub OpensJob : {O : Type 0} → Job → Result (OpenJob S O) (FailedStart S U) → Type 0
+    abbrev pub OpensJob : {O : Type 0} → Job → Result (OpenJob S O) (FailedStart S L) → Type 0
     OpensJob job (Ok it) = IsOpenJob job it
     OpensJob job (Err failed) = IsOpenFailure job failed.failure failed.conn failed.rest
 
     -- The job of a command line is opened, if it has one.
-    abbrev pub OpensPlan : {O : Type 0} → Result Job EarlyExit → Result (OpenJob S O) (FailedStart S U) → Type 0
+    abbrev pub OpensPlan : {O : Type 0} → Result Job EarlyExit → Result (OpenJob S O) (FailedStart S L) → Type 0
     OpensPlan (Ok job) opened = OpensJob job opened
     OpensPlan (Err early_exit) opened =
         opened ≡ Err (record { failure = failures.EarlyExit early_exit; conn = None; rest = None })
-
--- What is left of the files of a job's store, if they were opened and their database couldn't be.
-abbrev pub unopened_of : {S O U : Type 0} → Result (OpenJob S O) (FailedStart S U) → Option U
-unopened_of (Ok open_job) = None
-unopened_of (Err failed) = failed.rest

@@ -1,5 +1,5 @@
 //! How the databases of stores are opened and closed.
-ghost use Rattle.std.specs.Prelude.{IfErr, IfOk, Option};
+ghost use Rattle.std.specs.Prelude.{IfErr, IfOk};
 ghost use Rattle.sqlite.specs.Schema.{Schema};
 ghost use Rattle.sqlite_wal.specs.Files.{image_at};
 ghost use Rattle.thes_tables.specs.Tables.{Tables};
@@ -7,7 +7,7 @@ ghost use Rattle.thes_sqlite.specs.declared.cause.Cause.{Cause};
 ghost use Rattle.thes_jobs.specs.Databases.{ClosesIfOpen, OpensFrom};
 
 use crate::store_files::{ReopenedImage, StoreFiles, close_database_files, open_database_files};
-use sqlite::{Alter, Connection, FileFrom, FileStore, Leftover, Start};
+use sqlite::{Alter, Connection, FileFrom, FileStore, Start};
 use sqlite_disk::{Disk, Files};
 use std::marker::PhantomData;
 use thes_base::fault::Fault;
@@ -26,11 +26,8 @@ pub trait Databases {
     /// opened.
     type Opener: Reopen<Connection<Self::Engine>> + HeldTables + Drop;
 
-    /// What closing a database leaves.
+    /// What closing a database leaves, or an opening that fails.
     type Left: Drop;
-
-    /// What a failed opening leaves of the files that it has opened.
-    type Unopened: Drop;
 
     /// What files hold before they are opened, as a value for contracts: code can't read it.
     type Image: Drop;
@@ -42,18 +39,17 @@ pub trait Databases {
     // crash leaves of them.
     ghost holds: { Self.Left → Schema → Tables → Type 0 };
 
-    // The files of a database that couldn't be opened, for this cause, hold what they held. There
-    // is nothing of them if they weren't opened.
-    ghost keeps: { Cause → Option Self.Unopened → Type 0 };
+    // The files of a database that couldn't be opened, for this cause, hold what they held.
+    ghost keeps: { Cause → Self.Left → Type 0 };
 
     /// Opens the database in a file; if there is no such file, makes it. The image of what the
     /// files held is consumed, so that only one opening is of them. Returns the cause of a failure
-    /// with what is left of the files, if they were opened.
+    /// with what is left of the files.
     fn open(
         &self,
         image: Self::Image,
         file: &str,
-    ) -> Result<Connection<Self::Engine>, (Cause, Option<Self::Unopened>)>
+    ) -> Result<Connection<Self::Engine>, (Cause, Self::Left)>
         ensures opens { IfOk result (OpensFrom Self.Engine.Store Self.Opener.image) }
         ensures fails { IfErr result (λ failed. keeps failed.0 failed.1) };
 
@@ -85,15 +81,13 @@ impl<'r, S> FileDatabases<'r, S> {
     }
 }
 
-/// Closing leaves the two files of the database, or None after an error.
+/// What is left are the two files of the database; None if they weren't opened, or not closed.
 impl<'r, S: Start + ReopenedImage> Databases for FileDatabases<'r, S> {
     type Engine = FileStore<FileFrom<S>>;
 
     type Opener = StoreFiles<'r, S>;
 
     type Left = Option<Files<FileFrom<S>>>;
-
-    type Unopened = Leftover<FileFrom<S>>;
 
     type Image = S;
 
@@ -109,7 +103,7 @@ impl<'r, S: Start + ReopenedImage> Databases for FileDatabases<'r, S> {
         &self,
         image: S,
         file: &str,
-    ) -> Result<Connection<FileStore<FileFrom<S>>>, (Cause, Option<Leftover<FileFrom<S>>>)> {
+    ) -> Result<Connection<FileStore<FileFrom<S>>>, (Cause, Option<Files<FileFrom<S>>>)> {
         open_database_files(self.rt, image, file)
     }
 

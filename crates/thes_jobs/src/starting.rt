@@ -52,19 +52,19 @@ pub enum OpenJob<'r, S: Alter, O> {
 }
 
 /// The reason why a job isn't opened, and what is left of its store.
-pub struct FailedStart<S: Alter, U> {
+pub struct FailedStart<S: Alter, L> {
     pub failure: StartFailure,
     /// The connection to the database of the store, if that was opened.
     pub conn: Option<Connection<S>>,
-    /// What is left of the store's files, if they were opened and their database couldn't be.
-    pub rest: Option<U>,
+    /// What is left of the store's files, if their database couldn't be opened.
+    pub rest: Option<L>,
 }
 
 // The fault of a store whose database isn't open, with its reason, and what is left of its files if
-// they were opened.
-struct UnopenedStore<U> {
+// their database couldn't be opened.
+struct UnopenedStore<L> {
     report: (StoreTrouble, Fault),
-    rest: Option<U>,
+    rest: Option<L>,
 }
 
 // Prints the name of what keeps the schema of a database from being read, if it is found.
@@ -83,7 +83,7 @@ fn open_database<D: Databases>(
     image: D::Image,
     mark: &MakingMark<'_>,
     file: &str,
-) -> Result<Connection<D::Engine>, UnopenedStore<D::Unopened>>
+) -> Result<Connection<D::Engine>, UnopenedStore<D::Left>>
     ensures opened { IfOk result (OpensFrom D.Engine.Store D.Opener.image) }
     ensures err { IfErr result (λ failed. IsUnopenedDatabase D.keeps failed.report failed.rest) }
 {
@@ -99,7 +99,7 @@ fn open_database<D: Databases>(
             }
             Err(UnopenedStore {
                 report: (trouble, cause.fault()),
-                rest,
+                rest: Some(rest),
             })
         }
     }
@@ -147,8 +147,8 @@ impl<S: Alter> StoreDatabase<'_, S> {
     }
 }
 
-// Returns the fault of a store whose files weren't opened, with its reason.
-fn without_files<U>(trouble: StoreTrouble, fault: Fault) -> UnopenedStore<U>
+// Returns the fault of a store whose database wasn't to be opened, with its reason.
+fn without_files<L>(trouble: StoreTrouble, fault: Fault) -> UnopenedStore<L>
     ensures { result ≡ record { report = (trouble, fault); rest = None } }
 {
     UnopenedStore {
@@ -164,7 +164,7 @@ fn open_store<'r, D: Databases>(
     image: D::Image,
     task: &Task,
     file: &str,
-) -> Result<StoreDatabase<'r, D::Engine>, UnopenedStore<D::Unopened>>
+) -> Result<StoreDatabase<'r, D::Engine>, UnopenedStore<D::Left>>
     ensures opens { OpensStore D.keeps task.now result }
     ensures opened { IfOk result (λ store. OpensFrom D.Engine.Store D.Opener.image store.conn) }
 {
@@ -311,7 +311,7 @@ struct FileJob {
 }
 
 // Returns the reason why a job isn't opened, with the connection to the database of its store.
-fn failed_over<S: Alter, U>(failure: StartFailure, store: StoreDatabase<'_, S>) -> FailedStart<S, U>
+fn failed_over<S: Alter, L>(failure: StartFailure, store: StoreDatabase<'_, S>) -> FailedStart<S, L>
     ensures { result ≡ record {
       failure = failure;
       conn = Some store.entry.conn;
@@ -332,7 +332,7 @@ fn open_over<'r, D: Databases>(
     databases: &D,
     mut store: StoreDatabase<'r, D::Engine>,
     job: FileJob,
-) -> Result<OpenJob<'r, D::Engine, D::Opener>, FailedStart<D::Engine, D::Unopened>>
+) -> Result<OpenJob<'r, D::Engine, D::Opener>, FailedStart<D::Engine, D::Left>>
     requires opens { IsOpenedFor job.task store }
     requires opened { OpensFrom D.Engine.Store D.Opener.image store.conn }
     ensures opens { OpensJob D.Engine.Store D.Opener.image D.keeps
@@ -387,7 +387,7 @@ fn open_in_file<'r, D: Databases>(
     databases: &D,
     image: D::Image,
     job: FileJob,
-) -> Result<OpenJob<'r, D::Engine, D::Opener>, FailedStart<D::Engine, D::Unopened>>
+) -> Result<OpenJob<'r, D::Engine, D::Opener>, FailedStart<D::Engine, D::Left>>
     ensures opens { OpensJob D.Engine.Store D.Opener.image D.keeps
         (job_in_file job.task job.file job.setting) result }
     ensures ready { IfOk result (IsReadyJob D.Engine.Store D.Opener.image) }
@@ -417,7 +417,7 @@ fn open_in_memory<D: Databases>(
     rt: &HostRuntime,
     task: Task,
     setting: StoreSetting,
-) -> Result<OpenJob<'_, D::Engine, D::Opener>, FailedStart<D::Engine, D::Unopened>>
+) -> Result<OpenJob<'_, D::Engine, D::Opener>, FailedStart<D::Engine, D::Left>>
     ensures opens { OpensJob D.Engine.Store D.Opener.image D.keeps
         (job_in_memory task setting) result }
     ensures ready { IfOk result (IsReadyJob D.Engine.Store D.Opener.image) }
@@ -449,7 +449,7 @@ pub fn open_job<'r, D: Databases>(
     databases: &D,
     image: D::Image,
     planned: Result<Job, EarlyExit>,
-) -> Result<OpenJob<'r, D::Engine, D::Opener>, FailedStart<D::Engine, D::Unopened>>
+) -> Result<OpenJob<'r, D::Engine, D::Opener>, FailedStart<D::Engine, D::Left>>
     ensures opens { OpensPlan D.Engine.Store D.Opener.image D.keeps planned result }
     ensures ready { IfOk result (IsReadyJob D.Engine.Store D.Opener.image) }
     ensures serves { IfErr result (λ failed.

@@ -1,8 +1,8 @@
 //! The files of a store, which are opened and closed, and can be opened again by their names.
-ghost use Rattle.std.specs.Prelude.{IfErr, IfOk};
+ghost use Rattle.std.specs.Prelude.{◌≡◌, IfErr, IfOk, option_map};
 ghost use Rattle.sqlite.specs.Files.{over_files};
 ghost use Rattle.sqlite_wal.specs.Files.{image_at};
-ghost use Rattle.thes_jobs.specs.Databases.{ClosesFrom, KeepsImage, OpensFrom};
+ghost use Rattle.thes_jobs.specs.Databases.{ClosesFrom, KeepsImage, OpensFrom, files_of_left};
 
 use sqlite::{Connection, FileFrom, FileStore, Leftover, Start, Unknown};
 use sqlite_disk::{Disk, Files};
@@ -33,19 +33,32 @@ impl ReopenedImage for Unknown {
     }
 }
 
+// Returns the files that a failed opening has left, if it opened them.
+fn take_files<D: Disk>(left: Option<Leftover<D>>) -> Option<Files<D>>
+    ensures { result ≡ option_map files_of_left left }
+{
+    match left {
+        Some(left) => Some(left.into_files()),
+        None => None,
+    }
+}
+
 /// Opens the database in the files at a path, which may hold anything; if there are none, makes
-/// them. Returns the cause of a failure with what is left of the files, if they were opened: they
-/// hold what they held.
+/// them. Returns the cause of a failure with the files, if they were opened: they hold what they
+/// held.
 pub fn open_database_files<S: Start>(
     rt: &HostRuntime,
     image: S,
     file: &str,
-) -> Result<Connection<FileStore<FileFrom<S>>>, (Cause, Option<Leftover<FileFrom<S>>>)>
+) -> Result<Connection<FileStore<FileFrom<S>>>, (Cause, Option<Files<FileFrom<S>>>)>
     ensures opens { IfOk result (OpensFrom over_files (image_at S.Start)) }
     ensures fails { IfErr result (λ failed.
         KeepsImage ⟦<FileFrom<S> as Disk>⟧ (image_at S.Start) failed.0 failed.1) }
 {
-    open_files(rt, file, image)
+    match open_files(rt, file, image) {
+        Ok(conn) => Ok(conn),
+        Err((cause, left)) => Err((cause, take_files(left))),
+    }
 }
 
 /// Closes a database and returns its files; None after an error. The log holds every change that

@@ -6,9 +6,9 @@ returns-in-Ok-InFile-clause-leads g c =
     leads_by_work g.D.Engine.Store g.D.Opener.HeldTables.image g.C.Errors.Write.contents
     g.D.Databases.is_clean g.D.Databases.holds g.D.Databases.keeps _ g.C.Input.Read.remaining
     g.C.Output.Write.contents c.args.planned c.args.given.now.streams
-    c.work_in_database-status.new.given.streams c.work_in_database-status.result.0 c.in-Ok-InFile.job
-    c.work_in_database-status.result.1
-    (rw c.in-Ok-InFile.field-0-is at c.in-Ok-InFile.ensures.opens) c.work_in_database-status.ensures
+    c.work_in_database.new.given.streams c.work_in_database.result.0 c.in-Ok-InFile.job
+    c.work_in_database.result.1
+    (rw c.in-Ok-InFile.field-0-is at c.in-Ok-InFile.ensures.opens) c.work_in_database.ensures
 
 pub returns-in-Ok-InMemory-clause-leads : goal.returns-in-Ok-InMemory-clause-leads
 returns-in-Ok-InMemory-clause-leads g c =
@@ -21,9 +21,9 @@ returns-in-Ok-Migration-clause-leads g c =
     leads_by_migration g.D.Engine.Store g.D.Opener.HeldTables.image g.C.Errors.Write.contents
     g.D.Databases.is_clean g.D.Databases.holds g.D.Databases.keeps g.row.D-Opener.Denot
     g.C.Output.Write.contents c.args.planned c.args.given.now.streams
-    c.migrate-status.new.given.streams c.migrate-status.result.0 c.in-Ok-Migration.file c.in-Ok-Migration.conn
-    c.migrate-status.result.1
-    (rw c.in-Ok-Migration.field-0-is at c.in-Ok-Migration.ensures.opens) c.migrate-status.ensures
+    c.migrate.new.given.streams c.migrate.result.0 c.in-Ok-Migration.file c.in-Ok-Migration.conn
+    c.migrate.result.1
+    (rw c.in-Ok-Migration.field-0-is at c.in-Ok-Migration.ensures.opens) c.migrate.ensures
 
 pub returns-in-Ok-Version-clause-leads : goal.returns-in-Ok-Version-clause-leads
 returns-in-Ok-Version-clause-leads g c =

@@ -11,15 +11,15 @@ image log db = record { log = log; db = db }
 abbrev seen : List ℕ → List ℕ → Bool → List Event → List ℕ
 seen log db is_log history = (replay (cond is_log log db) history).seen
 
-pub returns-clause-opens : goal.returns-clause-opens
-returns-clause-opens g c =
-    opened_from (image_at g.S.Start) c.open_files.result c.open_files.ensures.opens c.open_files.ensures.idle
+pub returns-in-Ok-clause-opens : goal.returns-in-Ok-clause-opens
+returns-in-Ok-clause-opens g c =
+    opened_from (image_at g.S.Start) c.in-Ok.conn c.in-Ok.ensures.opens c.in-Ok.ensures.idle
 
-pub returns-clause-fails : goal.returns-clause-fails
-returns-clause-fails g c = keeps_image (image_at g.S.Start) _ (λ files fresh. record {
+pub returns-in-Err-clause-fails : goal.returns-in-Err-clause-fails
+returns-in-Err-clause-fails g c = rw c.take_files.ensures (keeps_image (image_at g.S.Start) _ (λ files fresh. record {
   reads = ap₂ image (ap₂ (seen g.S.Start.log g.S.Start.db) fresh.0.0 fresh.0.1)
       (ap₂ (seen g.S.Start.log g.S.Start.db) fresh.1.0 fresh.1.1);
   crash = λ after left. ap₂ image
       (left_as_opened g.S.Start.log g.S.Start.db _ _ _ _ _ fresh.0.0 fresh.0.1 after.log left.0)
       (left_as_opened g.S.Start.log g.S.Start.db _ _ _ _ _ fresh.1.0 fresh.1.1 after.db left.1);
-}) c.open_files.result c.open_files.ensures.fails c.open_files.ensures.early
+}) c.in-Err.cause c.in-Err.left c.in-Err.ensures.fails c.in-Err.ensures.early)
