@@ -100,7 +100,8 @@ module _ {R W E S C : Type 0} (given : File → Option (List ℕ)) (remaining : 
       × ClosesLeft store is_clean holds (open_leaving failed.conn) failed.rest closed
 
   -- The job of a command line was opened as the command line says, and done. The database of work over a store is the
-  -- one that was opened in files with these contents. If it couldn't be opened, what is left of them keeps these.
+  -- one that was opened in files with these contents. If it couldn't be opened, what is left of them keeps what they
+  -- held.
   pub record RunsPlan (O : Type 0) (planned : Result Job EarlyExit) (old : Streams R W E) (status : ℕ)
       (closed : Closed C) (new : Streams R W E) : Type 0 where
     pub open_job : Result (OpenJob S O) (FailedStart S C)

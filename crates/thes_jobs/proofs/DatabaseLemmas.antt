@@ -41,7 +41,7 @@ pub keeps_image : {D : Type 0} {g : disk.Ghosts D} (image : Image) (AreOpened : 
     → (left ≡ None → PrecedesOpening cause) → KeepsImage g image cause (option_map files_of_left left)
 keeps_image image AreOpened hold cause None fails early = early refl
 keeps_image image AreOpened hold cause (Some left) fails early = record {
-  left = left;
+  leftover = left;
   files_are = refl;
   fails = record {
     files = fails.files;

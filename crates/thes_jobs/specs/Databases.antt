@@ -76,9 +76,9 @@ files_of_left left = record { log = (files_left left).0; db = (files_left left).
 
 -- A failed opening, for this cause, of files with these contents has left them so.
 pub record AreUnopened {D : Type 0} (g : disk.Ghosts D) (image : Image) (cause : Cause) (files : Files D) : Type 0 where
-  pub left : Leftover D g
-  pub files_are : files ≡ files_of_left left
-  pub fails : FailsToOpen (HoldImage g image) cause left
+  pub leftover : Leftover D g
+  pub files_are : files ≡ files_of_left leftover
+  pub fails : FailsToOpen (HoldImage g image) cause leftover
 
 -- Files whose database can't be opened keep these contents, unless the disk fails silently. `FailsToOpen` says how, and
 -- ties the cause to what is left of them. If nothing is, they weren't opened, and the cause isn't found in them.

@@ -29,9 +29,9 @@ module _ {L : Type 0} (keeps : Cause → L → Type 0) where
     pub cause : Cause
     pub trouble : reported.0 ≡ trouble_of cause Unwritable
     pub fault : reported.1 ≡ fault_of_cause cause
-    pub left : L
-    pub rest_is : rest ≡ Some left
-    pub keeps_files : keeps cause left
+    pub files : L
+    pub rest_is : rest ≡ Some files
+    pub keeps_files : keeps cause files
 
   -- The trouble and the fault of a store whose database wasn't opened for a task, and what is left of its files: memory
   -- for the name of its mark ran out, no way to open it was chosen, or the database couldn't be opened in the chosen

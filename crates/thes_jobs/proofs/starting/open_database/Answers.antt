@@ -6,7 +6,7 @@ returns-after-is_mark_void-clause-err g c = record {
   cause = c.in-Err.cause;
   trouble = c.trouble_of-trouble.ensures;
   fault = c.fault.ensures;
-  left = c.in-Err.rest;
+  files = c.in-Err.rest;
   rest_is = refl;
   keeps_files = c.in-Err.ensures.fails;
 }
