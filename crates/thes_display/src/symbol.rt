@@ -1,5 +1,5 @@
-//! The symbols of a display, and the types of hierarchical links that they tell apart (ISO 25964-1,
-//! clauses 10.2 and 12).
+//! The symbols of a display, and the types of hierarchical links that they distinguish (ISO
+//! 25964-1, clauses 10.2 and 12).
 ghost use Rattle.std.specs.Prelude.{◌≡◌};
 ghost use Rattle.thes_display.specs.Alphabetical.{hierarchy_kind, symbol_text, symbols};
 ghost use Rattle.thes_base.specs.Links.{IsHierarchical};
