@@ -1,4 +1,4 @@
--- Proves that rows that begin the answer of a query are the first of the rows that it returns.
+-- Proves that the rows that a query has returned so far are the first rows of its whole answer.
 use Rattle.std.proofs.Common.{◌≡◌, ℕ, pos, List, [], ◌∷◌, ◌++◌, sym, ap, subst, ◌∙◌, map}
 use Rattle.sqlite.specs.declared.types.Value.TheVariants.{Int}
 use Rattle.sqlite.specs.Order.{Row}

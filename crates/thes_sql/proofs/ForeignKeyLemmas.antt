@@ -1,5 +1,5 @@
--- Proves that a write to a table of a store leaves the store's other tables unchanged, also where foreign keys of
--- further tables act.
+-- Proves that a write to a table of a store leaves the store's other tables unchanged, even if foreign keys of a user's
+-- tables cause further edits.
 use Rattle.std.proofs.Common.{arith, ◌≡◌, ◌≢◌, inl, inr, ℕ, ℤ, zero, suc, ◌+◌, List, [], ◌∷◌, ◌++◌, slice_get, Bool, true, false}
 use Rattle.std.proofs.Common.{Option, Some, None, Ok, nat_lt, ◌==◌, length, if◌then◌else◌, refl, sym, ap, subst, ◌∙◌}
 use Rattle.std.proofs.lemmas.Grind.{common_steps}
@@ -21,7 +21,7 @@ use Rattle.sqlite_schema.specs.declared.schema.Reference.{Reference}
 use Rattle.sqlite_trees.proofs.ListLemmas.{all-append, all-flat_map, all-slice_get}
 use Rattle.thes_sql.specs.Additions.{Additions, store_tables, schema_with, IsApart}
 
--- The first elements of a longer list are those of the list.
+-- An element of a list is at the same position when more elements follow the list.
 pub get_first : {A : Type 0} (xs more : List A) (i : ℕ) (x : A) → slice_get xs i ≡ Some x → slice_get (xs ++ more) i
     ≡ Some x
 get_first [] more i x is = absurd (cc)
@@ -45,14 +45,14 @@ kept_same : (tables : List Table) (db : Trees) → KeepsRows tables db db
 kept_same [] db = tt
 kept_same (t ∷ tables) db = (refl, kept_same tables db)
 
--- An edit of a tree that is apart keeps the rows of the tables.
+-- An edit of a tree that none of the tables is stored in leaves their rows unchanged.
 kept_apart : (tree : ℕ) (tables : List Table) (db next : Trees)
     → AllByRecursion (λ (t : Table). t.tree ≢ tree) tables
     → AllByRecursion (λ (t : Table). t.tree ≢ tree → next t.tree ≡ db t.tree) tables → KeepsRows tables db next
 kept_apart tree [] db next apart same = tt
 kept_apart tree (t ∷ tables) db next apart same = (same.0 apart.0, kept_apart tree tables db next apart.1 same.1)
 
--- The trees of all other tables of a store are unchanged.
+-- The trees of a store's tables are unchanged, except perhaps the one with this number.
 abbrev pub LeavesOtherTables : ℕ → Trees → Trees → Type 0
 LeavesOtherTables tree old new = AllByRecursion (λ (t : Table). t.tree ≢ tree → new t.tree ≡ old t.tree) store_tables
 
@@ -74,7 +74,7 @@ abbrev pub IsAlone : Schema → Table → Type 0
 IsAlone schema table = (db next : Trees) (edit : Edit) → edit.table ≡ table
     → Writes schema Enforced db edit (Ok next) → EditsTable db edit next
 
--- The table that an action changes is apart from those of a store.
+-- The table that a foreign key's action changes is none of those of a store.
 abbrev ActsApart : Work → Type 0
 ActsApart w = IsApart w.child
 
@@ -120,13 +120,14 @@ module _ (added : Additions) (apart : AllByRecursion IsApart added.tables) (keys
     works_of_apart depth tree olds news tables all.1,
   )
 
-  -- The tables of a store have no foreign keys, so that no action changes them.
+  -- The tables of a store have no foreign keys, so no foreign key's action changes them.
   works_apart : (depth tree : ℕ) (olds news : List Row)
       → AllByRecursion ActsApart (works schema keys depth tree olds news)
   works_apart depth tree olds news = all-flat_map ActsApart (works_for depth tree olds news) added.tables
       (works_of_apart depth tree olds news added.tables apart)
 
-  -- The actions that wait, of which there are `n`, keep the rows of a store's tables.
+  -- Running the actions on the stack and those that they cause, `n` in all, leaves the rows of a store's tables
+  -- unchanged.
   abbrev KeepStore : ℕ → Type 0
   KeepStore n = (db next : Trees) (stack : List Work) → AllByRecursion ActsApart stack
       → Leads schema keys n db stack (Ok next) → KeepsRows store_tables db next
@@ -187,7 +188,7 @@ module _ (added : Additions) (apart : AllByRecursion IsApart added.tables) (keys
             went.1.tables) kept;
       }
 
--- A write to a table of a store changes no other table of the store, with any additions.
+-- A write to a table of a store changes no other table of the store, whatever additions the schema has.
 pub writes_alone : (added : Additions) → AllByRecursion IsApart added.tables → (at : ℕ) (table : Table)
     → slice_get store_tables at ≡ Some table → IsAlone (schema_with added) table
 writes_alone added apart at table is db next edit same h =

@@ -1,4 +1,4 @@
--- Proves that a store remains one when a statement rewrites one of its tables.
+-- Proves that a store remains a store when a statement rewrites one of its tables.
 use Rattle.std.proofs.Common.{arith, ◌≡◌, ◌≢◌, ℕ, List, [], ◌∷◌, sym, subst, rules}
 use Rattle.std.specs.List.{AllByRecursion}
 use Rattle.sqlite.specs.Order.{Row}
@@ -64,7 +64,7 @@ becomes_all version old new t same has each numbered spelled = record {
   };
 }
 
--- A store of version 2 is one with version 2 in table meta.
+-- A store is of version 2 exactly if its table meta has version 2.
 pub keeps_current : (db : Database) (t : Tables) → KeepsAs 2 db t → Keeps db t
 keeps_current db t k = search rules
 

@@ -191,7 +191,7 @@ transforms_inside : (From To : Tables → Database → Type 0) (text : List ℕ)
     → OnOk r (TransformsTables From To old new)
 transforms_inside From To text makes old new r h = grind (arith, common_steps)
 
--- A step leaves the schema as it is, so that it stays without additions.
+-- A step of the migration leaves the schema unchanged, so the schema still has no additions.
 still_migrating : (old new : Database) (t : Tables) → old.schema ≡ store_schema → BecomesAs 1 old new t
     → IsMigrating new t
 still_migrating old new t exact made = record { schema = made.schema ∙ exact; keeps = made.keeps }

@@ -1,4 +1,4 @@
--- Proves that changing the element at a position changes exactly the element with its number.
+-- Proves that changing the element at a position changes exactly the element whose number belongs to that position.
 use Rattle.std.proofs.lemmas.Grind.{common_steps}
 use Rattle.std.proofs.Common.{arith, ◌≡◌, ℕ, zero, suc, List, [], ◌∷◌, ◌<◌, ◌+◌, ◌==◌, map, slice_get, slice_set}
 use Rattle.std.proofs.Common.{Option, Some, None, Bool, if◌then◌else◌, refl, sym}

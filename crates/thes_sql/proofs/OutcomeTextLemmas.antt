@@ -1,4 +1,4 @@
--- Proves what each query finds by which the outcome of a commit is checked.
+-- Proves what is found by the queries that check the outcome of a commit.
 use Rattle.std.proofs.lemmas.Grind.{common_steps}
 use Rattle.std.proofs.Common.{arith, ◌≡◌, ◌∙◌, ℕ, pos, List, [], ◌∷◌, ◌==◌, ◌&&◌, map, filter, codes, Bool, not, length}
 use Rattle.std.proofs.Common.{refl, sym, ap}
@@ -31,7 +31,7 @@ use Rattle.thes_sql.proofs.StatementTextLemmas.{equal_terms, number_filter, labe
 use Rattle.thes_sql.proofs.WhereLemmas.{same_ints, by_resource, by_number, by_label, by_link, by_hier}
 use Rattle.thes_sql.proofs.SelectLemmas.{IsQueryText, ordered_query, query_rows}
 
--- Of the rows that pass there is at least one exactly if some row passes.
+-- The list of the rows that pass has an element exactly if some row passes.
 some_passes : {X : Type 0} (cells : X → List Cell) (p : X → Bool) (xs : List X)
     → not (length (map values (map cells (filter p xs))) == 0) ≡ list_any p xs
 some_passes cells p [] = refl
@@ -47,7 +47,7 @@ module _ {X : Type 0} (num : X → ℕ) (stored : X → Row) (cells : X → List
     (test : (x : X) → list_all (holds (params ∷ stored x ∷ [])) filters ≡ p x)
     (shows : (x : X) → output (ordered_query tree filters project) (params ∷ stored x ∷ []) ≡
     (Int (pos (num x)) ∷ [], values (cells x))) where
-  -- The query is answered by a row exactly if some row passes.
+  -- The query returns at least one row exactly if some row passes the test.
   some_row : (text : List ℕ) → IsQueryText text (ordered_query tree filters project) → (old new : State) (xs : List X)
       (found : Bool) → IsStoreSchema old.now.schema → AreKeyed stored num xs (old.now.trees tree)
       → IsAnswered text params old new found → found ≡ list_any p xs
@@ -56,7 +56,7 @@ module _ {X : Type 0} (num : X → ℕ) (stored : X → Row) (cells : X → List
       (query_rows num stored cells tree project params filters p test shows text is old new xs out has held shown)
       ∙ some_passes cells p xs
 
--- The same of a table whose rowids the database chose.
+-- As above, for a table whose rowids the database chose.
 module _ {A : Type 0} (of : A → Row) (cells : ℕ × A → List Cell) (tree : ℕ) (project : List Term) (params : Row)
     (filters : List Term) (p : A → Bool)
     (test : (x : ℕ × A) → list_all (holds (params ∷ hidden_row of x ∷ [])) filters ≡ p x.1)
@@ -191,7 +191,7 @@ outside_found n old new found t keeps =
     number_filter (λ x. x.0 == n) (by_outside n) (λ x. refl) outside_row_text outside_row_is old new t.outside found
     keeps.schema keeps.hold.outside
 
--- A query for the number of a posting that passes a test.
+-- A query for the number of a posting returns a row exactly if some posting passes the test of its filters.
 posting_found_by : (text : List ℕ) (n : ℕ) (filters : List Term) (p : PostingRow → Bool)
     → ((x : PostingRow) → list_all (holds ((Int (pos n) ∷ []) ∷ stored_posting x ∷ [])) filters ≡ p x)
     → IsQueryText text (ordered_query 8 filters (col 1 0 ∷ []))

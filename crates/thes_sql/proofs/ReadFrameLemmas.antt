@@ -121,11 +121,11 @@ module _ (sql : List ℕ) (params : Row) (is : IsQuery sql) where
       → Survives old new (λ _. ⊥)
   query_survives old new = survives_weaker old new _ _ (λ _ db. commits_nothing sql params old new is db)
 
--- The error of a store that failed is never that of a query that finds nothing.
+-- The error of a store that has failed never says that a query finds nothing.
 pub cause_finds : (e : Error) (cause : StoreError) → e ≡ store_error cause → finds_nothing e ≡ false
 cause_finds e cause is = grind (arith, common_steps)
 
--- Only a database that an earlier failure had shut answers that it is shut.
+-- A query fails with `Closed` only if an earlier failure had shut the database.
 pub shut_before : (sql : List ℕ) (old new : State) → FailsToFind sql old new (SqliteFailure Closed)
     → old.is_open ≡ false
 shut_before sql old new fails = grind (arith, common_steps)
@@ -147,8 +147,7 @@ module _ (sql : List ℕ) (old new : State) (is : IsWholeQuery sql) where
       → (finds_nothing e ≡ true) × (compiles old.now.schema sql ≡ false)
   not_compiled e h = let why = no_other e h in (ap finds_nothing why.2, ap is_ok why.1)
 
-  -- A query that compiles is refused because its values have no result, or because it takes too
-  -- many steps.
+  -- A query that compiles is refused only because its values are refused, or because it takes too many steps.
   refused_for_rows : (c : Compiled) → understood old.now.schema sql ≡ Ok c → (source : Database)
       → IsSourceOf (reads_listing old.now.schema sql) old.now source → (e : Error) → (command : Command)
       → c.command ≡ command → is_query command ≡ true → RefusesToRead old.step_limit command source [] e
@@ -178,7 +177,7 @@ module _ (sql : List ℕ) (old new : State) (is : IsWholeQuery sql) where
 
 -- Preparing a statement leaves the database unchanged.
 module _ {S : Type 0} (g : Ghosts S) (sql : List ℕ) (old new : Held S) where
-  -- A failure to prepare a statement leaves the database unchanged or as committed.
+  -- A failure to prepare a statement leaves the database unchanged, or as it was last committed.
   prepared_so : (e : Error) → ((params : Row) → IsNotRun (state g old) (state g new) sql params e)
       → IsUnchanged (state g old) (state g new) ⊎ IsRolledBack (state g old) (state g new)
   unfolding IsNotRun
@@ -227,8 +226,7 @@ module _ (sql : List ℕ) (old new : State) (is : IsWholeQuery sql) where
     | inr fails ↦ let e = cause_finds _ fails.0 fails.1 in absurd (cc)
   ]
 
-  -- If preparing a text fails with another error than that of a text that doesn't compile, the
-  -- store has failed.
+  -- If preparing a text fails with any error except that it doesn't compile, the store has failed.
   store_failed : (e : Error) → ((fault : CompileError) → e ≡ SqlInputError fault → ⊥)
       → ((params : Row) → IsNotRun old new sql params e) → IsStoreFault old new e
   unfolding IsNotRun

@@ -46,13 +46,13 @@ use Rattle.thes_sql.proofs.DeclarationLemmas.{own_schema}
 use Rattle.thes_sql.proofs.ForeignKeyLemmas.{kept_twice}
 use Rattle.thes_sql.proofs.ReadFrameLemmas.{no_cause}
 
--- The text defines the table in this schema.
+-- In this schema, the text is a CREATE TABLE that defines this table.
 abbrev MakesTable : Schema → List ℕ → Table → Type 0
 MakesTable schema text table =
     (command_of (understood schema text) ≡ CreateTable)
     × (table_defined_by (statement_of text (understood schema text)) ≡ Ok table) × IsPlain (understood schema text)
 
--- The text defines the index of the table at this position in this schema.
+-- In this schema, the text is a CREATE INDEX that defines this index, on the table at this position.
 abbrev AddsIndex : Schema → List ℕ → ℕ → Table → Index → Type 0
 AddsIndex schema text at table index =
     (command_of (understood schema text) ≡ CreateIndex at)
@@ -154,7 +154,7 @@ still_empty : (old next : Trees) (tables : List Table) → KeepsRows tables old 
 still_empty old next [] kept none = tt
 still_empty old next (t ∷ tables) kept none = (kept.0 ∙ none.0, still_empty old next tables kept.1 none.1)
 
--- If all tables are empty, a new table leaves all tables empty.
+-- If all tables of a database are empty, they are still so after a CREATE TABLE, and so is the new table.
 defines_table : (from : Schema) (text : List ℕ) (table : Table) → MakesTable from text table
     → lacks_sequence (created from table) ≡ false
     → (old new : State) (count : ℕ) → IsEmpty from old.now → ExecutesIn true text [] old new (Ok count)
@@ -190,7 +190,8 @@ texts_0 = create_meta_text ++ texts_1
 
 -- Assumes that a batch of statements ran in order.
 module _ {S : Type 0} (g : Ghosts S) (new : Held S) {Goal : Type 0} where
-  -- If the first statement leads from one kind of database to another, the rest of the batch runs there.
+  -- If the first statement leads from a database of one kind to one of another, the rest of the batch runs from the
+  -- latter.
   first_made : (text one rest : List ℕ) (From To : Database → Type 0) (most : ℕ) (old : Held S)
       → take (first_len text) text ≡ one → drop (first_len text) text ≡ rest → 0 < length text
       → ((old new : State) (count : ℕ) → From old.now → ExecutesIn true one [] old new (Ok count)
@@ -237,7 +238,7 @@ module _ (text : List ℕ) (old new : State) (fault : CompileError) where
         (statement_of text (understood from text)) None (CreateIndex at) (Err (Some (SqlInputError fault))) → ⊥
     not_made mode d = grind (arith, common_steps, no_alter)
 
-    -- A CREATE INDEX on an existing table doesn't fail to compile.
+    -- A CREATE INDEX on an existing table never fails with the error of a text that doesn't compile.
     pub not_refused : Executes text [] old new (Err (SqlInputError fault)) → ⊥
     unfolding ExecutesIn IsNotRun
     not_refused h = grind (arith, common_steps, no_statement, no_cause, not_made)
@@ -343,7 +344,7 @@ module _ {S : Type 0} (g : Ghosts S) where
     inside = same ∙ inside;
   }
 
-  -- The rows are unchanged, and table hier is empty.
+  -- The rows of the tables of version 1 are unchanged, and there is a new table hier, which is empty.
   abbrev HasHier : Trees → Database → Type 0
   HasHier start db = (db.schema ≡ schema_without_indexes) × KeepsRows schema_up_to_move.tables start db.trees
       × ((db.trees 11 ≡ []) × Unit {0})

@@ -305,12 +305,12 @@ module _ (sql : List ℕ) (db : Database) (schema : Schema) (has : db.schema ≡
     source_found : source ≡ db
     source_found = subst (λ b. IsSourceOf b db source) (ap (λ s. reads_listing s sql) has ∙ unlisted) from
 
-  -- The rows that a query finds are an answer to it.
+  -- The rows that the query finds are those that its command reads.
   found_answers : (rows : List Row) → Finds sql db (Some rows) → Reads (Select q names) db [] rows
   found_answers rows h = subst₂ (λ k d. Reads k d [] rows) (command_found h.0 h.1 h.2 h.3)
       (source_found h.0 h.1 h.2 h.3) h.4
 
-  -- A query that compiles, and whose values have a result, finds rows.
+  -- A query that compiles, and whose values aren't refused, finds rows.
   found_some : is_ok (understood schema sql) ≡ true
       → ((e : Error) → RefusesQuery None db q [] e → ⊥) → Finds sql db None → ⊥
   found_some well none (inl no_query) =
@@ -323,7 +323,7 @@ module _ (sql : List ℕ) (db : Database) (schema : Schema) (has : db.schema ≡
 abbrev meta_query : Query
 meta_query = ordered_query 0 [] (columns_of table.Meta)
 
--- The query compiles in the schema, and its columns have types.
+-- The query compiles in the schema, and the types of its values are accepted.
 abbrev AcceptsMeta : Schema → Type 0
 AcceptsMeta schema = (is_ok (understood schema meta_text) ≡ true) × (accepts_program schema [] meta_query [] ≡ true)
 

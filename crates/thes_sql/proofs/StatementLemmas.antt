@@ -32,22 +32,24 @@ use Rattle.thes_sql.proofs.ForeignKeyLemmas.{LeavesOtherTables, get_first, write
 use Rattle.thes_sql.proofs.WriteEffectLemmas.{update_effect, delete_effect}
 use Rattle.thes_sql.proofs.KeyedRowLemmas.{many_updated, many_dropped, change_num, rising_map, rising_filter}
 
--- The statement rewrites one table: its tree has these rows, and nothing else has changed.
+-- The statement rewrites one table of a store: its tree satisfies `Holds`, and the schema and the other tables are
+-- unchanged.
 pub record Rewrites (tree : ℕ) (Holds : List Row → Type 0) (old new : State) : Type 0 where
   pub schema : new.now.schema ≡ old.now.schema
   pub rows : Holds (new.now.trees tree)
   pub others : LeavesOtherTables tree old.now.trees new.now.trees
 
--- A rewritten table has each property that its rows imply.
+-- If `P` implies `Q` for the new rows, a statement that rewrites the table so that `P` holds rewrites it so that `Q`
+-- holds.
 pub rewrites_as : (tree : ℕ) {P Q : List Row → Type 0} (old new : State)
     → (P (new.now.trees tree) → Q (new.now.trees tree)) → Rewrites tree P old new → Rewrites tree Q old new
 rewrites_as tree old new tell w = record { schema = w.schema; rows = tell w.rows; others = w.others }
 
--- A query without tables of its own reads the database's tables.
+-- A query without subqueries, views and CTEs reads the database's own tables.
 pub no_lets : (db : Trees) (t : ℕ) → overlay db [] t ≡ db t
 no_lets db t = grind (arith, common_steps)
 
--- Mapping a composition of functions is mapping each of them.
+-- Mapping a function and then another is mapping their composition.
 pub map_shows : {X A B : Type 0} (f : A → B) (g : X → A) (h : X → B) → ((x : X) → f (g x) ≡ h x) → (xs : List X)
     → map f (map g xs) ≡ map h xs
 map_shows f g h shows [] = refl

@@ -43,19 +43,19 @@ abbrev pub IsCommandText : List ℕ → Command → Type 0
 IsCommandText text command = (added : Additions) → (command_of (understood (schema_with added) text) ≡ command)
     × IsPlain (understood (schema_with added) text)
 
--- The number of the row is the first parameter.
+-- The filter for rows whose number is the first parameter.
 abbrev pub number_filter : List Term
 number_filter = equal_terms (col 1 0) (col 0 0) ∷ []
 
--- The posting is assigned to the first parameter, and isn't withdrawn.
+-- The filter for postings that are assigned to the first parameter and aren't withdrawn.
 abbrev pub place_filter : List Term
 place_filter = equal_terms (col 1 5) (col 0 0) ∷ equal_terms (col 1 6) (lit (Int (pos 0))) ∷ []
 
--- The three values of the row are the parameters.
+-- The filter for rows whose three values are the parameters.
 abbrev pub link_filter : List Term
 link_filter = equal_terms (col 1 1) (col 0 0) ∷ equal_terms (col 1 2) (col 0 1) ∷ equal_terms (col 1 3) (col 0 2) ∷ []
 
--- The four values of the row are the parameters.
+-- The filter for rows whose four values are the parameters.
 abbrev pub label_filter : List Term
 label_filter = equal_terms (col 1 1) (col 0 0) ∷ equal_terms (col 1 2) (col 0 1) ∷ equal_terms (col 1 3) (col 0 2)
     ∷ equal_terms (col 1 4) (col 0 3) ∷ []
@@ -104,7 +104,7 @@ update_of at tree filters columns = Update at (whole_program (plain_query tree f
 abbrev delete_of : ℕ → ℕ → List Term → Command
 delete_of at tree filters = Delete at (whole_program (plain_query tree filters (col 1 0 ∷ []) []))
 
--- The command that this text means.
+-- The command that `statement_text` means for each change.
 abbrev pub statement_command : Change → Command
 statement_command (change.AddResource n resource) =
     Insert 1 (Values (col 0 0 ∷ lit Null ∷ col 0 1 ∷ col 0 2 ∷ col 0 3 ∷ col 0 4 ∷ []) 6)

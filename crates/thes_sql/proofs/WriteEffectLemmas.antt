@@ -1,4 +1,5 @@
--- Proves the effect of a write to a table without foreign keys, AUTOINCREMENT and defaults that depend on the time.
+-- Proves the effect of a write to a table that has no foreign keys, no AUTOINCREMENT, and no defaults that depend on
+-- the time.
 use Rattle.std.proofs.Common.{arith, ◌≡◌, ◌⊎◌, inl, inr, ℕ, ℤ, List, [], slice_get, Bool, true, false, cond, Option}
 use Rattle.std.proofs.Common.{Some, None, Ok, Err, Result, refl, sym, ap, subst}
 use Rattle.std.proofs.lemmas.Grind.{common_steps}
@@ -40,7 +41,7 @@ pub cast_null : cast Integer Null ≡ Null
 unfolding unary
 cast_null = cond_same _ Null
 
--- A step that returned a value didn't stop.
+-- A step that returned a value didn't stop with an error.
 pub value_unstopped : {B E R : Type 0} {b : B} {Stops : E → Type 0} → ((stop : E) × Stops stop × (Ok b ≡ Err stop))
     ⊎ R → R
 value_unstopped (inl stopped) = absurd (let e = stopped.2 in cc)

@@ -9,7 +9,7 @@ use Rattle.thes_base.specs.declared.fault.Table.{Table}
 use Rattle.thes_sql.specs.Declarations.{declares}
 use Rattle.thes_sql.specs.Schema.{store_schema}
 
--- What a schema has besides the eight tables of a store: further tables after them, all indexes, and all views.
+-- The parts of a schema besides the eight tables of a store: the tables after these, all indexes, and all views.
 pub record Additions : Type 0 where
   pub tables : List StoredTable
   pub indexes : List Index
@@ -28,8 +28,8 @@ schema_with added =
 abbrev pub IsApart : StoredTable → Type 0
 IsApart t = AllByRecursion (λ (own : StoredTable). own.tree ≢ t.tree) store_tables
 
--- The schema is that of a store: it begins with the eight tables as the program makes them, and the check of a load
--- finds them declared so. After them it may have any tables in trees of their own, with foreign keys or without; it may
+-- The schema is that of a store: it begins with the eight tables as the program makes them, and declares each of them
+-- as a store does. After them it may have any tables in trees of their own, with or without foreign keys; it may also
 -- have any views, and any indexes that don't make columns of the eight tables a key.
 pub record IsStoreSchema (schema : Schema) : Type 0 where
   pub added : Additions

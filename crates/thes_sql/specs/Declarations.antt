@@ -82,7 +82,8 @@ has_label_columns (owner ∷ kind ∷ tag ∷ text ∷ more) =
     && (is_words (codes "text") text && are_optional more)))
 has_label_columns _ = false
 
--- Whether the columns are three columns of integers with these names, perhaps followed by columns that may be NULL.
+-- Whether the columns are three columns of integers with these names, perhaps followed by columns that may be NULL; so
+-- are those of tables link and hier.
 abbrev pub has_three_columns : List ℕ → List ℕ → List ℕ → List Column → Bool
 has_three_columns first second third (a ∷ b ∷ c ∷ more) =
     is_number first a && (is_number second b && (is_number third c && are_optional more))
@@ -125,17 +126,19 @@ abbrev pub has_no_key : List (List ℕ) → Bool
 has_no_key [] = true
 has_no_key _ = false
 
--- Whether the key has only the second column, by the positions of its columns, counted from 1.
+-- Whether the key consists of the second column alone; the list has the positions of its columns, counted from 1.
 abbrev pub is_second : List ℕ → Bool
 is_second (a ∷ []) = a == 2
 is_second _ = false
 
--- Whether the key has exactly the first three columns, in order, by their positions, counted from 1.
+-- Whether the key consists of the first three columns, in order; the list has the positions of its columns, counted
+-- from 1.
 abbrev pub are_three : List ℕ → Bool
 are_three (a ∷ b ∷ c ∷ []) = a == 1 && (b == 2 && c == 3)
 are_three _ = false
 
--- Whether the key has exactly the first four columns, in order, by their positions, counted from 1.
+-- Whether the key consists of the first four columns, in order; the list has the positions of its columns, counted from
+-- 1.
 abbrev pub are_four : List ℕ → Bool
 are_four (a ∷ b ∷ c ∷ d ∷ []) = a == 1 && (b == 2 && (c == 3 && d == 4))
 are_four _ = false
@@ -189,7 +192,8 @@ is_automatic (a ∷ b ∷ c ∷ d ∷ e ∷ f ∷ g ∷ rest) =
     a == 115 && (b == 113 && (c == 108 && (d == 105 && (e == 116 && (f == 101 && g == 95)))))
 is_automatic _ = false
 
--- Whether the index was made by a statement CREATE UNIQUE INDEX on the table in this tree, and so adds a key to it.
+-- Whether the index was made by a CREATE UNIQUE INDEX statement on the table in this tree, and so adds a key to that
+-- table.
 abbrev pub adds_key : ℕ → Index → Bool
 adds_key tree index = index.table == tree && (index.is_unique && not (is_automatic index.name))
 
@@ -210,6 +214,6 @@ abbrev pub declares_at : Schema → Table → Option ℕ → Bool
 declares_at schema name (Some at) = is_found_as_created name schema.indexes (slice_get schema.tables at)
 declares_at schema name None = false
 
--- Whether the schema declares a table of this name as a store does.
+-- Whether the schema has a table of this name, and declares it as `create_tables` does.
 unfoldable pub declares : Schema → Table → Bool
 declares schema name = declares_at schema name (table_named schema (table_name name))

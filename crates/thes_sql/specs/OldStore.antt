@@ -81,11 +81,11 @@ HasMovedLinks t db = IsMigrating db (tables_after_migration t)
 abbrev pub IsMigratedStore : Tables → Database → Type 0
 IsMigratedStore t db = KeepsIn store_schema db (tables_after_migration t)
 
--- The database has exactly the schema of version 1, or that of version 2 with or without a user's additions.
+-- The database has the schema of version 1, without additions, or that of version 2 with or without a user's additions.
 abbrev pub HasKnownSchema : Database → Type 0
 HasKnownSchema db = IsStoreSchema db.schema ⊎ (db.schema ≡ old_schema)
 
--- The database has a schema of either version, and the only row of table meta has this version and this base.
+-- The database has the schema of version 1 or 2, and the only row of table meta has this version and this base.
 abbrev pub IsStoreOfVersion : ℕ → List ℕ → Database → Type 0
 IsStoreOfVersion version base db = HasKnownSchema db × (db.trees 0 ≡ stored_version version base ∷ [])
 

@@ -1,4 +1,4 @@
--- What a query finds in a database that may hold anything.
+-- The results of queries of a database that may hold anything, a store or not.
 use Rattle.std.specs.Prelude.{◌≡◌, ◌⊎◌, ◌==◌, ◌&&◌, ℕ, leb, List, [], length, Bool, true, false, is_ok, Option, Some}
 use Rattle.std.specs.Prelude.{None, Result, Ok, Err, OnOk, IfOk, IfErr, IsSome}
 use Rattle.sqlite.specs.Order.{Row}
@@ -29,7 +29,7 @@ abbrev pub is_query_text : Result Parsed CompileError → Bool
 is_query_text (Ok p) = reads_rows p.statement && length p.formats == 0
 is_query_text (Err e) = false
 
--- Whether the result of parsing a text of this size is a statement without parameters, after which nothing comes; an
+-- Whether the result of parsing a text of this size is a statement without parameters that ends where the text does; an
 -- error isn't one.
 abbrev pub is_whole_text : ℕ → Result Parsed CompileError → Bool
 is_whole_text size (Ok p) = length p.names == 0 && leb size p.tail
@@ -47,8 +47,8 @@ IsWholeQuery sql = IsQuery sql × (is_whole_text (length sql) (first sql) ≡ tr
 abbrev pub compiles : Schema → List ℕ → Bool
 compiles schema sql = is_ok (understood schema sql)
 
--- What a query finds in a database: rows, or None if it doesn't compile or its values have no
--- result, such as a sum in a view that overflows.
+-- The query finds these rows in the database. None says that the query doesn't compile, or that its values are refused:
+-- a sum in a view overflows, or a type doesn't fit.
 abbrev pub Finds : List ℕ → Database → Option (List Row) → Type 0
 Finds sql db (Some rows) =
     (c : Compiled) × (understood db.schema sql ≡ Ok c) × (source : Database)
@@ -58,18 +58,20 @@ Finds sql db None =
     ⊎ ((c : Compiled) × (understood db.schema sql ≡ Ok c) × (source : Database)
     × IsSourceOf (reads_listing db.schema sql) db source × (e : Error) × RefusesToRead None c.command source [] e)
 
--- The store has failed: memory ran out, the disk failed, or an earlier failure had shut the database.
+-- The error says that the store has failed: memory ran out, the disk failed, or an earlier failure had shut the
+-- database.
 abbrev pub IsStoreFault : State → State → Error → Type 0
 IsStoreFault old new e = (cause : StoreError) × (e ≡ store_error cause) × HasCause old new ⊥ cause
 
--- Whether the error says that a query doesn't compile, or that its values have no result.
+-- Whether the error says that a query doesn't compile, or that its values are refused: a sum overflows, or a type
+-- doesn't fit.
 abbrev pub finds_nothing : Error → Bool
 finds_nothing (SqlInputError fault) = true
 finds_nothing (SqliteFailure TypeMismatch) = true
 finds_nothing (SqliteFailure IntegerOverflow) = true
 finds_nothing _ = false
 
--- A query has failed: it finds nothing, or the store has failed, or the query took more steps than
+-- The query has failed with this error: it finds nothing, or the store has failed, or the query took more steps than
 -- its limit.
 abbrev pub FailsToFind : List ℕ → State → State → Error → Type 0
 FailsToFind sql old new e =
@@ -83,8 +85,8 @@ FindResult g sql old new r rows =
     HasCleanDisk (state g new) → IfOk r (λ out. Finds sql (state g old).now (Some (rows out)))
     × IfErr r (FailsToFind sql (state g old) (state g new))
 
--- The answer to whether a query compiles, from the error of preparing it: false if the query
--- doesn't compile, else the error itself.
+-- The answer to whether a query compiles, from the error of preparing it: false if the error says that it doesn't
+-- compile, and any other error itself.
 abbrev pub answer_of_error : Error → Result Bool Error
 answer_of_error (SqlInputError fault) = Ok false
 answer_of_error e = Err e

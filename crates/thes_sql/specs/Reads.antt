@@ -44,7 +44,7 @@ places_of table.Hier = 1 ∷ 2 ∷ 3 ∷ []
 places_of table.Posting = 0 ∷ 2 ∷ 3 ∷ 4 ∷ 5 ∷ 6 ∷ []
 places_of table.Move = 0 ∷ 2 ∷ 3 ∷ 4 ∷ []
 
--- The rows of a table in these trees, whatever rows and values the trees have.
+-- The rows that the query for a table returns from these trees, whether or not the trees hold the tables of a store.
 abbrev pub rows_in_trees : Table → Trees → List Row
 rows_in_trees p db = map (λ (row : Row). map (column row) (places_of p)) (db (tree_of p))
 
@@ -116,8 +116,8 @@ SelectResult g wanted old new r rows =
     HasCleanDisk (state g new) → IfOk r (λ out. (t : Tables) → Keeps (state g old).now t
     → rows out ≡ map values (wanted t))
 
--- A call leaves the database unchanged if nothing in it was uncommitted, it is still open, and the disk hasn't failed
--- silently.
+-- A call leaves the database unchanged, provided that the database had nothing uncommitted and is still open, and that
+-- the disk hasn't failed silently.
 pub record LeavesTables {S : Type 0} (g : Ghosts S) (old new : Held S) : Type 0 where
   pub mode : old.in_transaction ≡ false → new.in_transaction ≡ false
   pub was : HasCleanDisk (state g new) → IsTrue (state g new).is_open → IsTrue (state g old).is_open

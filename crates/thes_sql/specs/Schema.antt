@@ -29,9 +29,9 @@ number_column = column_of Integer true
 abbrev pub text_column : List ℕ → Column
 text_column = column_of Text true
 
--- A table without checks, foreign keys and AUTOINCREMENT. `key` is the position, from 0, of the column that is the
--- rowid, if one is. `primary` has the primary key, and `uniques` each key other than the rowid, as lists of positions:
--- 0 is the rowid, and columns count from 1. `orders` has an order for each of `uniques`.
+-- A table without checks, foreign keys or AUTOINCREMENT. `key` is the position, counted from 0, of the column that is
+-- the rowid, if one is. `primary` is the primary key, and `uniques` has each key other than the rowid, as lists of
+-- positions: 0 is the rowid, and columns are counted from 1. `orders` has an order for each of `uniques`.
 abbrev pub plain_table : List ℕ → List Column → Option ℕ → List ℕ → List (List ℕ) → List Order → Table
 plain_table name columns key primary uniques orders = record {
   name = name;
@@ -105,7 +105,7 @@ move_table = numbered_table (codes "move")
     (key_column (codes "num") ∷ number_column (codes "posting") ∷ number_column (codes "source") ∷ number_column
     (codes "target") ∷ []) [] []
 
--- An index, not unique, of the columns at these positions, counted from 1, of the table in this tree.
+-- An index that isn't unique, on the table in this tree. `columns` are the positions of its columns, counted from 1.
 abbrev pub index_of : List ℕ → ℕ → List ℕ → Index
 index_of name table columns =
     record { name = name; tree = 0; table = table; columns = columns; order = plain; is_unique = false }
@@ -118,8 +118,8 @@ posting_at = index_of (codes "posting_at") 8 (5 ∷ [])
 abbrev pub move_posting : Index
 move_posting = index_of (codes "move_posting") 10 (2 ∷ [])
 
--- The empty schema, before the ten statements that create a store. Those below are the schemas after each statement:
--- `schema_up_to_label`, for example, has the tables up to label.
+-- The empty schema, before the ten statements that create the tables and indexes of a store. The definitions below are
+-- the schemas after each statement: `schema_up_to_label`, for example, has the tables up to label.
 abbrev pub empty_schema : Schema
 empty_schema = record { tables = []; indexes = []; views = [] }
 

@@ -31,29 +31,29 @@ value_of cells.Null = Null
 abbrev pub values : List Cell → List Value
 values row = map value_of row
 
--- The stored row for values whose first is the rowid: the rowid, NULL for its own column, and the
--- other values.
+-- The stored row of values of which the first is the rowid: the rowid, then NULL in the rowid's own column, as SQLite
+-- stores it, and then the other values.
 abbrev pub keyed_row : List Value → Row
 keyed_row [] = []
 keyed_row (id ∷ rest) = id ∷ Null ∷ rest
 
--- The stored row of table meta, under its key 1 as rowid.
+-- The stored row of table meta, whose rowid is its key, 1.
 abbrev pub stored_meta : List ℕ → Row
 stored_meta base = keyed_row (values (meta_cells base))
 
--- The stored row of a resource, under its number as rowid.
+-- The stored row of a resource, whose rowid is its number.
 abbrev pub stored_resource : ℕ × Resource → Row
 stored_resource row = keyed_row (values (resource_cells row.0 row.1))
 
--- The stored row of an outside concept, under its number as rowid.
+-- The stored row of an outside concept, whose rowid is its number.
 abbrev pub stored_outside : ℕ × List ℕ → Row
 stored_outside row = keyed_row (values (outside_cells row))
 
--- The stored row of a posting, under its number as rowid.
+-- The stored row of a posting, whose rowid is its number.
 abbrev pub stored_posting : PostingRow → Row
 stored_posting row = keyed_row (values (posting_cells row))
 
--- The stored row of a move, under its number as rowid.
+-- The stored row of a move, whose rowid is its number.
 abbrev pub stored_move : MoveRow → Row
 stored_move row = keyed_row (values (move_cells row))
 
@@ -91,7 +91,7 @@ pub record AreHidden {A : Type 0} (of : A → List Value) (xs : List A) (tree : 
   pub same : map (λ (row : ℕ × A). row.1) given ≡ xs
   pub held : AreKeyed (hidden_row of) (λ (row : ℕ × A). row.0) given tree
 
--- The elements, each paired with its number, from `n` on.
+-- The elements, each paired with its number; the numbers count from `n`.
 abbrev pub numbered_from : {A : Type 0} → ℕ → List A → List (ℕ × A)
 numbered_from n [] = []
 numbered_from n (x ∷ xs) = (n, x) ∷ numbered_from (n + 1) xs

@@ -1,4 +1,4 @@
--- What tables show of a change of one row.
+-- The traces that a change of one row leaves in tables, by which a later query finds out whether it was made.
 use mathlib.Core.Logic.{inl, inr}
 use Rattle.std.specs.Prelude.{◌≡◌, ◌⊎◌, ◌==◌, ◌&&◌, ℕ, Bool, false, not, length, List, Option, None, Some, Result, IfOk}
 use Rattle.std.specs.List.{list_any}
@@ -72,8 +72,9 @@ abbrev pub has_row : Option ListedRow → Tables → Bool
 has_row None t = false
 has_row (Some row) t = has_listed row t
 
--- Whether the tables show the change: they have the row that it inserts, found by its number if it has one, lack the
--- row that it deletes, or have the mark that it sets. False for a change of places, which no table shows.
+-- Whether the tables show the change: they have the row that it inserts, found by its number if it has one; lack the
+-- row that it deletes; or have the mark, dead or withdrawn, that it sets. False for SetPlace and MoveAll, after which
+-- the places may be the same as before.
 abbrev pub shows_change : Change → Tables → Bool
 shows_change (change.AddResource n r) t = has_resource n t
 shows_change (change.Retire n) t = has_dead n t

@@ -31,7 +31,7 @@ pub record AppliesChanges (changes : List Change) (old new : State) : Type 0 whe
       → KeepsIn old.now.schema new.now (tables_after_delta changes t)
   pub inside : IsTrue new.in_transaction
 
--- A prefix of the changes was applied, and the changes `left` remain.
+-- A prefix of the changes was applied; the others, `left`, are still to be applied.
 pub record IsUnderWay (changes left : List Change) (old now : State) : Type 0 where
   pub rows : (t : Tables) → Keeps old.now t → DeltaFits changes t → (mid : Tables)
       × KeepsIn old.now.schema now.now mid

@@ -49,7 +49,8 @@ PRIMARY KEY (a, b, typ)) STRICT;",
     )
 }
 
-// Runs a statement CREATE INDEX; succeeds also if the statement doesn't compile.
+// Runs a CREATE INDEX statement; succeeds even if the statement doesn't compile, as when its table
+// is missing.
 fn try_index<S: Alter>(tx: &mut Transaction<'_, S>, sql: &str) -> Result<(), Error>
     ensures same_reference { tx.new.conn.ghost_name ≡ tx.old.conn.ghost_name }
     ensures does { SucceedsInside S.Store (RunsOrFailsToCompile sql.now)
@@ -64,7 +65,7 @@ fn try_index<S: Alter>(tx: &mut Transaction<'_, S>, sql: &str) -> Result<(), Err
 }
 
 // Creates the indexes of postings by place and of moves by posting. Skips an index whose table is
-// missing, as in some faulty stores of version 1.
+// missing, as it is in some faulty stores of version 1.
 fn define_indexes<S: Alter>(tx: &mut Transaction<'_, S>) -> Result<(), Error>
     ensures same_reference { tx.new.conn.ghost_name ≡ tx.old.conn.ghost_name }
     ensures does { SucceedsInside S.Store (ExtendsSchema schema_without_indexes store_schema [])

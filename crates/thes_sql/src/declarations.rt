@@ -62,14 +62,14 @@ fn is_words(column: &Column, name: &str) -> bool
     is_strict(column, name) && is_text(column.kind) && column.not_null
 }
 
-// Checks whether at least one of these declared columns mustn't be NULL.
+// Checks whether at least one of these columns is declared NOT NULL.
 fn need_values(columns: &[Column]) -> bool
     ensures { result ≡ list_any wanted.needs_value columns.now }
 {
     columns.iter().any(|column| column.not_null)
 }
 
-// Checks whether all of these declared columns may be NULL.
+// Checks whether none of these columns is declared NOT NULL.
 fn are_optional(columns: &[Column]) -> bool
     ensures { result ≡ wanted.are_optional columns.now }
 {
@@ -141,7 +141,7 @@ fn has_label_columns(columns: &[Column]) -> bool
 }
 
 // Checks whether the columns are declared as three columns of integers with these names, perhaps
-// followed by columns that may be NULL.
+// followed by columns that may be NULL; so are those of tables link and hier.
 fn has_three_columns(columns: &[Column], first: &str, second: &str, third: &str) -> bool
     ensures { result ≡ wanted.has_three_columns first.now second.now third.now columns.now }
 {
@@ -221,8 +221,8 @@ fn has_no_key(table: &FoundTable) -> bool
     }
 }
 
-// Checks whether a declared key has only the second column, by the positions of its columns,
-// counted from 1.
+// Checks whether a declared key consists of the second column alone; `places` has the positions of
+// its columns, counted from 1.
 fn is_second(places: &[usize]) -> bool
     ensures { result ≡ wanted.is_second places.now }
 {
@@ -232,8 +232,8 @@ fn is_second(places: &[usize]) -> bool
     }
 }
 
-// Checks whether a declared key has exactly the first three columns, in order, by their positions,
-// counted from 1.
+// Checks whether a declared key consists of the first three columns, in order; `places` has the
+// positions of its columns, counted from 1.
 fn are_three(places: &[usize]) -> bool
     ensures { result ≡ wanted.are_three places.now }
 {
@@ -243,8 +243,8 @@ fn are_three(places: &[usize]) -> bool
     }
 }
 
-// Checks whether a declared key has exactly the first four columns, in order, by their positions,
-// counted from 1.
+// Checks whether a declared key consists of the first four columns, in order; `places` has the
+// positions of its columns, counted from 1.
 fn are_four(places: &[usize]) -> bool
     ensures { result ≡ wanted.are_four places.now }
 {
@@ -327,24 +327,24 @@ fn is_automatic(name: &[u8]) -> bool
     }
 }
 
-// Checks whether an index was made by a statement CREATE UNIQUE INDEX on the table in this tree,
-// and so adds a key to it.
+// Checks whether an index was made by a CREATE UNIQUE INDEX statement on the table in this tree,
+// and so adds a key to that table.
 fn adds_key(tree: u32, index: &Index) -> bool
     ensures { result ≡ wanted.adds_key tree index.now }
 {
     index.table == tree && index.is_unique && !is_automatic(index.name.as_slice())
 }
 
-// Checks whether a statement CREATE UNIQUE INDEX, which `create_tables` doesn't use, has added a
-// key to the table in this tree. `indexes` are those of the whole schema.
+// Checks whether a CREATE UNIQUE INDEX statement, which `create_tables` doesn't use, has added a
+// key to the table in this tree. `indexes` has all indexes of the schema.
 fn has_added_key(tree: u32, indexes: &[Index]) -> bool
     ensures { result ≡ list_any (wanted.adds_key tree) indexes.now }
 {
     indexes.iter().any(|index| adds_key(tree, index))
 }
 
-// Checks whether a table is declared as `create_tables` declares that of this name. `indexes` are
-// those of the whole schema.
+// Checks whether a table is declared as `create_tables` declares the table of this name. `indexes`
+// has all indexes of the schema.
 fn is_as_created(name: Table, table: &FoundTable, indexes: &[Index]) -> bool
     ensures { result ≡ wanted.is_as_created name indexes.now table.now }
 {

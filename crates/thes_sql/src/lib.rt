@@ -1,5 +1,5 @@
-//! The SQL statements that create, read, change and migrate a store's tables, and what a database
-//! declares of these.
+//! The SQL statements that create, read, change and migrate a store's tables, and the check that a
+//! database declares the tables as a store does.
 #![tactic(auto)]
 
 pub mod commit;

@@ -18,8 +18,8 @@ use thes_base::number::{MoveNo, PostNo, ResNo};
 use thes_tables::change::Change;
 use thes_tables::rows::{HierRow, LabelRow};
 
-/// Queries the database to check whether an earlier failure has shut the connection; false if the
-/// query succeeds or fails otherwise.
+/// Queries the database to check whether an earlier failure has shut the connection. Returns false
+/// if the query succeeds, or fails for any other reason.
 #[tactic(auto, using(crate::proofs::ReadFrameLemmas::shut_before))]
 pub fn is_shut<S: Alter>(conn: &mut Connection<S>) -> bool
     ensures leaves { LeavesTables S.Store conn.old conn.new }
@@ -172,8 +172,9 @@ fn has_listed<S: Alter>(conn: &mut Connection<S>, change: &Change) -> Result<boo
 }
 
 /// Checks whether a database shows a change: has the row that the change inserts, found by its
-/// number if it has one, lacks the row that it deletes, or has the mark that it sets. Returns false
-/// for `SetPlace` and `MoveAll`.
+/// number if it has one; lacks the row that it deletes; or has the mark, dead or withdrawn, that it
+/// sets. Returns false for `SetPlace` and `MoveAll`, after which the places may be the same as
+/// before.
 pub fn has_change<S: Alter>(conn: &mut Connection<S>, change: &Change) -> Result<bool, Error>
     ensures shows { ShowsTrace S.Store (traces.shows_change change.now) conn.old conn.new result }
     ensures leaves { LeavesTables S.Store conn.old conn.new }
