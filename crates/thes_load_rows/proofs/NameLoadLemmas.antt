@@ -73,7 +73,7 @@ module _ (base : List ℕ) (rs : List Resource) (old new : Vocabulary) (last : �
       none None e below = e
       none (Some iri) e below = let lt = below (x.0, iri) (iri_row rows x.0 iri e) in absurd (omega (arith, lt))
 
-  -- Either the IRI of the row is added, or no rows that begin with the rows so far and this one meet the rule.
+  -- Either the IRI of the row is added, or no list that begins with the rows so far and this one meets the rule.
   pub outside_step : (good : Bool) → last < x.0 → HasOutsideForm x → LoadIriResult old new x.0 x.1 good
       → TakeResult (HasOutside base rs new x.0) (OutsideRule base rs) rows x good
   outside_step true up form (fits, is) =
@@ -141,7 +141,7 @@ module _ (base : List ℕ) (rs : List Resource) (outside : List IriRow) (old new
         (fewer more _ hm) (fewer more _ hn);
   }
 
-  -- Either the label of the row is added, or no rows that begin with the rows so far and this one meet the rule.
+  -- Either the label of the row is added, or no list that begins with the rows so far and this one meets the rule.
   pub label_step : (good : Bool) → HasLabelForm l → LoadLabelResult old new l good
       → TakeResult (HasLabels base rs outside new) (LabelRule rs) rows l good
   label_step true form (fits, is) =

@@ -34,7 +34,7 @@ module _ {A : Type 0} where
     | inr new ↦ elim new [ inl is ↦ subst P (sym is) p | inr none ↦ absurd none ]
   ]
 
-  -- If a row that occurred before follows, the list has duplicates.
+  -- If the next row occurs among the rows before it, the list has duplicates.
   pub once_twice : (rows : List A) (x : A) (more : List A) → IsIn x rows → AreDistinct (rows ++ x ∷ more) → ⊥
   once_twice [] x more h once = h
   once_twice (y ∷ rows) x more (inl e) once = once.0 (append_right y rows (x ∷ more) (inl (sym e)))

@@ -135,7 +135,7 @@ move_fault raw t cells passes read faulty more (e0, e1, e2, e3, e4, e5, e6, grow
     (verdict_by_table more t).move (posting_stays raw more t e0 e1 e2 e3 e4 e5 e6 passes)
     (faulty_row (map move_cells) (MoveRule t.resource t.posting) cells _ raw.move more.move read faulty grown)
 
--- The stage has read what it should (HasRead) once a row of table outside is added.
+-- The stage is right (HasRead) after a row of table outside is added.
 pub outside_taken : (raw : Raw) (t : Tables) (cells : List Cell) (new : OutsideLoad) → ResourcePasses raw t
     → raw.outside ≡ Some (map outside_cells t.outside) → ReadResult (map outside_cells)
     (HasOutside t.base t.resource new.vocab new.last) (OutsideRule t.base t.resource) t.outside cells true
@@ -148,7 +148,7 @@ outside_taken raw t cells new passes read (x, e, has) after = (
   after,
 )
 
--- The stage has read what it should (HasRead) once a row of table label is added.
+-- The stage is right (HasRead) after a row of table label is added.
 pub label_taken : (raw : Raw) (t : Tables) (cells : List Cell) (new : Vocabulary) → OutsidePasses raw t → raw.label
     ≡ Some (map label_cells t.label) → ReadResult (map label_cells) (HasLabels t.base t.resource t.outside new)
     (LabelRule t.resource) t.label cells true → NoneAfterLabel raw → HasRead (stage.Label new)
@@ -161,7 +161,7 @@ label_taken raw t cells new passes read (x, e, has) after = (
   after,
 )
 
--- The stage has read what it should (HasRead) once a row of table link is added.
+-- The stage is right (HasRead) after a row of table link is added.
 pub link_taken : (raw : Raw) (t : Tables) (cells : List Cell) (new : LinkedVocab) → LabelPasses raw t
     → HasNames new.vocab t → raw.link ≡ Some (map link_cells t.link) → ReadResult (map link_cells)
     (λ rows. HasLinks t.resource new.graph rows []) (LinkRule t.resource) t.link cells true → NoneAfterLink raw
@@ -175,7 +175,7 @@ link_taken raw t cells new passes names read (x, e, has) after = (
   after,
 )
 
--- The stage has read what it should (HasRead) once a row of table hier is added.
+-- The stage is right (HasRead) after a row of table hier is added.
 pub hier_taken : (raw : Raw) (t : Tables) (cells : List Cell) (new : LinkedVocab) → LinkPasses raw t
     → HasNames new.vocab t → raw.hier ≡ Some (map hier_cells t.hier) → ReadResult (map hier_cells)
     (HasLinks t.resource new.graph t.link) (HierRule t.resource t.link) t.hier cells true → NoneAfterHier raw
@@ -189,7 +189,7 @@ hier_taken raw t cells new passes names read (x, e, has) after = (
   after,
 )
 
--- The stage has read what it should (HasRead) once a row of table posting is added.
+-- The stage is right (HasRead) after a row of table posting is added.
 pub posting_taken : (raw : Raw) (t : Tables) (cells : List Cell) (linked_vocab : LinkedVocab) (new : PostingLoad)
     → HierPasses raw t → HasNames linked_vocab.vocab t → HasLinks t.resource linked_vocab.graph t.link t.hier
     → raw.posting ≡ Some (map posting_cells t.posting) → ReadResult (map posting_cells)

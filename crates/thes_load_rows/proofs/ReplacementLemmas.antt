@@ -24,7 +24,7 @@ use Rattle.thes_load_rules.specs.Rules.{ResourceRule}
 use Rattle.thes_load_rows.specs.ResourceChecks.{SchemeFits, ReplacementFits, ResourceFits, EachResourceFits}
 use Rattle.thes_load_rows.specs.ResourceChecks.{NoneReplacesItself, HasReplacementCycle, HasReplacements, is_cycle}
 
--- The check of each resource accepts exactly legal resources.
+-- The check of each resource (ResourceFits) accepts exactly the legal resources.
 module _ (rs : List Resource) where
   scheme_some : (kind : ResourceKind) (o : Option ℕ) → SchemeFits rs kind o → (is_concept_kind kind ≡ true)
       ⊎ (is_collection_kind kind ≡ true) → (m : ℕ) × (o ≡ Some m) × IsScheme rs m

@@ -108,7 +108,8 @@ label_bad vocab broken = (
       (subst (LabelRule t.resource) same rule).legal.named)),
 )
 
--- Since each outside concept has an IRI after the end of table outside, this branch can't be reached.
+-- After the end of table outside each outside concept has an IRI, so table label is never faulty because an IRI is
+-- missing.
 pub label_without : (vocab : Vocabulary) → (HaveIris vocab → ⊥) → Closes (stage.Label vocab)
     (stage.Stopped (BadStore table.Label) table.Link)
 label_without vocab broken = (

@@ -66,7 +66,7 @@ meta_unread cells spells raw (none, after) more grown =
     meta_fault more (λ version base which e. spells.0 version base which (grown_is cells _ more.meta grows e))
     (λ base form e. spells.1 base form (grown_is cells _ more.meta grows e))
 
--- The stage has read what it should (HasRead) after a row of table resource.
+-- The stage is right (HasRead) after a row of table resource, whether or not the row was added.
 pub resource_row : (base : List ℕ) (old new : ResourceLoad) (cells : List Cell) (good : Bool)
     → ReadResult (resource_rows 1) (λ rows. rows ≡ new.resources.items) ResourceRule old.resources.items cells good
     → ReadsRow (stage.Resource base old) (stage.Resource base new) cells good
@@ -171,7 +171,7 @@ module _ (linked_vocab : LinkedVocab) (rs : List Resource) (is : rs ≡ linked_v
       old.places.items rows → ReadResult (map move_cells) (HasMoves known postings new.taken new.places.items)
       (MoveRule known postings) rows cells good
 
-  -- The stage has read what it should (HasRead) after a row of table move.
+  -- The stage is right (HasRead) after a row of table move, whether or not the row was added.
   pub move_row : (placed : PlacedPostings) (old new : MoveLoad) (good : Bool)
       → ((postings : List PostingRow) (rows : List MoveRow) → ReadsMove old new good postings rows rs)
       → ReadsRow (stage.Move linked_vocab placed old) (stage.Move linked_vocab placed new) cells good

@@ -1,4 +1,4 @@
--- The order of tables in a load. Rows of cells extend themselves at every table.
+-- The order of tables in a load. Any rows of cells extend themselves (ExtendsTable) at each table.
 use Rattle.std.proofs.lemmas.Grind.{common_steps}
 use Rattle.std.proofs.Common.{◌≡◌, ◌<◌, ◌≤◌, ◌+◌, ℕ, zero, suc, sym, ap, ◌∙◌, arith}
 use Rattle.thes_base.specs.declared.fault.Table.{Table}

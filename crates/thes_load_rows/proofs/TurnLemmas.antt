@@ -1,4 +1,4 @@
--- Proves which stage follows a row or report of a table, in the table's turn or after it.
+-- Proves which stage follows a row of some table, or the report that the table can't be queried.
 use Rattle.std.proofs.lemmas.Grind.{common_steps}
 use Rattle.std.proofs.Common.{◌≡◌, ◌↔◌, ◌<◌, ◌≤◌, ◌+◌, ◌-◌, ◌∙◌, ℕ, zero, suc, Bool, false, true≢false, List, refl}
 use Rattle.std.proofs.Common.{sym, subst, arith}
@@ -30,7 +30,7 @@ stopped_reaches (suc k) fault at name there raw has =
     let next = next_no at (omega (arith, there, last_no name)) in
     stopped_reaches k fault (next_table at) name (omega (arith, there, next)) raw ((stopped_on fault at).1 raw has)
 
--- A row or report of the table doesn't change the verdict.
+-- A further row of the table, or the report that it can't be queried, doesn't change the verdict.
 stopped_news : (fault : Fault) (name : Table) (news : Option (List Cell)) (raw : Raw)
     → HasRead (stage.Stopped fault name) raw → HasRead (stage.Stopped fault name) (with_news name news raw)
 stopped_news fault name None raw has = stopped_lost (stage.Stopped fault name) refl raw has

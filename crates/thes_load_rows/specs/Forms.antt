@@ -23,7 +23,7 @@ HasResourceForm row = IsNumber row.number × IsNumberOrNone row.resource.scheme 
 abbrev pub HasOutsideForm : ℕ × List ℕ → Type 0
 HasOutsideForm row = IsNumber row.0 × IsIri row.1
 
--- The row of table label has an owner in range, and a tag and a text of their forms.
+-- The row of table label has an owner in range, and a tag and a text of the right forms.
 abbrev pub HasLabelForm : Label → Type 0
 HasLabelForm l = IsNumber l.owner × IsLabelForm l.kind l.tag l.text
 
@@ -35,7 +35,7 @@ HasLinkForm l = (hier_type l.kind ≡ None) × IsNumber l.a × IsNumber l.b
 abbrev pub HasHierForm : HierRow → Type 0
 HasHierForm row = IsNumber row.a × IsNumber row.b
 
--- The row of table posting has numbers in range, and a key and a record name of their forms.
+-- The row of table posting has numbers in range, and a key and a record name of the right forms.
 abbrev pub HasPostingForm : PostingRow → Type 0
 HasPostingForm row = IsNumber row.number × IsPostingForm row.key row.rec × IsNumber row.first × IsNumber row.place
 

@@ -27,7 +27,8 @@ pub record HasOutside (base : List ℕ) (resources : List Resource) (v : Vocabul
   pub are : v ≡ vocabulary_of_rows base resources rows []
   pub greatest : IsLast rows last
 
--- The vocabulary has the labels of these rows of table label. Their texts have their forms, and no two rows are equal.
+-- The vocabulary has the labels of these rows of table label. Tags and texts have the right forms, and no two rows are
+-- equal.
 pub record HasLabels (base : List ℕ) (resources : List Resource) (outside : List (ℕ × List ℕ))
     (v : Vocabulary) (rows : List Label) : Type 0 where
   pub once : AreDistinct rows

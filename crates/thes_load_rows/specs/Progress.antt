@@ -22,11 +22,11 @@ use Rattle.thes_load_rows.specs.LinksSoFar.{HasLinks}
 use Rattle.thes_load_rows.specs.PostingPlaces.{ArePlaced}
 use Rattle.thes_load_rows.specs.RowsSoFar.{HasPostings, HasMoves}
 
--- The table after one more row; None stays None.
+-- The table with one more row at its end; a table that can't be queried (None) stays so.
 abbrev pub with_row : List Cell → RawTable → RawTable
 with_row cells raw = option_map (λ rows. rows ++ cells ∷ []) raw
 
--- The rows after one more row in a table.
+-- The rows of all tables, with one more row at the end of this table.
 abbrev pub raw_with_row : Table → List Cell → Raw → Raw
 raw_with_row name cells raw = with_rows name (with_row cells (raw_rows_of name raw)) raw
 
@@ -139,7 +139,7 @@ stage_table (stage.Posting linked_vocab load) = table.Posting
 stage_table (stage.Move linked_vocab placed load) = table.Move
 stage_table (stage.Stopped fault at) = at
 
--- Tests whether a stage has stopped with a fault.
+-- Whether the stage has stopped with a fault.
 abbrev pub is_stopped : Stage → Bool
 is_stopped (stage.Stopped fault at) = true
 is_stopped (stage.Meta row) = false
@@ -169,21 +169,21 @@ Closes old new = (stage_table new ≡ next_table (stage_table old)) × ((raw : R
 abbrev pub ReachesTable : Stage → Stage → Table → Type 0
 ReachesTable old new table = (stage_table new ≡ table) × ((raw : Raw) → HasRead old raw → HasRead new raw)
 
--- The tables without rows, all of which can be queried.
+-- The tables before a load: all can be queried, and none has rows.
 abbrev pub raw_without_rows : Raw
 raw_without_rows = raw_by_table (λ name. Some [])
 
--- The rows, but with this table as one that can't be queried.
+-- The rows of all tables, except that this table can't be queried.
 abbrev pub raw_without_table : Table → Raw → Raw
 raw_without_table name raw = with_rows name None raw
 
--- The new stage is at this table, and is right for all rows for which the old one is, but with this table as one that
--- can't be queried.
+-- The new stage is at this table, and is right for all rows for which the old one is, except that this table can't be
+-- queried.
 abbrev pub HasUnqueried : Stage → Stage → Table → Type 0
 HasUnqueried old new table =
     (stage_table new ≡ table) × ((raw : Raw) → HasRead old raw → HasRead new (raw_without_table table raw))
 
--- The new stage is at this table, and is right for all rows for which the old one is, with one more row of this table.
+-- The new stage is at this table, and is right for all rows for which the old one is, with one more row in this table.
 abbrev pub HasRow : Stage → Stage → Table → List Cell → Type 0
 HasRow old new table cells =
     (stage_table new ≡ table) × ((raw : Raw) → HasRead old raw → HasRead new (raw_with_row table cells raw))

@@ -18,7 +18,8 @@ abbrev pub AppendResourceResult : List Resource → List Resource → ResourceRo
 AppendResourceResult old new row true = (row.number ≡ length old + 1) × (new ≡ old ++ row.resource ∷ [])
 AppendResourceResult old new row false = row.number ≢ length old + 1
 
--- The scheme is one that the kind requires: a scheme's number for a concept or a collection, and None for other kinds.
+-- A resource of the kind may have this scheme: a scheme's number for a concept or a collection, and None for other
+-- kinds.
 abbrev pub SchemeFits : List Resource → ResourceKind → Option ℕ → Type 0
 SchemeFits resources Scheme scheme = scheme ≡ None
 SchemeFits resources Outside scheme = scheme ≡ None
@@ -27,8 +28,8 @@ SchemeFits resources Concept (Some m) = IsScheme resources m
 SchemeFits resources Collection None = ⊥
 SchemeFits resources Collection (Some m) = IsScheme resources m
 
--- The replacement is right: there is none, or the resource is dead and the replacement is another concept of its
--- scheme.
+-- The resource may have its replacement: there is none, or the resource is dead and is replaced by another concept of
+-- its scheme.
 abbrev pub ReplacementFits : List Resource → ℕ → Resource → Option ℕ → Type 0
 ReplacementFits resources n r None = Unit {0}
 ReplacementFits resources n r (Some m) = (r.live ≡ false) × (m ≢ n) × IsConcept resources m
@@ -43,7 +44,7 @@ ResourceFits resources n r = SchemeFits resources r.kind r.scheme
 abbrev pub EachResourceFits : List Resource → Type 0
 EachResourceFits resources = (n : ℕ) (r : Resource) → entry_at resources n ≡ Some r → ResourceFits resources n r
 
--- Tests whether the first broken rule is Cycle.
+-- Whether the first rule that a graph of links breaks is Cycle.
 abbrev pub is_cycle : Option Refusal → Bool
 is_cycle (Some no.Cycle) = true
 is_cycle _ = false
@@ -57,7 +58,7 @@ abbrev pub HasReplacementCycle : List Resource → Bool → Type 0
 HasReplacementCycle resources true = (n : ℕ) × Chain (IsReplacedBy resources) n n
 HasReplacementCycle resources false = (n : ℕ) → Chain (IsReplacedBy resources) n n → ⊥
 
--- The links are broader links from resources to their replacements, with all those from the first `most` resources.
+-- The links are broader links from resources to their replacements, and include those of the first `most` resources.
 pub record HasReplacements (resources : List Resource) (most : ℕ) (links : Links) : Type 0 where
   pub sound : (l : Link) → Holds links l → (l.kind ≡ Broader) × IsReplacedBy resources l.a l.b
   pub complete : (m n : ℕ) → m ≤ most → IsReplacedBy resources m n

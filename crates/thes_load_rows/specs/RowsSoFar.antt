@@ -13,13 +13,13 @@ use Rattle.thes_post.specs.PostingCounts.{PostingCounts}
 use Rattle.thes_load_rules.specs.Rules.{EachRow, AreInOrder, PostingRule, history_of}
 use Rattle.thes_load_rows.specs.PostingCounts.{AreCountsOfRows}
 
--- The result of adding a row: true if it was added, false if no rows that begin with the rows so far and this one meet
--- the rule.
+-- The result of adding a row: true if it was added, false if no list that begins with the rows so far and this one
+-- meets the rule.
 abbrev pub TakeResult : {A : Type 0} → (List A → Type 0) → (List A → Type 0) → List A → A → Bool → Type 0
 TakeResult Has Rule rows x true = Has (rows ++ x ∷ [])
 TakeResult {A} Has Rule rows x false = (more : List A) → Rule (rows ++ x ∷ more) → ⊥
 
--- Tests whether the list of posting keys has this key.
+-- Whether the list of posting keys has this key.
 abbrev pub has_key : List (List ℕ) → List ℕ → Bool
 has_key keys q = list_any (eq_by_cmp (slice_cmp nat_cmp) q) keys
 

@@ -1,4 +1,5 @@
--- The stage of a load after a row of any table, or a report that it can't be queried, in the table's turn or after it.
+-- The stage of a load after a row of some table, or after the report that the table can't be queried; the load may
+-- already be past that table.
 use Rattle.std.specs.Prelude.{◌≡◌, ◌≤◌, ◌<◌, false, List, Option, None, Some}
 use Rattle.thes_base.specs.declared.fault.Fault.TheVariants as faults
 use Rattle.thes_base.specs.declared.fault.Table.{Table}
@@ -9,11 +10,11 @@ use Rattle.thes_load_rows.specs.declared.stage.Stage.TheVariants as stage
 use Rattle.thes_tables.specs.TableOrder.{table_no}
 use Rattle.thes_load_rows.specs.Progress.{HasRead, is_stopped, stage_table, raw_with_row, raw_without_table}
 
--- Unless the stage has stopped with a fault, it has read some rows, perhaps none.
+-- Unless the stage has stopped with a fault, it is right (`HasRead`) for some rows of cells.
 abbrev pub IsOfRows : Stage → Type 0
 IsOfRows stage = is_stopped stage ≡ false → (raw : Raw) × HasRead stage raw
 
--- The rows with one more at the end of a table, or with the report (None) that the table can't be queried.
+-- The rows of all tables after the news of one: a further row, at its end, or (None) that it can't be queried.
 abbrev pub with_news : Table → Option (List Cell) → Raw → Raw
 with_news table None raw = raw_without_table table raw
 with_news table (Some cells) raw = raw_with_row table cells raw

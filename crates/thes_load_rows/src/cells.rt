@@ -106,7 +106,8 @@ pub fn hier_type_in(cell: &Cell) -> Option<HierType>
     }
 }
 
-/// Parses a text that has the form `F` and is in its stored spelling: a language tag in lower case.
+/// Parses a text that has the form `F`, in its stored spelling: a language tag is stored in lower
+/// case, any other text as it was written.
 pub fn text_in<F: Form>(alloc: Global, cell: &Cell) -> Result<Option<Formed<F>>, AllocError>
     ensures { IfOk result (Spells Text (HasStoredForm F.is_form F.LOWERED) cell.now) }
 {

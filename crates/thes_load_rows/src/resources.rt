@@ -112,7 +112,7 @@ fn fits(resources: &[Resource], n: ResNo, r: &Resource) -> bool
         && replacement_fits(resources, n, r)
 }
 
-// Checks whether the row of resource `n` is there and states that it is a scheme.
+// Checks whether there is a resource with the number `n`, and it is a scheme.
 fn is_scheme(resources: &[Resource], n: ResNo) -> bool
     ensures { IsTrue result ↔ IsScheme resources.now n }
 {
@@ -160,8 +160,8 @@ fn replacement_fits(resources: &[Resource], n: ResNo, r: &Resource) -> bool
     }
 }
 
-// Checks whether replacements form a cycle, by the check of a graph in which each of them is a
-// broader link.
+// Checks whether replacements form a cycle: builds a graph in which each replacement is a broader
+// link, and checks it for the rule Cycle.
 fn has_replacement_cycle(alloc: Global, resources: &[Resource]) -> Result<bool, AllocError>
     requires few { length resources.now < 2 ^ 32 }
     requires apart { NoneReplacesItself resources.now }

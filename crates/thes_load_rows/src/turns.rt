@@ -1,5 +1,5 @@
-//! The turns of the tables: a load that is past a table is stopped by a row of that table, or by
-//! the report that the table can't be queried.
+//! The order in which rows of tables may come: a load that is past a table is stopped by a row of
+//! that table, or by the report that the table can't be queried.
 ghost use Rattle.std.specs.Prelude.{◌≡◌, IsTrue, false, None, Some, IfOk, OnOk, MatchOption};
 ghost use Rattle.thes_load_rows.specs.Progress.{is_stopped};
 ghost use Rattle.thes_load_rows.specs.Turns.{IsInTurn, IsOfRows, NextStage};
@@ -36,8 +36,8 @@ fn is_open(stage: &Stage, table: Table) -> bool
     !stage.is_past(table) && !stage.is_stopped()
 }
 
-// Stops a load that is past the table of a row with `BadStore`; one that isn't past the table has
-// stopped before, and keeps its fault.
+// Stops the load with `BadStore` if it is past the table; otherwise the load has stopped before,
+// and keeps its fault.
 fn stop_after(stage: &mut Stage, table: Table)
     requires closed { IsInTurn table stage.old → is_stopped stage.old ≡ false → ⊥ }
     ensures follows { (news : _) → NextStage table news stage.old stage.new }

@@ -100,7 +100,7 @@ module _ (t : Tables) (legal : IsLegalState t.base (state_of t)) (are : IsRowsOf
     legal = legal.resources.outside;
   }
 
-  -- The history with a number is the one of the row with this number.
+  -- The history with a number is made from the row with that number.
   history_at : (n : ℕ) (p : PostingRow) → entry_at t.posting n ≡ Some p → entry_at s.histories n
       ≡ Some (history_of t.move p)
   history_at n p e = map_numbered (history_of t.move) t.posting n p e

@@ -109,7 +109,7 @@ module _ (rs : List Resource) (P : List PostingRow) (M : List MoveRow) (posting 
         subst (λ i. HasMove k (moves_of i M)) (sym (posting.numbers row.posting p.0 p.1)) has,
       )
 
-  -- Each number of a move of a history is that of a row of table move.
+  -- The number of each move in a history is that of a row of table move.
   row_with : (k n : ℕ) (h : History) → entry_at hs n ≡ Some h → HasMove k h.moves → (row : MoveRow)
       × (entry_at M k ≡ Some row) × (row.posting ≡ n)
   row_with k n h e has =

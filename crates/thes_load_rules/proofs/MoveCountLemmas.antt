@@ -15,7 +15,7 @@ use Rattle.thes_tables.specs.declared.rows.MoveRow.{MoveRow}
 use Rattle.thes_tables.specs.Tables.{IsIn, recorded_move, moves_of}
 use Rattle.thes_load_rules.specs.Rules.{EachRow}
 
--- The rows of table move of a posting.
+-- The rows of table move that name the posting with this number.
 abbrev rows_of_posting : ℕ → List MoveRow → List MoveRow
 rows_of_posting n rows = filter (λ (row : MoveRow). row.posting == n) rows
 
@@ -64,7 +64,7 @@ none_of k p (h ∷ hs) num lt =
     ap (λ b. cond {A = ℕ} b 1 0) (ne_eqb p h.number (λ e. let n = num.0 in omega (arith, n, e))) in
     omega (arith, a, ih, q)
 
--- Each number of the range is that of exactly one history.
+-- If histories are numbered from `k` on, each number in their range is that of exactly one of them.
 one_of : (k p : ℕ) (hs : List History) → NumberedFrom k hs → k ≤ p → p < k + length hs
     → count_by (λ h. eqb p h.number) hs ≡ 1
 one_of k p [] num le lt = absurd (omega arith)
@@ -90,7 +90,7 @@ sum_none [] = refl
 sum_none (h ∷ hs) = let a = sum_by-cons (λ (x : History). length (moves_of x.number [])) h hs in let ih =
     sum_none hs in omega (arith, a, ih)
 
--- One more row adds 1 to the sum of the moves for each history whose number the row names.
+-- One more row adds 1 to the sum of the numbers of moves for each history whose number the row names.
 sum_more : (m : MoveRow) (rows : List MoveRow) (hs : List History)
     → sum_by (λ (h : History). length (moves_of h.number (m ∷ rows))) hs ≡ count_by (λ h. eqb m.posting h.number) hs
     + sum_by (λ (h : History). length (moves_of h.number rows)) hs

@@ -60,7 +60,7 @@ number_above_start above (x ∷ rows) row rises (inl e) = let n = ap (λ (y : Mo
 number_above_start above (x ∷ rows) row rises (inr h) = let q = number_above_start x.number rows row rises.1 h in
     let r = rises.0 in omega (arith, q, r)
 
--- Each number above the bound and below that of a row is the number of a row.
+-- Each number between the bound and the number of a row is also the number of a row.
 abbrev IsFull : ℕ → List MoveRow → Type 0
 IsFull above rows = (row : MoveRow) → IsIn row rows → (k : ℕ) → above < k → k < row.number → (other : MoveRow)
     × IsIn other rows × (other.number ≡ k)

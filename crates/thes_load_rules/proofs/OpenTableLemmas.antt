@@ -33,7 +33,7 @@ not_newer raw base meta newer = let above = version_two (λ version. 2 < version
 not_older : (raw : RawTable) (base : List ℕ) → IsMeta raw base → IsOlder raw → ⊥
 not_older raw base meta older = let is = version_two (λ version. version ≡ 1) raw base meta older in omega (arith, is)
 
--- A verdict that isn't a fault is that of the remaining tables.
+-- If tables load, the verdict isn't the fault that is checked first, but the remaining verdict.
 no_fault : {F X : Type 0} {fault : Fault} {t : Tables} → (F × (Ok t ≡ Err fault)) ⊎ X → X
 no_fault (inl (found, is)) = absurd (cc)
 no_fault (inr rest) = rest
@@ -42,7 +42,7 @@ no_fault (inr rest) = rest
 pub pass : {A F : Type 0} {Passes Rest : A → Type 0} (x : A) → Passes x → Rest x → F ⊎ ((y : A) × Passes y × Rest y)
 pass x passes rest = inr (x, passes, rest)
 
--- The same for table meta, whose version is also the current one.
+-- The verdict on a table meta that meets its rule, and so has the current version, is that of the remaining tables.
 pub pass_meta : {F G H : Type 0} {Rest : List ℕ → Type 0} (raw : RawTable) (base : List ℕ) → IsMeta raw base → Rest base
     → F ⊎ ((IsNewer raw → ⊥) × (G ⊎ ((IsOlder raw → ⊥) × (H ⊎ ((b : List ℕ) × IsMeta raw b × Rest b)))))
 pass_meta raw base meta rest = inr (not_newer raw base meta, inr (not_older raw base meta, inr (base, meta, rest)))

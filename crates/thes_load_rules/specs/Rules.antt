@@ -76,7 +76,8 @@ pub record OutsideRule (base : List ℕ) (resources : List Resource) (rows : Lis
   pub forms : EachRow (λ row. IsIri row.1) rows
   pub legal : AreLegalIris base resources (iris_of rows)
 
--- The rule of table label: no duplicates, texts of their forms, and labels that are legal together (SKOS S13, S14).
+-- The rule of table label: no duplicates, tags and texts of the right forms, and labels that are legal together (SKOS
+-- S13, S14).
 pub record LabelRule (resources : List Resource) (rows : List Label) : Type 0 where
   pub once : AreDistinct rows
   pub forms : EachRow (λ l. IsLabelForm l.kind l.tag l.text) rows
@@ -95,8 +96,9 @@ pub record HierRule (resources : List Resource) (links : List Link) (rows : List
   pub once : AreDistinct rows
   pub legal : AreLegalLinks resources (links_of links rows)
 
--- The rule of table posting: numbers from 1 without gaps, below 2³², texts of their forms, and different keys. First
--- concepts and places are concepts, and the place is live unless the posting was withdrawn.
+-- The rule of table posting: numbers from 1 without gaps, below 2³², keys and record names of the right forms, and no
+-- key twice. The first concept and the place of each posting are concepts, and the place is live unless the posting was
+-- withdrawn.
 pub record PostingRule (resources : List Resource) (rows : List PostingRow) : Type 0 where
   pub few : length rows < 2 ^ 32
   pub numbers : AreInOrder (λ (row : PostingRow). row.number) rows

@@ -17,15 +17,16 @@ use Rattle.thes_base.specs.declared.data.Link.{Link}
 use Rattle.thes_base.specs.Labels.{Label}
 use Rattle.thes_load_rules.specs.Rules.{ResourceRule, OutsideRule, LabelRule, LinkRule, HierRule, PostingRule, MoveRule}
 
--- A verdict: a property of results, which are tables or a fault. Only the right result has it.
+-- A verdict on rows, as the property that only the right result of loading them has: tables or a fault.
 abbrev pub Verdict : Type 1
 Verdict = Result Tables Fault → Type 0
 
--- The fault if the condition holds, or else the remaining verdict.
+-- The verdict that is this fault if the condition holds, and otherwise the remaining verdict.
 abbrev pub stopped_if : Type 0 → Fault → Verdict → Verdict
 stopped_if condition fault rest answer = (condition × (answer ≡ Err fault)) ⊎ ((condition → ⊥) × rest answer)
 
--- The fault BadStore with the table's name if no typed rows pass, or else the remaining verdict, given rows that pass.
+-- The verdict that is the fault `BadStore` with the table's name if no typed rows pass, and otherwise the remaining
+-- verdict, given rows that pass.
 abbrev pub faulty_unless : {A : Type 0} → (A → Type 0) → Table → (A → Verdict) → Verdict
 faulty_unless {A} passes name rest answer =
     (((x : A) → passes x → ⊥) × (answer ≡ Err (BadStore name))) ⊎ ((x : A) × passes x × rest x answer)
@@ -47,7 +48,7 @@ IsNewer = HasVersion (λ version. 2 < version)
 abbrev pub IsOlder : RawTable → Type 0
 IsOlder = HasVersion (λ version. version ≡ 1)
 
--- Table meta has one row, with version 2 and this base, which has its form.
+-- Table meta has one row, with key 1, version 2 and this base, which has the form of a base.
 abbrev pub IsMeta : RawTable → List ℕ → Type 0
 IsMeta raw base = (raw ≡ Some (meta_cells base ∷ [])) × IsBase base
 

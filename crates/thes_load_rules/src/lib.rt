@@ -1,5 +1,5 @@
-//! Definitions and laws, without code, of which rows of cells load: those of a legal state; others
-//! have a fault.
+//! Definitions and laws, without code, of which rows of cells load (exactly those of a legal
+//! state), and of the fault that any others have.
 #![tactic(auto)]
 
 pub mod laws;
