@@ -37,7 +37,8 @@ module _ {A : Type 0} where
   at_most_one None = omega arith
   at_most_one (Some x) = omega arith
 
-  -- If the positions of rows to be appended are indexed, and then that of one more row, those of the longer list are.
+  -- If the positions of the rows to be appended are indexed, and then the position of one more row, the positions of
+  -- the longer list are indexed.
   pub expected_more : (number : A → ℕ) (old new : Slots A) (coming : List A) (o : Option A) → AreExpected number old
       coming → KeepsListedPositions old.index new.index → new.rows ≡ old.rows
       → ((row : A) → o ≡ Some row → HasListedPosition new.index (number row) (vec_len old.rows + length coming))

@@ -151,7 +151,7 @@ keys_stay (c ∷ changes) t row h =
     let z = keys_stay changes (tables_after_change c t) y.0 y.1 in
     (z.0, z.1, z.2 ∙ y.2)
 
--- A change that fits the tables inserts no key that a posting of theirs has.
+-- A change that fits the tables doesn't insert the key of one of their postings.
 other_key : (c : Change) (t : Tables) (row : PostingRow) → ChangeFits c t → IsIn row t.posting → IsOtherKey c row.key
 other_key (change.AddPosting r) t row fits h = fits.1 row h
 other_key c t row fits h = tt
@@ -236,8 +236,8 @@ pub so_far_ends : (x : PostingIndexes) (changes : List Change) (i : ℕ) (t : Ta
     → SoFar x changes i t step → CoversAll x changes t
 so_far_ends x changes i t step all so_far = grind (arith, common_steps, take_all)
 
--- The result of `cover_all` in a commit holds of the tables that the caller sees, which are those in memory, since
--- reserving memory doesn't change them.
+-- The result of `cover_all` in a commit holds for the tables that the caller sees: reserving memory leaves these
+-- unchanged.
 pub covers_both : (x y : PostingIndexes) (changes given : List Change) (moves : ℕ) (room inside seen : Tables)
     (result : Result (Unit {0}) AllocError) → ((t : Tables) → DeltaFits given t → length t.move ≡ moves → Covers x t
     → CoversBoth y given t result)

@@ -1,4 +1,4 @@
--- Proves that storage whose rows are known passes these, and finds no others.
+-- Proves that a load of storage whose rows are known passes these rows to the sink, and finds no others.
 use Rattle.std.proofs.Common.{arith, ◌≡◌, List, Option, Result}
 use Rattle.std.proofs.lemmas.Grind.{common_steps}
 use Rattle.thes_base.specs.declared.fault.Fault.{Fault}

@@ -130,7 +130,8 @@ module _ {S A : Type 0} (gives : S → A → Result (Unit {0}) Fault → S → T
   at_position = subst (λ l. SinkOutcome gives mid l r new) (ap (filtered_option p) found
       ∙ sym (picked_cons p rows position [] ∙ append-nil _)) h
 
-  -- A sink that accepts the row at one more position, if it passes the test, has those at the positions so far.
+  -- A sink that has accepted the rows at the positions so far, and then the row at the next position if that row passes
+  -- the test, has accepted the rows at all positions up to that one.
   pub position_accepted : (done : Unit {0}) → r ≡ Ok done
       → SinkAcceptsAll gives old (rows_at_positions p rows (take (i + 1) positions)) new
   position_accepted done ok = part_accepted gives (rows_at_positions p rows) (picked_append p rows) positions i position

@@ -1,4 +1,4 @@
--- Proves that a query after calls that changed nothing changes nothing since the first of them.
+-- Proves that calls that change nothing, followed by a query, together have the effect of a query.
 use Rattle.std.proofs.Common.{arith}
 use Rattle.std.proofs.lemmas.Grind.{common_steps}
 use Rattle.std.specs.Prelude.{Result, Ok}

@@ -21,7 +21,7 @@ IndexesByPlaceThroughout index changes t =
     (k : ℕ) → IndexesByPlace index (tables_after_delta (take k changes) t).posting
 
 -- The indexes have each row: a posting under its key and under its place, and a move under its posting. They may have
--- further positions.
+-- superfluous positions.
 pub record Covers (x : PostingIndexes) (t : Tables) : Type 0 where
   pub keys : (i : ℕ) (row : PostingRow) → slice_get t.posting i ≡ Some row → KeyHasPosition x.keys row.key i
   pub standing : IndexesByPlace x.standing t.posting

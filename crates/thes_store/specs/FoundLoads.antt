@@ -1,4 +1,4 @@
--- A load of storage whose tables may have anything.
+-- Loads of storage whose tables may hold anything.
 use Rattle.std.specs.Prelude.{List, Option, Result, OnOk}
 use Rattle.thes_base.specs.declared.fault.Fault.{Fault}
 use Rattle.thes_base.specs.declared.fault.Table.{Table}
@@ -6,8 +6,8 @@ use Rattle.thes_tables.specs.declared.cells.Cell.{Cell}
 use Rattle.thes_tables.specs.Cells.{Raw}
 use Rattle.thes_store.specs.Sinks.{SinkAcceptsAll, sink_rows}
 
--- If the storage is still open after a load, it was open before, all rows that might be found in its tables before may
--- still be found, and a load that succeeded has passed such rows to the sink.
+-- If the storage is still open after a load, it was open before, and all rows that a load might have found in its
+-- tables may still be found. A load that succeeded has passed such rows to the sink.
 pub record PassesFound {K S : Type 0} (is_open : K → Type 0) (finds : K → Raw → Type 0)
     (gives : S → Table × Option (List Cell) → Result (Unit {0}) Fault → S → Type 0) (old new : K) (before : S)
     (result : Result (Unit {0}) Fault) (after : S) : Type 0 where

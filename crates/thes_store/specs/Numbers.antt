@@ -13,8 +13,8 @@ use Rattle.thes_tables.specs.Tables.{hier_link}
 abbrev pub owner_of : Label → ℕ
 owner_of l = l.owner
 
--- The end under which a link of the kind from a to b is indexed, as a rule the one with fewer links of the kind: the
--- member of a membership, or else the first end.
+-- The number of the end under which a link of the kind from a to b is indexed: the member of a membership, or else the
+-- first end. As a rule this end has fewer links of the kind than the other.
 abbrev pub indexed_end : LinkKind → ℕ → ℕ → ℕ
 indexed_end kinds.Member a b = b
 indexed_end _ a b = a
@@ -27,14 +27,14 @@ indexed_end_of l = indexed_end l.kind l.a l.b
 abbrev pub narrower_end_of : HierRow → ℕ
 narrower_end_of row = row.a
 
--- The test of whether two labels are equal.
+-- Whether two labels are equal.
 abbrev pub is_same_label : Label → Label → Bool
 is_same_label x y = eq_by_cmp label_cmp x y
 
--- The test of whether two links are equal.
+-- Whether two links are equal.
 abbrev pub is_same_link : Link → Link → Bool
 is_same_link x y = eq_by_cmp link_cmp x y
 
--- The test of whether two rows of table hier encode the same link.
+-- Whether two rows of table hier encode the same link.
 abbrev pub is_same_hier : HierRow → HierRow → Bool
 is_same_hier x y = eq_by_cmp link_cmp (hier_link x) (hier_link y)

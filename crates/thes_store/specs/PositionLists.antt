@@ -1,4 +1,4 @@
--- The positions that an index of short lists has under each number.
+-- The positions that an index of short lists (`PositionLists`) has under each number.
 use Rattle.std.specs.Prelude.{◌≡◌, ◌≢◌, ◌==◌, ℕ, List, [], Bool, true, IsSome, slice_get}
 use Rattle.std.specs.List.{list_any}
 use Rattle.std.specs.Option.{IsSomeAnd, unwrap_or}
@@ -8,7 +8,7 @@ use Rattle.thes_store.specs.declared.position_lists.PositionLists.{PositionLists
 abbrev pub listed_positions : PositionLists → ℕ → List ℕ
 listed_positions index n = unwrap_or (slice_get index.lists.items n) []
 
--- The test of whether the position is in the list.
+-- Whether the position is in the list.
 abbrev pub has_position : ℕ → List ℕ → Bool
 has_position position positions = list_any (λ q. q == position) positions
 

@@ -4,11 +4,11 @@ use Rattle.std.specs.Prelude.{Vec, vec_len}
 use Rattle.std.specs.Vec.{vec_capacity}
 use Rattle.thes_tables.specs.declared.rows.MoveRow.{MoveRow}
 
--- The test of whether the row is that of a move of the posting.
+-- Whether the row is that of a move of the posting.
 abbrev pub is_move_of : ℕ → MoveRow → Bool
 is_move_of posting row = row.posting == posting
 
--- The list of the value alone, or the empty list if there is no value or it fails the test.
+-- The list of this value alone; the empty list if there is no value, or the value fails the test.
 abbrev pub filtered_option : {A : Type 0} → (A → Bool) → Option A → List A
 filtered_option p None = []
 filtered_option p (Some row) = if p row then row ∷ [] else []
@@ -21,11 +21,11 @@ rows_at_positions p rows (i ∷ positions) = elim (slice_get rows i) [
   | Some row ↦ if p row then row ∷ rows_at_positions p rows positions else rows_at_positions p rows positions
 ]
 
--- The rows after the one at this position is changed by `f`; unchanged if the position is past the end.
+-- The rows after `f` has changed the one at this position; unchanged if the position is past the end.
 abbrev pub rows_after_change_at : {A : Type 0} → (A → A) → ℕ → List A → List A
 rows_after_change_at f i rows = elim (slice_get rows i) [ None ↦ rows | Some row ↦ slice_set rows i (f row) ]
 
--- The rows after those at these positions are changed by `f` in sequence.
+-- The rows after `f` has changed those at these positions, one after another.
 abbrev pub rows_after_changes_at : {A : Type 0} → (A → A) → List ℕ → List A → List A
 rows_after_changes_at f [] rows = rows
 rows_after_changes_at f (i ∷ positions) rows = rows_after_changes_at f positions (rows_after_change_at f i rows)

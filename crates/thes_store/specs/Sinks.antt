@@ -36,6 +36,6 @@ abbrev pub sink_rows_of_tables : Raw → List Table → List (Table × Option (L
 sink_rows_of_tables raw [] = []
 sink_rows_of_tables raw (name ∷ names) = sink_rows_of_table name (raw_rows_of name raw) ++ sink_rows_of_tables raw names
 
--- The rows that a sink gets for all tables, in their order.
+-- The rows that a sink gets for all tables, table after table in the order of a load.
 abbrev pub sink_rows : Raw → List (Table × Option (List Cell))
 sink_rows raw = sink_rows_of_tables raw table_order

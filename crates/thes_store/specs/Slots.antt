@@ -44,7 +44,7 @@ module _ {A : Type 0} where
     pub rows : new.rows ≡ old.rows
     pub index : KeepsListedPositions old.index new.index
 
-  -- The test of whether the slot has a row that is equal to this one.
+  -- Whether the slot has a row that is equal to this one.
   abbrev pub is_same_row : (A → A → Bool) → Option (Option A) → A → Bool
   is_same_row same (Some (Some there)) row = same there row
   is_same_row same _ row = false

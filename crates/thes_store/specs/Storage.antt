@@ -29,8 +29,8 @@ pub record QueryFrame {T : Type 0} (old new : StorageView) (result : Result T Fa
   pub was : new.is_up → old.is_up
   pub cause : HasCause old.failures new.failures result
 
--- What every commit keeps: on a fault the rows are unchanged if the storage still works, and the count of failures
--- agrees with the result.
+-- The effect of every commit, apart from its changes: after a fault the rows are unchanged if the storage still works,
+-- and the count of failures agrees with the result.
 pub record CommitFrame {T : Type 0} (old new : StorageView) (result : Result T Fault) : Type 0 where
   pub same : OnErr result (new.is_up → new.rows ≡ old.rows)
   pub was : new.is_up → old.is_up

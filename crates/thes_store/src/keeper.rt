@@ -37,13 +37,14 @@ impl Model for Posting {
 pub trait Keeper {
     ghost view: { Self → StorageView };
 
-    // The storage is open, and what it reads is what was committed, whatever its tables have.
+    // The storage is open, and reads what was committed; its tables may hold anything.
     ghost is_open: { Self → Type 0 };
 
-    // A load may find these rows in the tables, whatever they have.
+    // The tables may hold anything, and a load may find these rows in them.
     ghost finds: { Self → Raw → Type 0 };
 
-    /// Returns the number of failures other than running out of memory; it saturates.
+    /// Returns the number of failures other than running out of memory; it saturates at its
+    /// greatest value.
     fn failures(&self) -> u64
         ensures { result ≡ (view self.now).failures };
 
@@ -56,7 +57,7 @@ pub trait Keeper {
         ensures found { PassesFound is_open finds S.gives self.old self.new sink.old result
             sink.new };
 
-    /// Applies all changes, or none of them and returns a fault.
+    /// Applies all changes in order, or returns a fault and applies none.
     fn commit(&mut self, delta: Delta) -> Result<(), Fault>
         requires fits { DeltaFitsStorage delta (view self.old) }
         ensures ok { OnOk result ((view self.new).is_up

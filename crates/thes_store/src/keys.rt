@@ -13,7 +13,7 @@ use std::hash::{FoldHasher, Hasher};
 use thes_base::text::Key;
 
 /// For each key, a position at which its posting may be. A look-up checks the row at a position, so
-/// further positions do no harm. A key is entered under its digest, since comparing texts costs
+/// superfluous positions do no harm. A key is entered under its digest, since comparing texts costs
 /// cache misses, or under its text if that digest is taken.
 #[derive(Drop)]
 pub struct Keys {

@@ -81,7 +81,8 @@ fn row_with_key<'a>(
     if row.key == *key { Some(row) } else { None }
 }
 
-// Returns the posting that has the key, if there is one. The index must have the key of each row.
+// Returns the posting that has the key, if there is one. The index must have each row's position
+// under its key.
 fn row_of_key<'a>(rows: &'a [PostingRow], keys: &Keys, key: &Key) -> Option<&'a PostingRow>
     ensures { ((i : ℕ) (row : PostingRow) → slice_get rows.now i ≡ Some row
         → KeyHasPosition keys.now row.key i) → IsPostingOfKey key.now rows.now

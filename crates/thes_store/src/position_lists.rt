@@ -1,4 +1,4 @@
-//! An index from numbers to the positions of rows, for rows of which few have one number.
+//! An index from numbers to the positions of rows, for tables in which few rows share a number.
 ghost use Rattle.std.specs.Prelude.{◌≡◌, ◌≢◌, ◌++◌, ◌∷◌, [], ℕ, true, false, OnOk, OnErr};
 ghost use Rattle.thes_store.specs.PositionLists.{has_position, listed_positions, HasListedPosition, HasPositionList, KeepsListedPositions, KeepsOtherPositions};
 
@@ -6,8 +6,8 @@ use std::alloc::{AllocError, Global};
 use std::marker::Model;
 
 /// For each number, a list of the positions at which its rows may be. A look-up checks the row at a
-/// position, so further positions do no harm. The lists are in a vector by number, so memory grows
-/// with the greatest number in use; resources are numbered without gaps.
+/// position, so superfluous positions do no harm. The lists are in a vector by number, so memory
+/// grows with the greatest number in use; resources are numbered without gaps.
 #[derive(Drop)]
 pub struct PositionLists {
     alloc: Global,
@@ -85,7 +85,7 @@ impl PositionLists {
         Ok(())
     }
 
-    // Appends the position of a row to the list of a number that has a list.
+    // Appends the position of a row to the list of a number, which must have one.
     fn insert_in(&mut self, n: u32, position: usize) -> Result<(), AllocError>
         requires { HasPositionList self.old n }
         ensures keeps { KeepsListedPositions self.old self.new }
@@ -118,8 +118,8 @@ impl PositionLists {
     }
 }
 
-// Appends the position of a row to a list of positions. A full list of n positions gets room for 3
-// + n / 4 more: the allocator has no block for fewer than three.
+// Appends a position to a list. A full list of n positions gets room for 3 + n / 4 more, since the
+// allocator has no block for fewer than three.
 fn append(positions: &mut Vec<usize>, position: usize) -> Result<(), AllocError>
     ensures ok { OnOk result (positions.new.items ≡ positions.old.items ++ position ∷ []) }
     ensures err { OnErr result (positions.new.items ≡ positions.old.items) }

@@ -1,4 +1,4 @@
-//! An index from numbers to the positions of rows, for rows of which many have one number.
+//! An index from numbers to the positions of rows, for tables in which many rows share a number.
 ghost use Rattle.std.specs.Prelude.{◌≡◌, ℕ, slice_get, IfOk, OnOk};
 ghost use Rattle.std.specs.List.Sorted.{IsStrictlySortedBy};
 ghost use Rattle.std.specs.Option.{option_copied};
@@ -10,8 +10,8 @@ use std::alloc::{AllocError, Global};
 use std::collections::BTreeSet;
 
 /// For each number, the positions at which its rows may be. A look-up checks the row at a position,
-/// so further positions do no harm. The sets are in a vector by number, so memory grows with the
-/// greatest number in use; resources and postings are numbered without gaps.
+/// so superfluous positions do no harm. The sets are in a vector by number, so memory grows with
+/// the greatest number in use; resources and postings are numbered without gaps.
 #[derive(Drop)]
 pub struct PositionSets {
     alloc: Global,
@@ -27,7 +27,7 @@ impl PositionSets {
         }
     }
 
-    /// Inserts a position under a number, unless it is there.
+    /// Inserts a position under a number, unless the number has it already.
     pub fn insert(&mut self, n: u32, position: usize) -> Result<(), AllocError>
         ensures keeps { KeepsPositions self.old self.new }
         ensures ok { OnOk result (HasPosition self.new n position) }
@@ -47,7 +47,7 @@ impl PositionSets {
         Ok(())
     }
 
-    // Inserts the position of a row into the set of a number that has a set.
+    // Inserts the position of a row into the set of a number, which must have one.
     fn insert_in(&mut self, n: u32, position: usize) -> Result<(), AllocError>
         requires { HasSet self.old n }
         ensures keeps { KeepsPositions self.old self.new }

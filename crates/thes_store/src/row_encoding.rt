@@ -38,7 +38,7 @@ pub trait AsCells {
         ensures err { IfErr result (λ fault. fault ≡ Fault.OutOfMemory) };
 }
 
-// Returns the integer cell that encodes a number of a row in memory.
+// Returns the integer cell of a number in a row.
 fn int(n: u32) -> Cell
     ensures { result ≡ number_cell n }
 {
@@ -55,7 +55,7 @@ fn optional(n: Option<ResNo>) -> Cell
     }
 }
 
-// Returns a cell with a copy of a text of a row in memory.
+// Returns a cell that has a copy of the text.
 fn text(alloc: Global, text: &str) -> Result<Cell, AllocError>
     ensures { IfOk result (λ cell. cell ≡ Text text.now) }
 {
@@ -235,7 +235,7 @@ pub fn yield_meta<S: RowSink>(alloc: Global, base: &Base, sink: &mut S) -> Resul
     yield_row(Table::Meta, &[int(1), int(2), base], sink)
 }
 
-// Returns the cell of the number of the row at position `i`: `i + 1`.
+// Returns the cell with the number of the row at position `i`, which is `i + 1`.
 fn row_number_cell(i: usize) -> Cell
     requires { i + 1 < 2 ^ 63 }
     ensures { result ≡ number_cell (i + 1) }

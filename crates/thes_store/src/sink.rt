@@ -21,8 +21,8 @@ pub trait RowSink {
         ensures gives { gives self.old (table, Some row.now) result self.new }
         ensures err { IfErr result (λ fault. fault ≡ Fault.OutOfMemory) };
 
-    /// Records, in place of its rows, that a table can't be queried or isn't declared as in a
-    /// store.
+    /// Records that a table can't be queried, or isn't declared as in a store; the sink gets this
+    /// report in place of the table's rows.
     fn report_unqueried(&mut self, table: Table) -> Result<(), Fault>
         ensures gives { gives self.old (table, None) result self.new }
         ensures err { IfErr result (λ fault. fault ≡ Fault.OutOfMemory) };

@@ -16,7 +16,7 @@ pub trait IndexedRow: AddedRow {
     // The number under which the row is indexed.
     ghost number_of: { Self → ℕ };
 
-    // The test of whether two rows are equal.
+    // Whether two rows are equal.
     ghost same: { Self → Self → Bool };
 
     /// Returns the number under which the row is indexed.
@@ -90,8 +90,9 @@ impl<T: IndexedRow + Drop> Slots<T> {
         Ok(())
     }
 
-    // Indexes the position as that of the row that a change will insert, and returns the next one;
-    // does nothing and returns the position if the change inserts no row into this table.
+    // Indexes the position as that of the row that a change will insert, and returns the next
+    // position. If the change inserts no row into this table, does nothing and returns the same
+    // position.
     fn expect_one(&mut self, change: &Change, position: usize) -> Result<usize, AllocError>
         requires { position + 1 < 2 ^ 64 }
         ensures keeps { GrowsIndex self.old self.new }
@@ -115,7 +116,7 @@ impl<T: IndexedRow + Drop> Slots<T> {
         self.rows.push_reserved(Some(row));
     }
 
-    /// Removes all rows that are equal to this one, and leaves gaps in their positions.
+    /// Removes all rows that are equal to this one, and leaves gaps at their positions.
     pub fn remove(&mut self, row: &T)
         requires { AreIndexedBy T.number_of self.old }
         ensures { RemovesRow T.number_of T.same row.now self.old self.new }

@@ -75,8 +75,7 @@ impl MemTables {
         make_room(&mut self.steps, changes)
     }
 
-    /// Applies a change. `standing` is an index of the postings by place, as they are before the
-    /// change.
+    /// Applies a change. `standing` is an index of the postings by place before the change.
     pub fn apply_change(&mut self, change: Change, standing: &PositionSets)
         requires ready { IsReadyForChanges (change ∷ []) self.old }
         requires standing { IndexesByPlace standing.now self.old.posting.items }
