@@ -1,4 +1,4 @@
--- Proves which numbers are those of the postings that a plan has left assigned to a concept.
+-- Proves which postings are assigned to a concept after a plan's changes so far.
 use Rattle.std.proofs.Common.{◌≡◌, ◌≤◌, ◌+◌, ◌∷◌, [], ◌∙◌, ◌&&◌, ◌||◌, ℕ, zero, suc, List}
 use Rattle.std.proofs.Common.{length, refl, sym, ap, subst, arith, inl, inr, Bool, true, false, cond, map, Contains}
 use Rattle.std.specs.Prelude.{is_some, Option, None, Some, slice_get, filter}
@@ -32,7 +32,7 @@ number_found numbers n found = Contains-from_any exact_unsigned_eq n numbers fou
 pub number_has : (numbers : List ℕ) (n : ℕ) → Contains numbers n → has_number numbers n ≡ true
 number_has numbers n has = list_any-from_Contains nat_eq_equiv n numbers has
 
--- The numbers of rows, one after another.
+-- The rows are numbered from `k` on without gaps.
 abbrev NumbersFrom : ℕ → List PostingRow → Type 0
 NumbersFrom k [] = Unit {0}
 NumbersFrom k (r ∷ rows) = (r.number ≡ k) × NumbersFrom (suc k) rows
@@ -81,12 +81,12 @@ module _ (p : PostingRow → Bool) where
       go false rest = rest
 
 module _ (rows : List PostingRow) (numbered : AreNumbered rows) (concept : ℕ) where
-  -- The numbers of the rows assigned to a concept rise.
+  -- The numbers of the rows assigned to a concept are strictly increasing.
   assigned_rise : IsStrictlySortedBy nat_cmp (assigned_row_numbers concept rows)
   assigned_rise = numbers_rise (is_assigned_row concept) 1 rows
       (numbers_from 1 rows (λ i r at. (let e = numbered (suc i) r at in omega (arith, e))))
 
-  -- A number of an assigned row is that of a row assigned to the concept.
+  -- Each number in the list of assigned numbers is that of a row assigned to the concept.
   pub assigned_has : (n : ℕ) → Contains (assigned_row_numbers concept rows) n → (r : PostingRow)
       × (entry_at rows n ≡ Some r) × (is_assigned_row concept r ≡ true)
   assigned_has n has =
@@ -100,7 +100,7 @@ module _ (rows : List PostingRow) (numbered : AreNumbered rows) (concept : ℕ) 
   entry_in zero r at = absurd (cc)
   entry_in (suc i) r at = (i, slice_get_within rows i r at, get_or_from_slice_get rows i r r at)
 
-  -- The number of a row assigned to the concept is among the numbers of the assigned rows.
+  -- The number of each row assigned to the concept is in the list of assigned numbers.
   pub assigned_of : (n : ℕ) (r : PostingRow) → entry_at rows n ≡ Some r → is_assigned_row concept r ≡ true
       → Contains (assigned_row_numbers concept rows) n
   assigned_of n r at is =
@@ -179,7 +179,8 @@ module _ (olds rows : List PostingRow) (p : PlanPostings) (are : ArePlanRows old
             or_right (by_tables n) (by_placement n)
             (λ i. has i && (ap (is_assigned_by concept false) some ∙ test) i)
 
-    -- The numbers of the postings left assigned to a concept are those of the rows assigned to it.
+    -- The numbers of the postings that are assigned to a concept after the plan's changes are those of the rows after
+    -- these changes.
     pub assigned_is : (numbers : List ℕ) → AreAssigned p concept standing numbers → numbers
         ≡ assigned_row_numbers concept rows
     unfolding by_tables by_placement

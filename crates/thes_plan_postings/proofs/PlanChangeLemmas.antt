@@ -42,14 +42,14 @@ use Rattle.thes_plan_postings.proofs.PlanAssignedLemmas.{assigned_has, assigned_
 use Rattle.thes_plan_postings.proofs.PlanPostingLemmas.{base_of_row, entry_left, entry_other, length_set_entry}
 use Rattle.thes_plan_postings.proofs.PlanPostingLemmas.{in_at, in_both, numbered_map, placed_again, push_other}
 
--- What the placements of a list of postings have to make of the rows.
+-- Of the new rows, those of the listed postings have this placement, and the others are unchanged.
 pub record AreRowsPlaced (rows rows' : List PostingRow) (numbers : List ℕ) (x : Placement) : Type 0 where
   pub count : length rows' ≡ length rows
   pub hit : (n : ℕ) → has_number numbers n ≡ true → (r : PostingRow) × (entry_at rows n ≡ Some r)
       × (entry_at rows' n ≡ Some (row_placed (Some x) r))
   pub miss : (n : ℕ) → has_number numbers n ≡ false → entry_at rows' n ≡ entry_at rows n
 
--- The placements of a list of postings are recorded.
+-- Assumes that this placement was recorded for each posting of a list.
 module _ (olds rows rows' : List PostingRow) (old new : PlanPostings) (numbers : List ℕ) (x : Placement)
     (are : ArePlanRows olds rows old) (places : PlacesAll old new numbers x)
     (placed_rows : AreRowsPlaced rows rows' numbers x) where
@@ -106,7 +106,7 @@ module _ (olds rows rows' : List PostingRow) (old new : PlanPostings) (numbers :
     placed = placed_after;
   }
 
--- The key test of an ordered map and the test of a list of one number agree.
+-- A key of a map is equal to a number exactly if the list of that key alone has the number.
 pub key_test : (k n : ℕ) → is_at (nat_cmp k) n ≡ has_number (k ∷ []) n
 key_test k n = elim (eqb_tells n k) [
   | inl hit_it ↦
@@ -141,7 +141,8 @@ number_more : (numbers : List ℕ) (i x n : ℕ) → i < length numbers → x �
 number_more numbers i x n within is = list_any_more (nat_eq n) numbers i x within
     ∙ ap (λ y. has_number (take i numbers) n || nat_eq n y) (sym is)
 
--- One more posting of a list is placed.
+-- If a placement is recorded for the first `i` postings of a list, and then for the next one, it is recorded for the
+-- first `i + 1`.
 pub places_more : (old mid new : PlanPostings) (numbers : List ℕ) (i k : ℕ) (x : Placement) → i < length numbers
     → k ≡ get_or numbers i k → PlacesAll old mid (take i numbers) x
     → ((n : ℕ) → placement_of new n ≡ cond (is_at (nat_cmp k) n) (Some x) (placement_of mid n))
@@ -172,7 +173,7 @@ pub places_all : (old new : PlanPostings) (numbers : List ℕ) (i : ℕ) (x : Pl
 places_all old new numbers i x past places = subst (λ (ns : List ℕ). PlacesAll old new ns x) (take_all i numbers past)
     places
 
--- The added posting is recorded.
+-- Appending a copy of the row and recording its placement records that the plan adds the posting.
 pub adds_posting : (old new : PlanPostings) (row copy : PostingRow) (x : Placement) → copy ≡ row
     → new.added.items ≡ old.added.items ++ copy ∷ []
     → ((n : ℕ) → placement_of new n ≡ cond (is_at (nat_cmp row.number) n) (Some x) (placement_of old n))
@@ -183,9 +184,9 @@ adds_posting old new row copy x is pushed step own = record {
   added = pushed ∙ ap (λ (r : PostingRow). old.added.items ++ r ∷ []) is;
 }
 
--- Candidates are inserted into a set of numbers, one after another, if they are assigned.
+-- Assumes a set of numbers into which the assigned candidates are inserted, one after another.
 module _ (p : PlanPostings) (candidates : List ℕ) (concept : ℕ) (by_tables : Bool) (before : ℕ → Bool) where
-  -- The set has what it had before, and the assigned candidates up to an index.
+  -- The set has the numbers that it had before, and those of the first `i` candidates that are assigned.
   abbrev pub IsInsertedTo : ℕ → (ℕ → Bool) → Type 0
   IsInsertedTo i now = (n : ℕ) → now n
       ≡ (before n || is_assigned_candidate p (take i candidates) concept by_tables n)
@@ -206,7 +207,7 @@ module _ (p : PlanPostings) (candidates : List ℕ) (concept : ℕ) (by_tables :
   and_false false true = refl
   and_false false false = refl
 
-  -- Whether the posting is assigned.
+  -- Whether the posting with the number is assigned to the concept after the plan's changes so far.
   abbrev stands_now : ℕ → Bool
   stands_now n = is_assigned_by concept by_tables (placement_of p n)
 
@@ -215,7 +216,7 @@ module _ (p : PlanPostings) (candidates : List ℕ) (concept : ℕ) (by_tables :
       ≡ ((has_number (take i candidates) n || nat_eq n x) && stands_now n)
   more i x n within is = ap (λ b. b && stands_now n) (number_more candidates i x n within is)
 
-  -- The candidate is assigned, and inserted.
+  -- If the next candidate is assigned and was inserted, the set has the assigned ones up to that one.
   pub candidate_inserted : (i x : ℕ) (now next : ℕ → Bool) → i < length candidates → x ≡ get_or candidates i x
       → is_assigned_by concept by_tables (placement_of p x) ≡ true
       → ((n : ℕ) → next n ≡ cond (is_at (nat_cmp x) n) true (now n)) → IsInsertedTo i now → IsInsertedTo (i + 1) next
@@ -233,7 +234,7 @@ module _ (p : PlanPostings) (candidates : List ℕ) (concept : ℕ) (by_tables :
         ∙ ap (λ b. b && stands_now n) (or_false (has_number (take i candidates) n))))
   ]
 
-  -- The candidate isn't assigned, and not inserted.
+  -- If the next candidate isn't assigned, the unchanged set has the assigned ones up to that one.
   pub candidate_left : (i x : ℕ) (now next : ℕ → Bool) → i < length candidates → x ≡ get_or candidates i x
       → is_assigned_by concept by_tables (placement_of p x) ≡ false → ((n : ℕ) → next n ≡ now n)
       → IsInsertedTo i now → IsInsertedTo (i + 1) next
@@ -250,7 +251,7 @@ module _ (p : PlanPostings) (candidates : List ℕ) (concept : ℕ) (by_tables :
         ∙ ap (λ b. b && stands_now n) (or_false (has_number (take i candidates) n))))
   ]
 
--- The collected numbers are those of the assigned postings.
+-- The collected numbers are those of the postings assigned to the concept after the plan's changes so far.
 pub assigned_collected : (p : PlanPostings) (concept : ℕ) (standing changed numbers : List ℕ)
     (empty first last : BTreeSet ℕ) → empty.keys ≡ [] → changed ≡ tree.keys p.placements
     → ((n : ℕ) → sorted.contains nat_cmp first n ≡ (sorted.contains nat_cmp empty n
@@ -281,7 +282,7 @@ with_posting_none : (f : PostingRow → PostingRow) (n : ℕ) (rows : List Posti
 with_posting_none f n rows at =
     ap (λ (o : Option PostingRow). elim o [ None ↦ rows | Some row ↦ set_entry_at rows n (f row) ]) at
 
--- One posting is placed.
+-- Recording a placement for one posting changes exactly the row of that posting.
 pub one_placed : (olds rows : List PostingRow) (old new : PlanPostings) (n : ℕ) (x : Placement) (r : PostingRow)
     (found : Option PostingRow) (f : PostingRow → PostingRow) → ArePlanRows olds rows old
     → PlacesAll old new (n ∷ []) x → found ≡ Some r → found ≡ entry_at rows n → f r ≡ row_placed (Some x) r
@@ -307,7 +308,7 @@ pub none_placed : (olds rows : List PostingRow) (p : PlanPostings) (n : ℕ) (fo
 none_placed olds rows p n found f are none is =
     subst (λ (l : List PostingRow). ArePlanRows olds l p) (sym (with_posting_none f n rows (sym is ∙ none))) are
 
--- All postings assigned to the source are placed at the target.
+-- Assumes the numbers of all postings assigned to the source, for which the target is recorded as the place.
 module _ (olds rows : List PostingRow) (old new : PlanPostings) (source target : ℕ) (numbers : List ℕ)
     (are : ArePlanRows olds rows old) (is : numbers ≡ assigned_row_numbers source rows) where
   abbrev placement : Placement
@@ -373,7 +374,7 @@ module _ (olds rows : List PostingRow) (old new : PlanPostings) (source target :
     miss = all_miss;
   }
 
--- A posting is added.
+-- Assumes that a posting is added, with the next number.
 module _ (olds rows : List PostingRow) (old new : PlanPostings) (row : PostingRow) (are : ArePlanRows olds rows old)
     (adds : AddsPosting old new row) (next : row.number ≡ length rows + 1) where
   abbrev own : Placement
@@ -437,7 +438,7 @@ module _ (olds rows : List PostingRow) (old new : PlanPostings) (row : PostingRo
     placed = placed_then;
   }
 
--- No plan has changed the rows yet.
+-- A plan that has added and placed no posting leaves the rows unchanged.
 pub rows_unchanged : (rows : List PostingRow) (p : PlanPostings) → AreNumbered rows
     → ((n : ℕ) → placement_of p n ≡ None) → p.added.items ≡ [] → ArePlanRows rows rows p
 rows_unchanged rows p numbered none empty = record {
@@ -452,7 +453,7 @@ rows_unchanged rows p numbered none empty = record {
     same [] = refl
     same (y ∷ ys) = ap (λ (l : List PostingRow). y ∷ l) (same ys)
 
--- Every other change leaves the table of postings as it is.
+-- A change other than AddPosting, Withdraw, SetPlace and MoveAll leaves table posting unchanged.
 pub other_change : (c : Change) (t : Tables) → ((row : PostingRow) → c ≡ change.AddPosting row → ⊥)
     → ((n : ℕ) → c ≡ change.Withdraw n → ⊥) → ((n place : ℕ) → c ≡ change.SetPlace n place → ⊥)
     → ((source target : ℕ) → c ≡ change.MoveAll source target → ⊥) → (tables_after_change c t).posting ≡ t.posting
@@ -462,7 +463,7 @@ other_change (change.SetPlace n at) t add withdraw place move = absurd (place n 
 other_change (change.MoveAll source target) t add withdraw place move = absurd (move source target refl)
 other_change _ t add withdraw place move = refl
 
--- A change of a list can be applied after those before it.
+-- If a list of changes fits the tables, each change fits the tables after the changes before it.
 pub fits_at : (changes : List Change) (i : ℕ) (c : Change) (t : Tables) → i < length changes → c ≡ get_or changes i c
     → DeltaFits changes t → ChangeFits c (tables_after_delta (take i changes) t)
 fits_at [] i c t within is fits = absurd (omega arith)
@@ -470,7 +471,7 @@ fits_at (d ∷ changes) zero c t within is fits = subst (λ (e : Change). Change
 fits_at (d ∷ changes) (suc i) c t within is fits =
     fits_at changes i c (tables_after_change d t) (omega arith) is fits.1
 
--- The tables after one more change of a list.
+-- The tables after one more change of a list are those after the changes before it, with that change applied.
 pub one_more_change : (changes : List Change) (i : ℕ) (c : Change) (t : Tables) → i < length changes
     → c ≡ get_or changes i c → tables_after_delta (take (i + 1) changes) t
     ≡ tables_after_change c (tables_after_delta (take i changes) t)
@@ -479,7 +480,7 @@ one_more_change changes i c t within is =
     ∙ ap (λ (d : Change). take i changes ++ d ∷ []) (sym is))
     ∙ all_append (take i changes) (c ∷ []) t
 
--- The rows up to an index, and one more.
+-- A row among the first `i + 1` rows is among the first `i`, or is the row at index `i`.
 pub in_take_more : (rows : List PostingRow) (i : ℕ) (x row : PostingRow) → i < length rows → x ≡ get_or rows i x
     → IsIn row (take (i + 1) rows) → IsIn row (take i rows) ⊎ (row ≡ x)
 in_take_more rows i x row within is has =
@@ -493,7 +494,7 @@ in_take_more rows i x row within is has =
 pub in_list : (rows : List PostingRow) (i : ℕ) (x : PostingRow) → i < length rows → x ≡ get_or rows i x → IsIn x rows
 in_list rows i x within is = in_at x rows i (slice_get_read rows (length rows) i x refl within is)
 
--- What a call ensures of its success, made weaker.
+-- If a success of a call implies `P`, and `P` implies `Q`, the success implies `Q`.
 pub on_ok : {A : Type 0} (r : Result A Fault) {P Q : Type 0} → (P → Q) → OnOk r P → OnOk r Q
 on_ok (Ok x) f p = f p
 on_ok (Err e) f p = p

@@ -29,7 +29,7 @@ module _ {A : Type 0} where
   in_entry x xs zero at = absurd (cc)
   in_entry x xs (suc n) at = in_at x xs n at
 
-  -- An element of a list has a number.
+  -- Each element of a list is its entry with some number.
   pub entry_of : (x : A) (xs : List A) → IsIn x xs → (n : ℕ) × (entry_at xs n ≡ Some x)
   entry_of x xs has = let r = index_of x xs has in (suc r.0, r.1)
 
@@ -62,7 +62,7 @@ module _ {A : Type 0} where
   at_right (y ∷ xs) ys zero x at none = absurd (cc)
   at_right (y ∷ xs) ys (suc i) x at none = at_right xs ys i x at none
 
-  -- An entry of two lists that isn't one of the first is in the second.
+  -- An entry of two joined lists that isn't an entry of the first is in the second.
   pub entry_right : (xs ys : List A) (n : ℕ) (x : A) → entry_at (xs ++ ys) n ≡ Some x → entry_at xs n ≡ None → IsIn x ys
   entry_right xs ys zero x at none = absurd (cc)
   entry_right xs ys (suc n) x at none = at_right xs ys n x at none
@@ -77,7 +77,7 @@ module _ {A : Type 0} where
   entry_within xs zero h l = absurd (omega arith)
   entry_within xs (suc n) h l = at_within xs n (omega arith)
 
-  -- Lists of one length have entries with the same numbers.
+  -- Lists of equal length have entries with the same numbers.
   pub entry_like : {B : Type 0} → (xs : List A) (ys : List B) (n : ℕ) (y : B) → length xs ≡ length ys
       → entry_at ys n ≡ Some y → (x : A) × (entry_at xs n ≡ Some x)
   entry_like xs ys n y same at = let b = numbered_bound ys n y at in
@@ -90,7 +90,7 @@ module _ {A : Type 0} where
   at_other (z ∷ xs) x (suc i) zero d = refl
   at_other (z ∷ xs) x (suc i) (suc j) d = at_other xs x i j (omega arith)
 
-  -- Replacing an entry keeps the entries with other numbers.
+  -- Replacing an entry leaves the entries with other numbers unchanged.
   pub entry_other : (xs : List A) (x : A) (n m : ℕ) → 1 ≤ n → m ≢ n
       → entry_at (set_entry_at xs n x) m ≡ entry_at xs m
   entry_other xs x n zero h d = refl
@@ -106,7 +106,7 @@ module _ {A : Type 0} where
   pub length_set_entry : (xs : List A) (n : ℕ) (x : A) → length (set_entry_at xs n x) ≡ length xs
   length_set_entry xs n x = length_set_at xs (n - 1) x
 
-  -- The entries other than an appended one.
+  -- Appending an element leaves the entries with other numbers unchanged.
   pub push_other : (xs : List A) (x : A) (n : ℕ) → n ≢ length xs + 1 → entry_at (xs ++ x ∷ []) n ≡ entry_at xs n
   push_other xs x n d = go (entry_at xs n) refl (entry_at (xs ++ x ∷ []) n) refl
     where
@@ -126,7 +126,7 @@ numbered_map f [] (suc n) = refl
 numbered_map f (x ∷ xs) (suc zero) = refl
 numbered_map f (x ∷ xs) (suc (suc n)) = numbered_map f xs (suc n)
 
--- A placement doesn't change the number and the key of a row.
+-- A placement changes neither the number nor the key of a row.
 pub number_placed : (o : Option Placement) (row : PostingRow) → (row_placed o row).number ≡ row.number
 number_placed None row = refl
 number_placed (Some x) row = refl
@@ -135,7 +135,7 @@ pub key_placed : (o : Option Placement) (row : PostingRow) → (row_placed o row
 key_placed None row = refl
 key_placed (Some x) row = refl
 
--- The last placement counts.
+-- Of two placements of a row, the last one counts.
 pub placed_again : (x : Placement) (o : Option Placement) (row : PostingRow) → row_placed (Some x) (row_placed o row)
     ≡ row_placed (Some x) row
 placed_again x None row = refl
@@ -145,7 +145,7 @@ module _ (olds rows : List PostingRow) (p : PlanPostings) (are : ArePlanRows old
   abbrev bases : List PostingRow
   bases = olds ++ p.added.items
 
-  -- The row of a posting is that of the tables, or the added one, with its placement.
+  -- The row of a posting is its row in the tables or the added one, with its placement, if it has one.
   pub row_at_base : (n : ℕ) (b : PostingRow) → entry_at bases n ≡ Some b → entry_at rows n
       ≡ Some (row_placed (placement_of p n) b)
   row_at_base n b at = go (placement_of p n) refl
@@ -167,7 +167,7 @@ module _ (olds rows : List PostingRow) (p : PlanPostings) (are : ArePlanRows old
           is.now ∙ ap (λ (c : PostingRow). Some (row_placed (Some x) c)) same
           ∙ ap (λ (q : Option Placement). Some (row_placed q b)) (sym some)
 
-  -- The rows and those of the tables with the added ones have the same numbers.
+  -- Each row is made from the row with its number in the tables or among the added ones.
   pub base_of_row : (n : ℕ) (r : PostingRow) → entry_at rows n ≡ Some r → (b : PostingRow)
       × (entry_at bases n ≡ Some b) × (r ≡ row_placed (placement_of p n) b)
   base_of_row n r at =
@@ -204,7 +204,7 @@ module _ (olds rows : List PostingRow) (p : PlanPostings) (are : ArePlanRows old
       go None e = sym e
       go (Some b) e = absurd (is b (entry_right olds p.added.items n b e none) (base_numbered n b e))
 
-  -- The row with a key is that of the tables or the added one, with its placement.
+  -- The row with a key is that of the tables or the added one, with its placement, if it has one.
   pub row_of_key_is : (key : List ℕ) (b : PostingRow) → IsPostingOfKey key bases (Some b)
       → IsPostingOfKey key rows (Some (row_placed (placement_of p b.number) b))
   row_of_key_is key b is =
@@ -222,14 +222,14 @@ module _ (olds rows : List PostingRow) (p : PlanPostings) (are : ArePlanRows old
       none b.0 (in_entry b.0 bases r.0 b.1)
       (sym (key_placed (placement_of p r.0) b.0) ∙ ap (λ (x : PostingRow). x.key) (sym b.2) ∙ same)
 
--- A posting of a key that the tables have.
+-- A posting with a key that the tables have is also the one with that key when more rows follow.
 pub key_in_tables : (key : List ℕ) (olds more : List PostingRow) (found : Option PostingRow) (b : PostingRow)
     → found ≡ Some b → IsPostingOfKey key olds found → IsPostingOfKey key (olds ++ more) (Some b)
 key_in_tables key olds more found b some is =
     let here : IsPostingOfKey key olds (Some b) = subst (IsPostingOfKey key olds) some is in
     (in_left b olds more here.0, here.1)
 
--- A posting of a key that the tables don't have.
+-- If the tables have no posting with a key, the added rows decide which posting has it.
 pub key_added : (key : List ℕ) (olds more : List PostingRow) (found : Option PostingRow)
     → IsPostingOfKey key olds None → IsPostingOfKey key more found → IsPostingOfKey key (olds ++ more) found
 key_added key olds more (Some b) none is = (in_right b olds more is.0, is.1)

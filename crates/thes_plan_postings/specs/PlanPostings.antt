@@ -22,15 +22,15 @@ abbrev pub row_placed : Option Placement → PostingRow → PostingRow
 row_placed None row = row
 row_placed (Some x) row = record row { place = x.place; withdrawn = x.withdrawn }
 
--- Among `rows`, the row of posting `n` is that among `bases`, the rows of the tables and the added ones, with the
+-- The row of posting `n` in `rows` is its row in `bases`, the rows of the tables and then the added ones, with the
 -- placement `x`.
 pub record HasPlacement (bases rows : List PostingRow) (n : Number) (x : Placement) : Type 0 where
   pub row : PostingRow
   pub base : entry_at bases n ≡ Some row
   pub now : entry_at rows n ≡ Some (row_placed (Some x) row)
 
--- With the changes of the plan so far, the posting rows of the tables, `olds`, become `rows`. Those that the plan has
--- neither added nor changed are as the tables have them; the others have their placements.
+-- The changes of the plan so far turn `olds`, the rows of table posting, into `rows`. A row that the plan has neither
+-- added nor changed is the same in both; any other row has the placement that the plan has given it.
 pub record ArePlanRows (olds rows : List PostingRow) (postings : PlanPostings) : Type 0 where
   pub count : length rows ≡ length (olds ++ postings.added.items)
   pub numbered : (n : Number) (row : PostingRow) → entry_at rows n ≡ Some row → row.number ≡ n
@@ -42,12 +42,13 @@ pub record ArePlanRows (olds rows : List PostingRow) (postings : PlanPostings) :
 abbrev pub AreNumbered : List PostingRow → Type 0
 AreNumbered rows = (n : Number) (row : PostingRow) → entry_at rows n ≡ Some row → row.number ≡ n
 
--- The property holds of the rows into which the changes of the plan turn those of the tables.
+-- The property holds for the rows into which the changes of the plan so far turn those of the tables.
 abbrev pub InPlanRows : Raw → PlanPostings → (List PostingRow → Type 0) → Type 0
 InPlanRows raw postings P = (t : Tables) (rows : List PostingRow) → raw ≡ cells_of_tables t
     → ArePlanRows t.posting rows postings → P rows
 
--- The property holds of the rows of the tables and the added ones, without placements.
+-- The property holds for the rows of the tables and then the added ones, without the placements that the plan has given
+-- them.
 abbrev pub InBaseRows : Raw → PlanPostings → (List PostingRow → Type 0) → Type 0
 InBaseRows raw postings P = (t : Tables) (rows : List PostingRow) → raw ≡ cells_of_tables t
     → ArePlanRows t.posting rows postings → P (t.posting ++ postings.added.items)
@@ -57,8 +58,8 @@ abbrev pub IsRowOfNumber : Number → List PostingRow → Option PostingRow → 
 IsRowOfNumber n rows (Some row) = IsIn row rows × (row.number ≡ n)
 IsRowOfNumber n rows None = (row : PostingRow) → IsIn row rows → row.number ≢ n
 
--- Whether a posting is assigned to the concept: by its placement, if the plan has changed it. For any other posting
--- `by_tables` is the answer: whether the tables have it assigned to the concept.
+-- Whether a posting is assigned to the concept, given its placement by the plan; if the plan hasn't changed the
+-- posting, `by_tables` says whether the tables assign it to the concept.
 abbrev pub is_assigned_by : Number → Bool → Option Placement → Bool
 is_assigned_by concept by_tables None = by_tables
 is_assigned_by concept by_tables (Some x) = not x.withdrawn && x.place == concept
@@ -67,15 +68,14 @@ is_assigned_by concept by_tables (Some x) = not x.withdrawn && x.place == concep
 abbrev pub has_number : List ℕ → ℕ → Bool
 has_number numbers n = list_any (nat_eq n) numbers
 
--- Whether the candidates have the number, and the posting with that number is assigned to the concept after the changes
--- of the plan so far. For a posting that the plan hasn't changed, `by_tables` says whether the tables have it assigned
--- to the concept.
+-- Whether the number `n` is among the candidates, and its posting is assigned to the concept after the plan's changes
+-- so far. For a posting that the plan hasn't changed, `by_tables` says whether the tables assign it to the concept.
 abbrev pub is_assigned_candidate : PlanPostings → List ℕ → Number → Bool → ℕ → Bool
 is_assigned_candidate postings candidates concept by_tables n =
     has_number candidates n && is_assigned_by concept by_tables (placement_of postings n)
 
--- The numbers are those of the postings that the plan has left assigned to the concept, in increasing order, if
--- `standing` are the numbers of those that the tables have assigned to it.
+-- The numbers are those of the postings that are assigned to the concept after the plan's changes so far, in increasing
+-- order. `standing` are the numbers of those that the tables assign to it.
 pub record AreAssigned (postings : PlanPostings) (concept : Number) (standing numbers : List ℕ) : Type 0 where
   pub rises : IsStrictlySortedBy nat_cmp numbers
   pub has : (n : ℕ) → Contains numbers n ↔ ((is_assigned_candidate postings standing concept true n

@@ -32,14 +32,15 @@ pub struct Placement {
 #[derive(Drop)]
 pub struct PlanPostings {
     pub(crate) alloc: Global,
-    // The rows of the postings that the plan has added, in their order and as they were added.
+    // The rows of the postings that the plan has added, in order, each with the place that it had
+    // when it was added.
     pub(crate) added: Vec<PostingRow>,
     // The placement of each posting that the plan has added, moved or withdrawn.
     pub(crate) placements: BTreeMap<PostNo, Placement>,
 }
 
 impl PlanPostings {
-    /// Creates the changes of a plan of which no request is performed yet.
+    /// Creates the changes of a plan before its first request is performed: none.
     pub fn new(alloc: Global) -> PlanPostings
         ensures { (rows : List PostingRow) → AreNumbered rows → ArePlanRows rows rows result }
     {
@@ -63,8 +64,8 @@ impl PlanPostings {
         }
     }
 
-    // Looks up the row of a posting, in the tables or among those that the plan has added, without
-    // its placement in the plan.
+    // Looks up the row of a posting in the tables, or else among those that the plan has added,
+    // without the placement that the plan has given it.
     fn base_row<K: Keeper>(
         &self,
         keeper: &mut K,
@@ -97,8 +98,8 @@ impl PlanPostings {
         }
     }
 
-    // Looks up the row of the posting with the key, in the tables or among those that the plan has
-    // added, without its placement in the plan.
+    // Looks up the row of the posting with the key in the tables, or else among those that the plan
+    // has added, without the placement that the plan has given it.
     fn base_row_of_key<K: Keeper>(
         &self,
         keeper: &mut K,
@@ -133,9 +134,9 @@ impl PlanPostings {
         }
     }
 
-    // Checks whether a posting is assigned to the concept with the changes of the plan so far: by
-    // its placement, if the plan has changed it. For any other posting `by_tables` is the answer:
-    // whether the tables have it assigned to the concept.
+    // Checks whether a posting is assigned to the concept after the plan's changes so far. If the
+    // plan hasn't changed the posting, returns `by_tables`, which says whether the tables assign it
+    // to the concept.
     fn is_assigned(&self, number: PostNo, concept: ResNo, by_tables: bool) -> bool
         ensures { result ≡ is_assigned_by concept by_tables (placement_of self.now number) }
     {
@@ -145,9 +146,9 @@ impl PlanPostings {
         }
     }
 
-    // Inserts those of the candidates into the set that are assigned to the concept with the
-    // changes of the plan so far. For candidates that the plan hasn't changed, `by_tables` says
-    // whether the tables have them assigned to the concept.
+    // Inserts into the set the candidates that are assigned to the concept after the plan's changes
+    // so far. For candidates that the plan hasn't changed, `by_tables` says whether the tables
+    // assign them to the concept.
     fn insert_assigned(
         &self,
         numbers: &mut BTreeSet<PostNo>,
@@ -177,8 +178,9 @@ impl PlanPostings {
         Ok(numbers)
     }
 
-    // Returns the numbers of the postings that the plan has left assigned to the concept, in
-    // increasing order, if `standing` are the numbers of those that the tables have assigned to it.
+    // Returns the numbers of the postings that are assigned to the concept after the plan's changes
+    // so far, in increasing order. `standing` are the numbers of those that the tables assign to
+    // it.
     fn assigned_from(&self, concept: ResNo, standing: &[PostNo]) -> Result<Vec<PostNo>, AllocError>
         ensures { IfOk result (λ numbers.
             AreAssigned self.now concept standing.now numbers.items) }
@@ -191,8 +193,8 @@ impl PlanPostings {
         Ok(assigned)
     }
 
-    /// Looks up the numbers of the postings that the plan has left assigned to the concept, in
-    /// increasing order.
+    /// Looks up the numbers of the postings that are assigned to the concept after the plan's
+    /// changes so far, in increasing order.
     pub fn assigned_numbers<K: Keeper>(
         &self,
         keeper: &mut K,
@@ -246,8 +248,8 @@ fn row_of_key(
     Ok(None)
 }
 
-// Returns the row of a posting with the placement that a plan has given it in place of its own, or
-// unchanged if `placement` is None.
+// Returns the row of a posting with this placement in place of its own; the row is unchanged if
+// `placement` is None.
 fn place_row(row: Option<PostingRow>, placement: Option<Placement>) -> Option<PostingRow>
     ensures { result ≡ option_map (row_placed placement) row }
 {
@@ -265,7 +267,7 @@ fn place_row(row: Option<PostingRow>, placement: Option<Placement>) -> Option<Po
     })
 }
 
-// Returns the numbers of a plan's postings in a set as a list, in increasing order.
+// Returns the numbers in a set of postings as a list, in increasing order.
 fn collect_numbers(alloc: Global, set: &BTreeSet<PostNo>) -> Result<Vec<PostNo>, AllocError>
     ensures numbers { IfOk result (λ numbers. numbers.items ≡ set.now.keys) }
     ensures rises { IsStrictlySortedBy nat_cmp set.now.keys }
