@@ -18,7 +18,7 @@ use Rattle.thes_sql.specs.Reads.{number_cells_at_concept, rows_in_trees, IsReada
 use Rattle.thes_sql.proofs.SelectLemmas.{IsQueryText, rows_of_any_table, rows_at_concept, table_query_text, standing_is}
 use Rattle.thes_sql.proofs.SelectLemmas.{numbers_at_concept, standing_numbers_is}
 
--- A query without recursion has an answer that begins with these rows.
+-- If a query, which isn't recursive, has returned these rows so far, it has a whole answer that begins with them.
 begun_shown : (text : List ℕ) (params : Row) (q : Query) → IsQueryText text q → (s : State) (rows : List Row)
     → IsStoreSchema s.now.schema → IsUnchanged s s → Begins text params s rows
     → (tail : List Row) × Shown text params s s (rows ++ tail)

@@ -109,7 +109,7 @@ never_returns : (r : Result Compiled CompileError) → ((c : Compiled) → r ≡
 never_returns (Ok c) plain some = let none = (plain c refl).0 in absurd (let it = rw none at some in cc)
 never_returns (Err e) plain some = some
 
--- A query that begins has returned no row, and leaves the database unchanged.
+-- A query that has only begun has returned no row, and leaves the database unchanged.
 module _ (sql : List ℕ) (params : Row) (is : IsQuery sql) where
   pub query_begins : {S : Type 0} (g : Ghosts S) (old new : Held S) → HasBegun g sql params old new
       → HasGiven g sql params new [] × IsUnchanged (state g old) (state g new)
@@ -138,7 +138,7 @@ module _ (sql : List ℕ) (old new : State) (is : IsWholeQuery sql) where
       let it = rw (bare.0, bare.1) at h.2 in
       (h.0, h.1.is, it.0, it.1, it.2)
 
-  -- A single query without parameters is refused only if it doesn't compile.
+  -- A single query without parameters is rejected before it runs only if it doesn't compile.
   no_other : (e : Error) → IsNoStatement old sql [] e
       → (fault : CompileError) × (understood old.now.schema sql ≡ Err fault) × (e ≡ SqlInputError fault)
   no_other e h = grind (arith, common_steps, query_is_whole, query_is_plain)
@@ -147,7 +147,8 @@ module _ (sql : List ℕ) (old new : State) (is : IsWholeQuery sql) where
       → (finds_nothing e ≡ true) × (compiles old.now.schema sql ≡ false)
   not_compiled e h = let why = no_other e h in (ap finds_nothing why.2, ap is_ok why.1)
 
-  -- A query that compiles is refused only because its values are refused, or because it takes too many steps.
+  -- A query that compiles is refused while it runs only because its values are refused, or because it takes too many
+  -- steps.
   refused_for_rows : (c : Compiled) → understood old.now.schema sql ≡ Ok c → (source : Database)
       → IsSourceOf (reads_listing old.now.schema sql) old.now source → (e : Error) → (command : Command)
       → c.command ≡ command → is_query command ≡ true → RefusesToRead old.step_limit command source [] e

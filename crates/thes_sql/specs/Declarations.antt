@@ -82,8 +82,8 @@ has_label_columns (owner ∷ kind ∷ tag ∷ text ∷ more) =
     && (is_words (codes "text") text && are_optional more)))
 has_label_columns _ = false
 
--- Whether the columns are three columns of integers with these names, perhaps followed by columns that may be NULL; so
--- are those of tables link and hier.
+-- Whether the columns are three columns of integers with these names, as in tables link and hier, perhaps followed by
+-- columns that may be NULL.
 abbrev pub has_three_columns : List ℕ → List ℕ → List ℕ → List Column → Bool
 has_three_columns first second third (a ∷ b ∷ c ∷ more) =
     is_number first a && (is_number second b && (is_number third c && are_optional more))

@@ -39,8 +39,8 @@ pub record KeepsOld (db : Database) (t : Tables) : Type 0 where
   pub schema : db.schema ≡ old_schema
   pub hold : HoldAs 1 db.trees t
 
--- The database has the schema of version 2, perhaps with a user's additions, and these tables, and table meta has this
--- version.
+-- The database has the schema of version 2, perhaps with a user's additions. It has these tables, and its table meta
+-- has this version.
 pub record KeepsAs (version : ℕ) (db : Database) (t : Tables) : Type 0 where
   pub schema : IsStoreSchema db.schema
   pub hold : HoldAs version db.trees t

@@ -140,8 +140,8 @@ fn has_label_columns(columns: &[Column]) -> bool
     }
 }
 
-// Checks whether the columns are declared as three columns of integers with these names, perhaps
-// followed by columns that may be NULL; so are those of tables link and hier.
+// Checks whether the columns are declared as three columns of integers with these names, as in
+// tables link and hier, perhaps followed by columns that may be NULL.
 fn has_three_columns(columns: &[Column], first: &str, second: &str, third: &str) -> bool
     ensures { result ≡ wanted.has_three_columns first.now second.now third.now columns.now }
 {

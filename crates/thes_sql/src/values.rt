@@ -24,8 +24,8 @@ fn number_of(n: Option<ResNo>) -> Option<u32>
     }
 }
 
-// Returns a row of table resource as the five parameters of a statement, in the order of its
-// columns.
+// Returns a row of table resource as the five parameters of a statement, in the order of the
+// table's columns.
 pub(crate) fn resource_values(n: ResNo, resource: &Resource) -> [ValueRef<'static>; 5]
     ensures { bound result ≡ values (resource_cells n resource.now) }
 {
@@ -38,7 +38,8 @@ pub(crate) fn resource_values(n: ResNo, resource: &Resource) -> [ValueRef<'stati
     ]
 }
 
-// Returns a row of table outside as the two parameters of a statement, in the order of its columns.
+// Returns a row of table outside as the two parameters of a statement, in the order of the table's
+// columns.
 pub(crate) fn outside_values(n: ResNo, iri: &Iri) -> [ValueRef<'_>; 2]
     ensures cells { bound result ≡ values (outside_cells (n, iri.now)) }
     ensures spelled { IsUtf8 iri.now }
@@ -46,7 +47,8 @@ pub(crate) fn outside_values(n: ResNo, iri: &Iri) -> [ValueRef<'_>; 2]
     *params![n.get(), iri.as_str()]
 }
 
-// Returns a row of table label as the four parameters of a statement, in the order of its columns.
+// Returns a row of table label as the four parameters of a statement, in the order of the table's
+// columns.
 pub(crate) fn label_values(row: &LabelRow) -> [ValueRef<'_>; 4]
     ensures cells { bound result ≡ values (label_cells row.now) }
     ensures spelled { IsSpelledLabel row.now }
@@ -59,21 +61,24 @@ pub(crate) fn label_values(row: &LabelRow) -> [ValueRef<'_>; 4]
     ]
 }
 
-// Returns a row of table link as the three parameters of a statement, in the order of its columns.
+// Returns a row of table link as the three parameters of a statement, in the order of the table's
+// columns.
 pub(crate) fn link_values(link: &Link) -> [ValueRef<'static>; 3]
     ensures { bound result ≡ values (link_cells link.now) }
 {
     *params![link.kind.number(), link.a.get(), link.b.get()]
 }
 
-// Returns a row of table hier as the three parameters of a statement, in the order of its columns.
+// Returns a row of table hier as the three parameters of a statement, in the order of the table's
+// columns.
 pub(crate) fn hier_values(row: &HierRow) -> [ValueRef<'static>; 3]
     ensures { bound result ≡ values (hier_cells row.now) }
 {
     *params![row.a.get(), row.b.get(), type_number(row.typ)]
 }
 
-// Returns a row of table posting as the six parameters of a statement, in the order of its columns.
+// Returns a row of table posting as the six parameters of a statement, in the order of the table's
+// columns.
 pub(crate) fn posting_values(row: &PostingRow) -> [ValueRef<'_>; 6]
     ensures cells { bound result ≡ values (posting_cells row.now) }
     ensures spelled { IsSpelledPosting row.now }
@@ -88,7 +93,8 @@ pub(crate) fn posting_values(row: &PostingRow) -> [ValueRef<'_>; 6]
     ]
 }
 
-// Returns a row of table move as the four parameters of a statement, in the order of its columns.
+// Returns a row of table move as the four parameters of a statement, in the order of the table's
+// columns.
 pub(crate) fn move_values(row: &MoveRow) -> [ValueRef<'static>; 4]
     ensures cells { bound result ≡ values (move_cells row.now) }
     ensures numbered { 0 < row.now.number }
