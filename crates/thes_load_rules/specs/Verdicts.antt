@@ -17,7 +17,7 @@ use Rattle.thes_base.specs.declared.data.Link.{Link}
 use Rattle.thes_base.specs.Labels.{Label}
 use Rattle.thes_load_rules.specs.Rules.{ResourceRule, OutsideRule, LabelRule, LinkRule, HierRule, PostingRule, MoveRule}
 
--- A verdict on rows, as the property that only the right result of loading them has: tables or a fault.
+-- A verdict on rows, as a property of the results of loading them (tables or a fault) that only the right result has.
 abbrev pub Verdict : Type 1
 Verdict = Result Tables Fault → Type 0
 
