@@ -42,7 +42,7 @@ module _ (rs : List Resource) (i : ℕ) (graph : GraphView) (has : MarksFirst rs
   pub marks_skip : is_outside rs (i + 1) ≡ false → MarksFirst rs (i + 1) graph
   marks_skip inside = grind (arith, common_steps, cases_eq)
 
-  -- After one more outside concept is marked, all outside concepts up to it are marked.
+  -- After the outside concept with the next number is marked, all outside concepts up to that number are marked.
   pub marks_more : is_outside rs (i + 1) ≡ true → MarksFirst rs (i + 1)
       (record graph { outside = insert graph.outside (i + 1) })
   marks_more outside = record {
@@ -75,7 +75,7 @@ link_push K l =
     ∙ ap (λ (ks : List Link). insert (from_list {R = link_cmp} ks) l) (sym (append-nil K))
 
 module _ (rs : List Resource) (old new : GraphView) (K : List Link) (l : Link) (has : HasLinks rs old K []) where
-  -- Either the link of the row is added, or no rows that begin with the rows so far and this one meet the rule.
+  -- Either the link of the row is added, or no list that begins with the rows so far and this one meets the rule.
   pub link_step : (good : Bool) → HasLinkForm l → AddLinkResult rs old new l good
       → TakeResult (λ more. HasLinks rs new more []) (LinkRule rs) K l good
   link_step true form (legal, free, is) = record {
@@ -103,7 +103,7 @@ hier_push K H row =
 
 module _ (rs : List Resource) (old new : GraphView) (K : List Link) (H : List HierRow) (row : HierRow)
     (has : HasLinks rs old K H) where
-  -- Either the link of the row is added, or no rows that begin with the rows so far and this one meet the rule.
+  -- Either the link of the row is added, or no list that begins with the rows so far and this one meets the rule.
   pub hier_step : (good : Bool) → AddLinkResult rs old new (hier_link row) good → TakeResult (HasLinks rs new K)
       (HierRule rs K) H row good
   hier_step true (legal, free, is) = record {

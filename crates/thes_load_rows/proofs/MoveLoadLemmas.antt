@@ -116,7 +116,7 @@ module _ (rs : List Resource) (ps : List PostingRow) (taken : ℕ) (places : Lis
               ∙ ap (λ l. Some (place_after_moves p.first l)) (sym (moves_other p.number rows r miss))
         ]
 
-    -- After the move, the load has the rows with this one.
+    -- After the move is applied, the load has the rows so far and this one.
     pub move_taken : HasMoveForm r → HasMoves rs ps (taken + 1) (set_entry_at places r.posting r.target)
         (rows ++ r ∷ [])
     move_taken form = record {

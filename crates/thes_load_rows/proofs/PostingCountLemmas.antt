@@ -19,7 +19,7 @@ use Rattle.thes_load_rows.specs.PostingCounts.{AreCountsOfRows}
 abbrev number_of : Bool → ℕ
 number_of b = cond b 1 0
 
--- The counts after one more row are those of the rows with it.
+-- After one more row is counted, the counts are those of the rows so far and that row.
 pub sums_push : (rows : List PostingRow) (p : PostingRow) (old new : PostingCounts) → AreCountsOfRows rows old
     → CountsAfterTally p.place p.withdrawn old new → AreCountsOfRows (rows ++ p ∷ []) new
 sums_push rows p old new are told = grind (arith, common_steps, length-append, sum_by_push)

@@ -70,7 +70,7 @@ module _ (rs : List Resource) (keys : List (List ℕ)) (firsts stored_places : L
       → entry_at (rows ++ p ∷ []) n ≡ Some y → x.key ≡ y.key → m ≡ n
   keys_push free m n x y ex ey same = grind (arith, common_steps, clash, push_cases, row_held)
 
-  -- After a row that may be the next one is added, the load has the rows with this one.
+  -- After a row that may be the next one is added, the load has the rows so far and that row.
   pub next_taken : (new : List (List ℕ)) → IsNextPosting rs (length firsts) p → HasPostingForm p → has_key keys p.key
       ≡ false → ((q : List ℕ) → has_key new q ≡ cond (eq_by_cmp (slice_cmp nat_cmp) p.key q) true (has_key keys q))
       → (told : PostingCounts) → CountsAfterTally p.place p.withdrawn posting_counts told

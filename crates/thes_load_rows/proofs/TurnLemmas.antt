@@ -17,7 +17,7 @@ use Rattle.thes_load_rows.proofs.StageRowLemmas.{stopped_row}
 use Rattle.thes_load_rows.proofs.TableOrderLemmas.{table_same, next_no, last_no}
 use Rattle.thes_load_rows.proofs.LostTableLemmas.{stopped_lost}
 
--- A table that isn't past is in turn.
+-- If the load isn't past a table, the table is in turn (IsInTurn).
 pub in_turn : (past : Bool) (m n : ℕ) → (IsTrue past ↔ (m < n)) → past ≡ false → n ≤ m
 in_turn past m n both unset = let none : m < n → ⊥ = λ lt. true≢false (sym (both.1 lt) ∙ unset) in omega (arith, none)
 
@@ -48,6 +48,6 @@ stopped_follows fault at name news turn = record {
 pub not_stopped : (s : Stage) → ((fault : Fault) (at : Table) → s ≡ stage.Stopped fault at → ⊥) → is_stopped s ≡ false
 not_stopped s never = grind (arith, common_steps)
 
--- A stopped stage satisfies the invariant of stages, whatever rows were read.
+-- A stopped stage satisfies the invariant of stages (IsOfRows), whatever rows were read.
 pub stopped_of_rows : (fault : Fault) (at : Table) → IsOfRows (stage.Stopped fault at)
 stopped_of_rows fault at = λ unset. absurd (true≢false unset)

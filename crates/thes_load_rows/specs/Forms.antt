@@ -1,4 +1,4 @@
--- The forms of rows: numbers are in range, texts have their forms, and kinds belong to the table.
+-- The forms of rows: numbers are in range, texts have the right forms, and kinds belong to the table.
 use Rattle.std.specs.Prelude.{◌≡◌, ℕ, List, Option, None, Some}
 use Rattle.thes_base.specs.declared.data.Link.{Link}
 use Rattle.thes_base.specs.Forms.{IsNumber, IsIri}

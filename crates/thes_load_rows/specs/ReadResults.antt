@@ -7,8 +7,8 @@ abbrev pub IsFaulty : {A : Type 0} → (List A → List (List Cell)) → (List A
 IsFaulty {A} cells_of Rule begun = (more : List (List Cell)) (rows : List A) → cells_of rows ≡ begun ++ more
     → Rule rows → ⊥
 
--- The result of reading a row: true if its cells are those of a typed row, which was added; false if no typed rows meet
--- the rule when their cells begin with the rows read so far and this one.
+-- The result of reading a row: true if its cells are those of a typed row, which was added; false if the rows read so
+-- far and this one are faulty.
 abbrev pub ReadResult : {A : Type 0} → (List A → List (List Cell)) → (List A → Type 0) → (List A → Type 0) → List A
     → List Cell → Bool → Type 0
 ReadResult {A} cells_of Has Rule rows cells true = (x : A) × (cells_of (rows ++ x ∷ []) ≡ cells_of rows ++ cells ∷ [])

@@ -14,7 +14,8 @@ use Rattle.thes_load_rows.specs.Progress.{HasRead, is_stopped, stage_table, raw_
 abbrev pub IsOfRows : Stage → Type 0
 IsOfRows stage = is_stopped stage ≡ false → (raw : Raw) × HasRead stage raw
 
--- The rows of all tables after the news of one: a further row, at its end, or (None) that it can't be queried.
+-- The rows of all tables after a further row at the end of this table, or after the report (None) that the table can't
+-- be queried.
 abbrev pub with_news : Table → Option (List Cell) → Raw → Raw
 with_news table None raw = raw_without_table table raw
 with_news table (Some cells) raw = raw_with_row table cells raw
@@ -23,9 +24,9 @@ with_news table (Some cells) raw = raw_with_row table cells raw
 abbrev pub IsInTurn : Table → Stage → Type 0
 IsInTurn table stage = table_no (stage_table stage) ≤ table_no table
 
--- The stage after a row or report of a table. If the table is the current one or a later one, the
--- stage has read the row or report. If the table is past, the stage has stopped with `BadStore` of
--- that table.
+-- The stage after a row of a table, or after the report that the table can't be queried. If the table is the current
+-- one or a later one, the stage has read the row or report. If the load is past the table, the stage has stopped with
+-- `BadStore` of that table.
 pub record NextStage (name : Table) (news : Option (List Cell)) (old new : Stage) : Type 0 where
   pub table_is : IsInTurn name old → stage_table new ≡ name
   pub reads : IsInTurn name old → (raw : Raw) → HasRead old raw → HasRead new (with_news name news raw)
