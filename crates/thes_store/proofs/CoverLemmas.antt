@@ -58,7 +58,7 @@ moved_key source target row = grind (arith, common_steps)
 abbrev KeyIs : PostingIndexes → List ℕ → ℕ → Type 0
 KeyIs x key i = KeyHasPosition x.keys key i
 
--- The indexes have each row after one posting is changed, if they have its new place.
+-- The indexes have each row after one posting is changed, if they have that posting under its new place.
 covers_after_posting_change : (x : PostingIndexes) (t : Tables) (f : PostingRow → PostingRow) (n : ℕ)
     → ((row : PostingRow) → (f row).key ≡ row.key)
     → ((i : ℕ) (row : PostingRow) → suc i ≡ n → HasPosition x.standing row.place i
@@ -85,8 +85,8 @@ covers_after_move x t source target along covers =
       moves = covers.moves;
     }
 
--- The indexes have each row of the tables after a change, if they had each row before it and have the rows of the
--- change.
+-- The indexes have each row of the tables after a change, if they had each row before it and have the postings and
+-- moves of the change.
 pub covers_after_change : (x : PostingIndexes) (c : Change) (t : Tables) (step : ℕ) → length t.move ≡ step
     → CoversChange x c t step → Covers x t → Covers x (tables_after_change c t)
 covers_after_change x (change.AddPosting row) t step len reached covers = record {

@@ -118,7 +118,7 @@ module _ {A : Type 0} (p : A → Bool) where
   picked_past rows (i ∷ positions) least past r =
       grind (arith, common_steps, slice_get_past, picked_past rows positions (i + 1))
 
-  -- The positions include that of each row from position `least` on that passes the test.
+  -- The positions include those of all rows from position `least` on that pass the test.
   abbrev CoversFrom : ℕ → List A → List ℕ → Type 0
   CoversFrom least rows positions = (i : ℕ) (row : A) → least ≤ i → slice_get rows i ≡ Some row → p row ≡ true
       → IsIn i positions
@@ -129,8 +129,8 @@ module _ {A : Type 0} (p : A → Bool) where
       → CoversFrom (length (pre ++ x ∷ [])) ((pre ++ x ∷ []) ++ rest) positions
       → rows_at_positions p ((pre ++ x ∷ []) ++ rest) positions ≡ filter p rest
 
-  -- After a prefix, the passing rows at ascending positions that include each passing row are all passing rows, in
-  -- order.
+  -- If ascending positions include that of each passing row after a prefix, the passing rows at them are all passing
+  -- rows after the prefix, in order.
   picked_from : (pre rest : List A) (positions : List ℕ) → PositionsAscendFrom (length pre) positions
       → CoversFrom (length pre) (pre ++ rest) positions → rows_at_positions p (pre ++ rest) positions ≡ filter p rest
   picked_from pre [] positions r covers = picked_past (pre ++ []) positions (length pre) (let e : length (pre ++ [])
@@ -186,7 +186,8 @@ module _ {A : Type 0} (p : A → Bool) where
         | inr apart ↦ let a = r.0 in skip step (i ∷ positions) (omega (arith, a, apart), r.1) covers
       ]
 
-  -- The passing rows at ascending positions that include each passing row are all passing rows, in order.
+  -- If ascending positions include that of each row that passes the test, the passing rows at them are all passing
+  -- rows, in order.
   pub picked_all : (rows : List A) (positions : List ℕ) → IsStrictlySortedBy nat_cmp positions
       → ((i : ℕ) (row : A) → slice_get rows i ≡ Some row → p row ≡ true → IsIn i positions)
       → rows_at_positions p rows positions ≡ filter p rows

@@ -24,7 +24,7 @@ module _ {A : Type 0} where
       → IsReady number s (cons_option o [])
   ready_first number s o rest ready = grind (arith, common_steps)
 
-  -- A list that begins with a value, if there is one, and others begins with that value.
+  -- A list that begins with an optional value and then others also begins with the optional value alone.
   begins_first : (items : List A) (o : Option A) (more : List A) → (rest : List A)
       × (items ≡ cons_option o more ++ rest)
       → (rest : List A) × (items ≡ cons_option o [] ++ rest)

@@ -1,4 +1,4 @@
--- Each change of a list with gaps keeps its index correct and its reserved memory.
+-- Each change of a list with gaps keeps the list's index correct, and keeps its reserved memory.
 use Rattle.std.proofs.lemmas.Grind.{common_steps}
 use Rattle.std.proofs.Common.{◌≡◌, ◌+◌, ◌<◌, ◌∙◌, ℕ, zero, suc, List, [], ◌∷◌, ◌++◌, length, Bool, true, false, cond}
 use Rattle.std.proofs.Common.{refl, sym, ap, subst, arith, ⊎_elim}

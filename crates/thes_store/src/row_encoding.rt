@@ -243,7 +243,7 @@ fn row_number_cell(i: usize) -> Cell
     Cell::Int(i as i64 + 1)
 }
 
-// Passes the row of a resource to a sink, given the cell of its number.
+// Passes the row of a resource to a sink, given the cell with the resource's number.
 fn yield_resource<S: RowSink>(number: Cell, resource: &Resource, sink: &mut S) -> Result<(), Fault>
     ensures yields { (n : ℕ) → number ≡ number_cell n
         → SinkOutcome S.gives sink.old

@@ -12,8 +12,8 @@ use thes_tables::rows::PostingRow;
 /// A consumer of rows of the tables, which gets them one at a time. Its only fault is running out
 /// of memory.
 pub trait RowSink {
-    // How the sink consumes a row of a table. The arguments are the state before, the row, or None
-    // for a table that can't be queried, the result, and the state after.
+    // The effect of consuming a row of a table. The arguments are the state before; the table with
+    // the row, or with None if the table can't be queried; the result; and the state after.
     ghost gives: { Self → Table × Option (List Cell) → Result (Unit {0}) Fault → Self → Type 0 };
 
     /// Consumes one row of a table.
@@ -30,8 +30,8 @@ pub trait RowSink {
 
 /// A consumer of postings, which gets them one at a time. Its only fault is running out of memory.
 pub trait PostingSink {
-    // How the sink consumes a posting. The arguments are the state before, the posting, the result,
-    // and the state after.
+    // The effect of consuming a posting. The arguments are the state before, the posting, the
+    // result, and the state after.
     ghost gives: { Self → PostingRow → Result (Unit {0}) Fault → Self → Type 0 };
 
     /// Consumes one posting.

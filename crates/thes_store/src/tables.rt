@@ -35,7 +35,7 @@ pub struct MemTables {
     pub hier: Slots<HierRow>,
     pub posting: Vec<PostingRow>,
     pub steps: Vec<MoveRow>,
-    // Copies of the labels that the changes to come insert or delete.
+    // Copies of the labels that the next changes insert or delete, in the order of the changes.
     label_copies: VecDeque<PackedLabel>,
 }
 
@@ -172,7 +172,7 @@ fn withdraw(postings: &mut Vec<PostingRow>, n: PostNo)
     }
 }
 
-// Assigns the posting with the number to the concept `place`.
+// Sets the place of the posting with the number, withdrawn or not.
 fn set_place(postings: &mut Vec<PostingRow>, n: PostNo, place: ResNo)
     ensures items { postings.new.items ≡ with_posting (row_at_place place) n postings.old.items }
     ensures room { KeepsRoom postings.old postings.new }
