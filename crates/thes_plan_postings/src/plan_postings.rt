@@ -40,7 +40,7 @@ pub struct PlanPostings {
 }
 
 impl PlanPostings {
-    /// Creates the changes of a plan before its first request is performed: none.
+    /// Creates the record of a plan that has changed no posting yet.
     pub fn new(alloc: Global) -> PlanPostings
         ensures { (rows : List PostingRow) → AreNumbered rows → ArePlanRows rows rows result }
     {
