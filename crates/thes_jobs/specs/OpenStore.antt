@@ -14,8 +14,8 @@ use Rattle.thes_jobs.specs.Trouble.{trouble_of}
 use Rattle.thes_jobs.specs.declared.starting.StoreDatabase.{StoreDatabase}
 use Rattle.thes_jobs.specs.declared.starting.UnopenedStore.{UnopenedStore}
 
--- The way to open a file in this state for a task, whether or not it is marked as that of an unfinished store; or the
--- trouble and the fault of the names next to it, or of that choice.
+-- The way to open a file in this state for a task, for some answer to whether it is marked as that of an unfinished
+-- store; or the trouble and the fault of that choice, or of the names of the files next to it.
 abbrev pub ChoosesOpening : Task → FileState → Result Opening (StoreTrouble × Fault) → Type 0
 ChoosesOpening task found (Ok opening) = (is_marked : Bool) × (opening_of task found is_marked ≡ Ok opening)
 ChoosesOpening task found (Err reported) =

@@ -92,8 +92,8 @@ module _ {S : Type 0} (store : Ghosts S) (image : Image) where
       × OpensFrom store image database.conn × (left ≡ Some database.conn)
 
   module _ {L : Type 0} (keeps : Cause → L → Type 0) where
-    -- The trouble and the fault of a store that couldn't be opened, or not prepared, for a task, or whose file's full
-    -- path wasn't found; and the connection to its database, if that was opened, or what is left of its files.
+    -- The trouble and the fault of a store that couldn't be opened or prepared for a task, or whose file's full path
+    -- wasn't found; and the connection to its database, if that was opened, or what is left of its files.
     pub data IsUnpreparedStore (task : Task) (base : List ℕ) (reported : StoreTrouble × Fault) (left : Option (Held S))
         (rest : Option L) : Type 0 where
       unopened : IsUnopenedStore keeps task reported rest → left ≡ None
