@@ -131,7 +131,7 @@ fn open_pair<S: Start>(rt: &HostRuntime, path: &str, start: S) -> Result<Files<F
 }
 
 /// Opens the database in the files at a path. If they hold a store, the connection serves this
-/// store. `start` represents their contents, which may be anything. An error has the cause and, if
+/// store. `start` represents their contents, which may be anything. The error is the cause and, if
 /// the files were opened, what is left of them, which still holds what they held. `UnknownSchema`
 /// and `Damaged` are found only in files that were opened.
 pub fn open_files<S: Start>(

@@ -71,8 +71,8 @@ impl<S: Alter> Model for SqlKeeper<S> {
 }
 
 impl<S: Alter> SqlKeeper<S> {
-    /// Creates the tables of a new store in a database without tables. An error has the fault and
-    /// the connection; if its database is still open, it is unchanged.
+    /// Creates the tables of a new store in a database without tables. The error is the fault, with
+    /// the connection, whose database is unchanged if it is still open.
     pub fn create(
         alloc: Global,
         mut conn: Connection<S>,
