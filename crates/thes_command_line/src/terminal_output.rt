@@ -105,7 +105,7 @@ fn plain_length(text: &[u8]) -> usize
 }
 
 /// Writes in each call one escape, or the text up to the next character to escape; without escapes,
-/// what the inner writer takes.
+/// passes the text to the inner writer.
 impl<W: Write> Write for TerminalOutput<W> {
     ghost contents = { λ o. if o.escapes then None else W.contents o.writer };
 
