@@ -23,7 +23,7 @@ use Rattle.thes_sqlite.specs.KeeperView.{IsUp, ServesTables}
 use Rattle.thes_sqlite.specs.declared.cause.Cause.{Cause}
 use Rattle.thes_jobs.specs.Databases.{ClosesStore, HoldImage, HoldTables, KeepsImage, KeepsTables, OpensFrom, files_of_left}
 
--- A database that was opened is that of its files.
+-- A database that was opened in files is the one that they hold.
 pub opened_from : {D : Type 0} {g : disk.Ghosts D} (image : Image) (conn : Held (FileStore D g))
     → (HasCleanDisk (file_state conn) → OpensFiles image (file_state conn)) → conn.in_transaction ≡ false
     → OpensFrom over_files image conn

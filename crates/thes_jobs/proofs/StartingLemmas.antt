@@ -13,7 +13,7 @@ use Rattle.thes_command_line.specs.declared.opening.Preparation.TheVariants.{Mak
 use Rattle.thes_jobs.specs.PlannedWork.{OpensPlanned, planned_work}
 use Rattle.thes_jobs.specs.Starting.{job_in_file}
 
--- A task without work is a migration.
+-- A task for which no work is opened is a migration.
 pub migrates : (F L : Type 0) (task : Task) (prints_it : Bool)
     → OpensPlanned {F = F} {L = L} (planned_work task) prints_it (Ok None) → task ≡ tasks.Migrate
 migrates F L (tasks.Script options) prints_it h = absurd cc

@@ -54,8 +54,8 @@ module _ {S : Type 0} (store : Ghosts S) where
   Prepares RemoveMark is_blank base old result new = (result ≡ verdict_of_blank is_blank) × (new ≡ old)
   Prepares Nothing is_blank base old result new = (result ≡ verdict_of_blank is_blank) × (new ≡ old)
 
-  -- The database of a store was prepared in the way for how it was opened, for whether it has tables, and for whether
-  -- the task only reads.
+  -- The database of a store was prepared as it had to be, by how it was opened, whether it has tables, and whether the
+  -- task only reads.
   pub record PreparesStore (opening : Opening) (reads_only : Bool) (base : List ℕ) (old : Held S)
       (result : Result (Unit {0}) (StoreTrouble × Fault)) (new : Held S) : Type 0 where
     pub is_blank : Bool

@@ -1,4 +1,4 @@
--- The database of the store in a file, opened for a task, and the reasons why it isn't.
+-- The opening of a store's database for a task, and the reasons why it fails.
 use Rattle.std.specs.Prelude.{◌≡◌, ◌⊎◌, Bool, false, Option, None, Some, Result, Ok, Err}
 use Rattle.thes_base.specs.declared.fault.Fault.{Fault}
 use Rattle.thes_base.specs.declared.fault.Fault.TheVariants.{OutOfMemory, Store}
@@ -43,7 +43,8 @@ module _ {L : Type 0} (keeps : Cause → L → Type 0) where
     unopened : (found : FileState) → (opening : Opening) → ChoosesOpening task found (Ok opening)
         → IsUnopenedDatabase reported rest → IsUnopenedStore task reported rest
 
--- The database of a store was opened in the way for the task and for some state of its file, and is in no transaction.
+-- The database of a store was opened in the way that is chosen for the task and for some state of the store's file, and
+-- is in no transaction.
 pub record IsOpenedFor {S : Type 0} (task : Task) (store : StoreDatabase S) : Type 0 where
   pub state : FileState
   pub chooses : ChoosesOpening task state (Ok store.opening)

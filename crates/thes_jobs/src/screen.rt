@@ -64,7 +64,7 @@ impl<'a, R: Clock + Eprint> Screen<'a, R> {
     }
 }
 
-/// Prints the number of rows read for every task, and the number of rows done for an import alone.
+/// Prints the number of rows read, and for an import also the number of rows done.
 impl<R: Clock + Eprint> Progress for Screen<'_, R> {
     fn report_rows(&mut self, rows: u64) {
         if rows % STRIDE == 0 && self.takes_turn() {

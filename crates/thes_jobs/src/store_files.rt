@@ -20,7 +20,7 @@ use thes_sqlite::reopening::{HeldTables, Reopen};
 pub struct Reopening(());
 
 /// The contents of files before they are opened again, as a value for contracts. Making it takes a
-/// token, so no other code makes a second image of what files held at first.
+/// `Reopening`, so no other code makes a second image of what files held at first.
 pub trait ReopenedImage {
     /// Returns the image of files that are opened again.
     fn image_of_reopened(sign: Reopening) -> Self;

@@ -22,7 +22,7 @@ use Rattle.thes_sqlite.specs.Telling.{Tells}
 abbrev pub keeper_of_connection : {S : Type 0} → Held S → KeeperView S
 keeper_of_connection conn = record { conn = conn; failures = 0; first = conn }
 
--- The storage as contracts see it.
+-- Storage that opens its database again, as contracts see it.
 pub record ReopeningView (S : Type 0) : Type 0 where
   -- The storage over the first connection, until a failure shuts that.
   pub first : Option (KeeperView S)
@@ -147,8 +147,8 @@ abbrev pub IsLostShut : {S : Type 0} → Ghosts S → KeeperView S → Option (H
 IsLostShut g k None = ⊥
 IsLostShut g k (Some conn) = HasCleanDisk (state g conn) → (state g k.conn).is_open ≡ false
 
--- Nothing was written: the storage has a connection now and had one before, and its database is unwritten if it is up;
--- or it has none and had none.
+-- Nothing was written: the storage had a connection and has one, and its database is unwritten; or it had none and has
+-- none.
 abbrev pub StaysUnwritten : {S : Type 0} → Ghosts S → Option (KeeperView S) → Option (KeeperView S) → Type 0
 StaysUnwritten g None None = Unit {0}
 StaysUnwritten g (Some k) (Some l) = LeavesUnwritten g k.conn l.conn

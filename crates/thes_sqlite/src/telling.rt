@@ -83,7 +83,8 @@ fn is_of_hier(row: &HierRow, change: &Change) -> bool
     }
 }
 
-// Returns whether a change inserts or deletes the same row of label, link or hier as another.
+// Returns whether a change inserts or deletes the same row of label, link or hier as another change
+// does.
 fn is_of_same_row(change: &Change, other: &Change) -> bool
     ensures { result ≡ are_same (row_of change.now) (row_of other.now) }
 {
