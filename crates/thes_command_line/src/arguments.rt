@@ -65,7 +65,8 @@ pub enum Task {
     Migrate,
 }
 
-/// Returns whether a task writes an alphabetical or hierarchical display.
+/// Returns whether a task writes an alphabetical or hierarchical display, which is escaped on a
+/// terminal.
 pub fn is_display(task: &Task) -> bool
     ensures { IsTrue result ↔ NamesDisplay (command_of task.now) }
 {

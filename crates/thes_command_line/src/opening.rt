@@ -114,7 +114,7 @@ pub fn opening_of(task: &Task, found: FileState, is_marked: bool) -> Result<Open
     }
 }
 
-/// Returns whether a task imports a posting file.
+/// Returns whether a task imports a posting file, whose rows done are reported as progress.
 pub fn is_import(task: &Task) -> bool
     ensures { result ≡ choices.is_import task.now }
 {

@@ -414,7 +414,8 @@ fn open_in_file<'r, D: Databases>(
     }
 }
 
-// Opens the job of a task over a new store in memory.
+// Opens the job of a task over a new store in memory. For a migration this is `Version`, since such
+// a store has version 2.
 fn open_in_memory<D: Databases>(
     rt: &HostRuntime,
     task: Task,

@@ -26,7 +26,7 @@ keeper_of_connection conn = record { conn = conn; failures = 0; first = conn }
 pub record ReopeningView (S : Type 0) : Type 0 where
   -- The storage over the first connection, until a failure shuts that.
   pub first : Option (KeeperView S)
-  -- The number of failures.
+  -- The number of failures other than running out of memory, over all connections.
   pub failures : ℕ
   -- The storage over the connection that is open, the first one or a later one; None while the database can't be
   -- opened.

@@ -43,7 +43,7 @@ pub struct ReopeningKeeper<S: Alter, O: Reopen<Connection<S>> + HeldTables, L> {
     progress: L,
     // The number of look-ups of postings by their keys; it saturates.
     lookups: u64,
-    // The number of failures, over all connections.
+    // The number of failures other than running out of memory, over all connections; it saturates.
     failures: u64,
     // Whether a commit that returned `Store` may have been performed.
     is_in_doubt: bool,

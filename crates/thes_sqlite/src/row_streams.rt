@@ -92,7 +92,7 @@ pub(crate) fn yield_table_rows<S: Alter, R: RowSink>(
     yield_rows(alloc, conn, name, sink, cause)
 }
 
-// Passes a row of table posting to a sink as a posting.
+// Passes a row of table posting to a sink as a posting. A row of another form is the fault `Store`.
 fn yield_posting<P: PostingSink>(alloc: Global, row: &Row, sink: &mut P) -> Result<(), Fault>
     ensures yields { (x : PostingRow) → row.now ≡ values (posting_cells x)
         → SinkOutcome P.gives sink.old (x ∷ []) result sink.new }

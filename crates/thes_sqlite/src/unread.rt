@@ -59,8 +59,8 @@ fn is_view_named(row: &Row, name: &[u8]) -> bool {
     is_of_kind(row, "view") && bytes_of(row.get(NAME)) == name
 }
 
-// Returns whether a row of the schema is that of a view that can't be read, of a trigger on a view,
-// or of a virtual table.
+// Returns whether a row of the schema is one that the library can't read: that of a view that it
+// can't parse, of a trigger on a view, or of a virtual table.
 fn is_unread(alloc: Global, rows: &[Row], row: &Row) -> Result<bool, AllocError> {
     if is_of_kind(row, "view") {
         return is_unread_view(alloc, row);
