@@ -114,7 +114,7 @@ pub fn opening_of(task: &Task, found: FileState, is_marked: bool) -> Result<Open
     }
 }
 
-/// Returns whether a task imports a posting file, whose rows done are reported as progress.
+/// Returns whether a task imports a posting file: the rows done are reported for an import alone.
 pub fn is_import(task: &Task) -> bool
     ensures { result ≡ choices.is_import task.now }
 {
