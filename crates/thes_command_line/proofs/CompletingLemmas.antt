@@ -41,7 +41,7 @@ abbrev AllCompleted : List Shape → Type 0
 AllCompleted [] = Unit {0}
 AllCompleted (s ∷ shapes) = IsCompleted s × AllCompleted shapes
 
--- What holds of the first, and of the rest.
+-- Joins two facts, one about the first element of a list and one about the rest.
 pub and_rest : {A B : Type 0} → A → B → A × B
 and_rest a b = (a, b)
 

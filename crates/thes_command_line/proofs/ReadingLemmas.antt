@@ -93,7 +93,7 @@ pub command_rows : {Z : Type 0} (found : Option (Box SubCommand Z)) (name : Text
     → subcommand_rows found ≡ Some (name, arguments)
 command_rows found name arguments command_is reports = grind (arith, common_steps, true≢false)
 
--- What the getters return, as the proofs of the functions that call them name it.
+-- The facts about what the getters return that the proofs of their callers use.
 pub ruleset values_read = (common_steps, first_value-rows, gives_text)
 
 pub ruleset display_values_read = (values_read, some_and, no_scheme, no_lang)

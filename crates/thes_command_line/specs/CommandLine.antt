@@ -144,7 +144,7 @@ HasFault options command fault =
     ((fault ≡ BadIri) × ¬ IsBase (base_in options))
     ⊎ (IsBase (base_in options) × IsSomeAnd command (λ c. NamesDisplay c.0 × LacksForm c.1 fault))
 
--- The job, the first form fault, or running out of memory.
+-- The result if `clap` finds no fault: the job, the first form fault, or running out of memory.
 abbrev pub MatchedPlanResult : List Row → Option (Text × List Row) → Result Job EarlyExit → Type 0
 MatchedPlanResult options command (Ok job) = IsJob options command job
 MatchedPlanResult options command (Err (BadForm fault)) = HasFault options command fault
@@ -153,7 +153,7 @@ MatchedPlanResult options command (Err (Help text)) = ⊥
 MatchedPlanResult options command (Err (Usage text)) = ⊥
 MatchedPlanResult options command (Err NotText) = ⊥
 
--- The early exit for a kind of error from `clap`: help, version or usage error.
+-- The early exit for a kind of error from `clap`: help, version, usage error, or running out of memory.
 abbrev pub ExitsFor : ErrorKind → EarlyExit → Type 0
 ExitsFor kind (Help text) = (kind ≡ DisplayHelp) ⊎ (kind ≡ DisplayVersion)
 ExitsFor kind (Usage text) = (kind ≢ DisplayHelp) × (kind ≢ DisplayVersion)

@@ -47,12 +47,12 @@ new_store task trouble = if only_reads task then Err trouble else Ok New
 abbrev pub is_unfinished : ℕ → Bool → Bool
 is_unfinished size is_marked = is_marked && nat_le size 4096
 
--- The way to open a file that isn't empty: it is used, but a file of one byte isn't a database.
+-- The way to open a file that isn't empty: the store in it is used, but a file of one byte isn't a database.
 abbrev pub opening_of_bytes : ℕ → Result Opening StoreTrouble
 opening_of_bytes n = if n == 1 then Err troubles.NotDatabase else Ok Existing
 
--- The way to open a file that isn't empty, for a task: if the store in it is unfinished, it is made,
--- but not for a task that only reads.
+-- The way to open a file that isn't empty, for a task: an unfinished store is made, unless the task only reads; any
+-- other store is used.
 abbrev pub opening_of_file : Task → ℕ → Bool → Result Opening StoreTrouble
 opening_of_file task n is_marked =
     if not (only_reads task) && is_unfinished n is_marked then Ok New else opening_of_bytes n
@@ -84,7 +84,7 @@ is_mark_void _ found.Absent = true
 is_mark_void _ (found.Bytes n) = n == 0
 is_mark_void _ found.Other = false
 
--- The trouble and the fault of a file for which the names next to it are too long, or couldn't be checked.
+-- The trouble and the fault if the names of the files next to a store's file are too long, or couldn't be checked.
 abbrev pub name_trouble : Result Bool Fault → Option (StoreTrouble × Fault)
 name_trouble (Ok true) = Some (troubles.LongName, Store)
 name_trouble (Ok false) = None

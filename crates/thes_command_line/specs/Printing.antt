@@ -41,7 +41,7 @@ abbrev pub file_end : Option StoreTrouble → Bytes
 file_end None = codes "\n"
 file_end (Some trouble) = codes ": " ++ words_of trouble ++ codes "\n"
 
--- The line that names the file of a store, with the reason for its fault.
+-- The line that names the file of a store, with the reason for its fault, if there is one.
 abbrev pub file_line : Bytes → Option StoreTrouble → Bytes
 file_line file trouble = codes "thesaurus: store " ++ file ++ file_end trouble
 
@@ -49,7 +49,7 @@ file_line file trouble = codes "thesaurus: store " ++ file ++ file_end trouble
 abbrev pub file_fault_lines : Bytes → StoreTrouble → Fault → Bytes
 file_fault_lines file trouble fault = file_line file (trouble_of_fault fault trouble) ++ fault_line (faults.Fault fault)
 
--- The lines for a fault of a store; a store in memory has no line of a file.
+-- The lines for a fault of a store; for a store in memory no line names a file.
 abbrev pub fault_lines : Option Bytes → StoreTrouble → Fault → Bytes
 fault_lines None trouble fault = fault_line (faults.Fault fault)
 fault_lines (Some file) trouble fault = file_fault_lines file trouble fault

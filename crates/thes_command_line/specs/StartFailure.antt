@@ -7,7 +7,8 @@ use Rattle.thes_command_line.specs.Printing.{PrintsError, file_fault_lines, open
 use Rattle.thes_command_line.specs.declared.start_failure.StartFailure.{StartFailure}
 use Rattle.thes_command_line.specs.declared.start_failure.StartFailure.TheVariants.{EarlyExit, Unopened, InStore}
 
--- An early exit is reported as such; a file, socket or store that can't be opened on standard error, with status 3.
+-- An early exit is reported as `ExitsEarly` says; a file, socket or store that can't be opened is reported on standard
+-- error, with status 3.
 module _ {W E : Type 0} (out : W → Option Bytes) (err : E → Option Bytes)
     (output output' : Pipe W) (errors errors' : Pipe E) where
   abbrev pub ReportsStartFailure : StartFailure → ℕ → Type 0

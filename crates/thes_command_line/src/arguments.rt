@@ -65,7 +65,8 @@ pub enum Task {
     Migrate,
 }
 
-/// Returns whether a task writes an alphabetical or hierarchical display.
+/// Returns whether a task writes an alphabetical or hierarchical display, which is escaped on a
+/// terminal.
 pub fn is_display(task: &Task) -> bool
     ensures { IsTrue result ↔ NamesDisplay (command_of task.now) }
 {
@@ -188,7 +189,8 @@ fn serve_options(arguments: &ArgMatches<'_>) -> ServeOptions
     }
 }
 
-// Returns the task of a command with its arguments, or the form fault of an argument.
+// Returns the task of a command with its arguments. An error is the form fault of an argument, or
+// running out of memory.
 fn task_of(alloc: Global, name: &str, arguments: &ArgMatches<'_>) -> Result<Task, EarlyExit>
     requires { IsCompleteCommand name.now (rows_of (found_of arguments.now)) }
     ensures { PlansTask name.now (rows_of (found_of arguments.now)) result }
@@ -213,7 +215,8 @@ fn task_of(alloc: Global, name: &str, arguments: &ArgMatches<'_>) -> Result<Task
     }
 }
 
-// Returns the job of the options and the command that `clap` found, or the first form fault.
+// Returns the job that the options and the command found by `clap` describe, or the first form
+// fault.
 fn job_of(alloc: Global, options: &ArgMatches<'_>) -> Result<Job, EarlyExit>
     requires command { HasCommand (subcommand_rows_of options.now) }
     requires limits { HasLimits (rows_of (found_of options.now)) }
@@ -238,7 +241,8 @@ fn job_of(alloc: Global, options: &ArgMatches<'_>) -> Result<Job, EarlyExit>
     }
 }
 
-/// Parses the arguments; the first is the program's name.
+/// Parses the arguments, of which the first is the program's name, into a job. An error is help,
+/// the version, a fault of the command line, or running out of memory.
 pub fn plan(alloc: Global, arguments: &[String]) -> Result<Job, EarlyExit>
     ensures { PlanResult (map string_bytes arguments.now) result }
 {
@@ -249,7 +253,8 @@ pub fn plan(alloc: Global, arguments: &[String]) -> Result<Job, EarlyExit>
     }
 }
 
-/// Parses the arguments of the process, which must be UTF-8.
+/// Parses the arguments of the process as `plan` does; an argument that isn't UTF-8 is the error
+/// `NotText`.
 pub fn plan_args(alloc: Global, args: Args) -> Result<Job, EarlyExit>
     ensures { PlanResult (map string_bytes (into_iter_items args)) result }
 {

@@ -326,8 +326,8 @@ fn file_options<'a>(
         .arg(option(alloc, "base", "IRI", BASE_HELP))
 }
 
-// Adds an option to a program, or returns the error of making it. A caller without early exits has
-// a shorter proof.
+// Adds an option to a program, or returns the error of making the program. So its caller can add
+// several options without an early exit for each.
 fn with_option<'a>(
     program: Result<Command<'a>, AllocError>,
     option: Arg<'a>,

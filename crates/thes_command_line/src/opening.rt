@@ -35,11 +35,12 @@ pub enum Opening {
 /// What to do with the database of a store once it is open.
 #[derive(Clone, Copy, Debug, PartialEq, Eq)]
 pub enum Preparation {
-    /// Make the tables of a new store, and remove the mark of an unfinished one.
+    /// Makes the tables of a new store, and removes the mark of an unfinished one.
     MakeTables,
-    /// Remove the mark of an unfinished store, since the database has tables.
+    /// Removes the mark of an unfinished store, if the file has one. A database without tables is
+    /// then refused.
     RemoveMark,
-    /// Change nothing.
+    /// Changes nothing. A database without tables is then refused.
     Nothing,
 }
 
@@ -85,7 +86,8 @@ fn is_unfinished(size: u64, is_marked: bool) -> bool
     is_marked && size <= BLANK_SIZE
 }
 
-// Returns the way to open a file of this size, which isn't empty, for a task.
+// Returns the way to open a file of this size in bytes, which isn't empty, for a task. `is_marked`
+// says that the file has the mark of an unfinished store.
 fn opening_of_file(task: &Task, size: u64, is_marked: bool) -> Result<Opening, StoreTrouble>
     ensures { result ≡ choices.opening_of_file task.now size is_marked }
 {
@@ -112,7 +114,7 @@ pub fn opening_of(task: &Task, found: FileState, is_marked: bool) -> Result<Open
     }
 }
 
-/// Returns whether a task imports a posting file.
+/// Returns whether a task imports a posting file: the rows done are reported for an import alone.
 pub fn is_import(task: &Task) -> bool
     ensures { result ≡ choices.is_import task.now }
 {
@@ -133,8 +135,8 @@ pub fn preparation_of(opening: Opening, is_blank: bool, reads_only: bool) -> Pre
 }
 
 /// Returns whether to remove the mark of an unfinished store whose database couldn't be opened: if
-/// the file that is `left` is absent or empty, unless another program, which made the mark, has the
-/// file open.
+/// its file is absent or empty afterwards (`left`), unless another program has the file open, since
+/// the mark may be that program's.
 pub fn is_mark_void(trouble: StoreTrouble, left: FileState) -> bool
     ensures { result ≡ choices.is_mark_void trouble left }
 {

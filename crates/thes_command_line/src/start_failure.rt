@@ -12,7 +12,7 @@ use thes_base::pipe::Pipe;
 /// The reason why the work of a job doesn't begin.
 #[derive(Debug, Drop)]
 pub enum StartFailure {
-    /// Help, the version, a fault of the command line, or running out of memory for it.
+    /// Help, the version, a fault of the command line, or running out of memory while it is parsed.
     EarlyExit(EarlyExit),
     /// The posting file or the socket of the task couldn't be opened.
     Unopened(OpenFailure),

@@ -7,8 +7,9 @@ use std::io;
 use std::io::Write;
 
 /// A writer that, if `escapes`, writes each character that a terminal may obey (U+0080 to U+009F,
-/// U+2028 and U+2029) as its number in the form `\u{85}`. Without escapes its contents are those of
-/// the inner writer; with them, contracts leave its contents unknown.
+/// U+2028 and U+2029; texts of a store have no ASCII control characters) as its number in the form
+/// `\u{85}`. Without escapes its contents are those of the inner writer; with them, contracts leave
+/// its contents unknown.
 #[derive(Drop)]
 pub struct TerminalOutput<W> {
     writer: W,
@@ -26,7 +27,7 @@ impl<W> TerminalOutput<W> {
 }
 
 impl<W: Write> TerminalOutput<W> {
-    // Writes an escape in place of the character that has `count` bytes, and returns `count`.
+    // Writes an escape in place of a character of `count` bytes, and returns `count`.
     fn write_escape(&mut self, escape: &str, count: usize) -> io::Result<usize>
         ensures bytes { OnOk result (Appends (W.contents self.old.writer)
             (W.contents self.new.writer) escape.now) }
@@ -64,7 +65,7 @@ fn hex_digit(number: u8) -> &'static str
 }
 
 // Returns the escape of the first character of a text, and that character's length in bytes; None
-// if no terminal obeys the character.
+// if the character isn't to be escaped.
 fn escape_of(text: &[u8]) -> Option<(ArrayString<8>, usize)>
     ensures { IfSome result (λ x. x.1 ≤ length text.now) }
 {
@@ -105,7 +106,7 @@ fn plain_length(text: &[u8]) -> usize
 }
 
 /// Writes in each call one escape, or the text up to the next character to escape; without escapes,
-/// what the inner writer takes.
+/// passes the text to the inner writer.
 impl<W: Write> Write for TerminalOutput<W> {
     ghost contents = { λ o. if o.escapes then None else W.contents o.writer };
 

@@ -10,17 +10,20 @@ use thes_base::fault::Fault;
 pub enum StoreTrouble {
     /// Another program has the file open.
     InUse,
-    /// The file doesn't exist and the task makes none, or its folder doesn't exist.
+    /// The file doesn't exist and the task makes none, its folder doesn't exist, or its name no
+    /// longer leads to the file that was open.
     NoFile,
-    /// The file holds something other than a database.
+    /// There is no database in the file: it holds something else, isn't a regular file, or is empty
+    /// and the task makes no store.
     NotDatabase,
     /// The file has another name, a hard link.
     Linked,
     /// The names of the files next to the store's file would be too long for the system.
     LongName,
-    /// The file can't be read.
+    /// The file can't be read, or no other reason is known for a failure to read the store.
     Unreadable,
-    /// The file can't be written, or can't be made.
+    /// The file can't be written or made, or no other reason is known for a failure to open, make
+    /// or migrate the store.
     Unwritable,
     /// The disk is full.
     NoRoom,

@@ -23,7 +23,7 @@ use Rattle.thes_sqlite.specs.KeeperView.{IsUp, ServesTables}
 use Rattle.thes_sqlite.specs.declared.cause.Cause.{Cause}
 use Rattle.thes_jobs.specs.Databases.{ClosesStore, HoldImage, HoldTables, KeepsImage, KeepsTables, OpensFrom, files_of_left}
 
--- A database that was opened is that of its files.
+-- A database that was opened in files is the one that they hold.
 pub opened_from : {D : Type 0} {g : disk.Ghosts D} (image : Image) (conn : Held (FileStore D g))
     → (HasCleanDisk (file_state conn) → OpensFiles image (file_state conn)) → conn.in_transaction ≡ false
     → OpensFrom over_files image conn
@@ -34,7 +34,7 @@ opened_from image conn opens idle = record {
   empty = λ up new. let here = opens up.0 in here.empty new;
 }
 
--- Files with some contents, whose database can't be opened, keep these.
+-- Files whose database can't be opened keep their contents.
 pub keeps_image : {D : Type 0} {g : disk.Ghosts D} (image : Image) (AreOpened : Files D → Type 0)
     → ((files : Files D) → AreOpened files → HoldImage g image files) → (cause : Cause)
     → (left : Option (Leftover D g)) → IfSome left (FailsToOpen AreOpened cause)
@@ -53,7 +53,7 @@ keeps_image image AreOpened hold cause (Some left) fails early = record {
   };
 }
 
--- A crash leaves a file, to which nothing has happened since it was opened, as it was then.
+-- If nothing has happened to a file since it was opened, a crash leaves it as it was then.
 pub left_as_opened : (log db : List ℕ) (mixes is_log which : Bool) (events : List Event) (key : ℕ) → is_log ≡ which
     → events ≡ settled key ∷ [] → (after : List ℕ) → MayLeave mixes (replay (cond is_log log db) events).seen
     (replay (cond is_log log db) events).synced (replay (cond is_log log db) events).steps after
@@ -90,6 +90,6 @@ no_store db schema t none keeps =
     ap (λ (s : Schema). length s.tables) same in
     omega (arith, lengths)
 
--- A call keeps the tables of a database that has none, if it finds open what it leaves open.
+-- A call keeps the tables of a database that has none, if a database that is up after the call was up before.
 pub keeps_none : (old new : State) → old.now.schema ≡ empty_schema → (IsUp new → IsUp old) → KeepsTables old new
 keeps_none old new none was up schema t held = absurd (no_store old.now schema t none (held (was up)).1)

@@ -72,13 +72,13 @@ module _ {S : Type 0} (g : Ghosts S) where
     };
   }
 
--- Work over the same files with another base begins with a store in the same schema.
+-- Work over the same files with another base begins with a store with the same schema.
 is_initial_also : (image : Image) (base other : List ℕ) (schema : Schema) (t : Tables)
     → IsInitialStore image base schema t → (also : Tables) × IsInitialStore image other schema also
 is_initial_also image base other schema t (inl held) = (t, inl held)
 is_initial_also image base other schema t (inr new) = (empty_tables other, inr (new.0, new.1, refl))
 
--- A database that is the store with which work with some base begins is that of its files.
+-- If a database serves the store with which work with some base begins, `ServesFiles` is true of it.
 pub serves_files : (image : Image) (base : List ℕ) (s : State) → ServesTables (IsInitialStore image base) s
     → ServesFiles image s
 unfolding ServesFiles

@@ -1,4 +1,4 @@
--- Facts about the job that is opened.
+-- Proves facts about tasks, jobs and preparations, for the functions that open a job.
 use Rattle.std.proofs.Common.{◌≡◌, Bool, true, false, IsTrue, Ok, Err, None, Some, refl}
 use Rattle.std.specs.Global.{Global}
 use Rattle.std.specs.declared.string.String.{String}
@@ -13,7 +13,7 @@ use Rattle.thes_command_line.specs.declared.opening.Preparation.TheVariants.{Mak
 use Rattle.thes_jobs.specs.PlannedWork.{OpensPlanned, planned_work}
 use Rattle.thes_jobs.specs.Starting.{job_in_file}
 
--- A task without work is a migration.
+-- A task for which no work is opened is a migration.
 pub migrates : (F L : Type 0) (task : Task) (prints_it : Bool)
     → OpensPlanned {F = F} {L = L} (planned_work task) prints_it (Ok None) → task ≡ tasks.Migrate
 migrates F L (tasks.Script options) prints_it h = absurd cc
@@ -27,7 +27,7 @@ migrates F L (tasks.Serve options) prints_it (Ok listener, fails, h) = absurd cc
 migrates F L (tasks.Serve options) prints_it (Err failure, fails, h) = absurd cc
 migrates F L tasks.Migrate prints_it h = refl
 
--- A job with this task, this file and this setting.
+-- A job with this task, this file and this setting is the one that `job_in_file` makes of them.
 pub same_job : (job : Job) (task : Task) (file : String Global) (setting : StoreSetting) → task ≡ job.task
     → Some file ≡ job.file → setting ≡ job.setting → job_in_file task file setting ≡ job
 same_job job task file setting a b c = rw (a, b, c) refl

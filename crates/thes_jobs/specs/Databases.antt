@@ -21,8 +21,8 @@ use Rattle.thes_sqlite.specs.DatabaseFiles.{FailsToOpen, IsInitialStore, HoldsSt
 use Rattle.thes_sqlite.specs.KeeperView.{IsUp, ServesTables}
 use Rattle.thes_sqlite.specs.declared.cause.Cause.{Cause}
 
--- A call leaves the tables of a store as they are: if the database was this store before, and nothing in it was
--- uncommitted, it is so afterwards.
+-- A call keeps the tables of a store: if the database was this store before, and nothing in it was uncommitted, the
+-- same is true afterwards, if it is up.
 abbrev pub KeepsTables : State → State → Type 0
 KeepsTables old new = IsUp new → (schema : Schema) (t : Tables)
     → (IsUp old → (old.now ≡ old.committed) × KeepsIn schema old.now t)
@@ -39,8 +39,7 @@ pub record ClosesStore (holds : Schema → Tables → Type 0) (s : State) : Type
   pub was_up : IsUp s
   pub leaves : s.now ≡ s.committed → (schema : Schema) (t : Tables) → KeepsIn schema s.now t → holds schema t
 
--- The database of a connection was closed, if there is one, and its files are left. If they are clean, they hold its
--- store.
+-- If there is a connection, its database was closed, and its files are left. If these are clean, they hold its store.
 abbrev pub ClosesIfOpen : {S C : Type 0} → Ghosts S → (C → Type 0) → (C → Schema → Tables → Type 0) → Option (Held S)
     → Option C → Type 0
 ClosesIfOpen g is_clean holds conn files = MatchOption conn (files ≡ None) (λ conn. IsSomeAnd files (λ files.
@@ -61,27 +60,28 @@ module _ {S : Type 0} (g : Ghosts S) (image : Image) where
     pub idle : conn.in_transaction ≡ false
     pub serves : ServesTables (IsInitialStore image base) (state g conn)
 
-  -- The database of a connection, if there is one, is the store that its files held, if they held one.
+  -- If there is a connection, and its files held a store, its database is this store.
   abbrev pub ServesIfOpen : Option (Held S) → Type 0
   ServesIfOpen left = IfSome left (λ conn. ServesTables (HoldsStore image) (state g conn))
 
--- The files hold these contents, and would after a crash.
+-- The files hold these contents, also after a crash.
 pub record HoldImage {D : Type 0} (g : disk.Ghosts D) (image : Image) (files : Files D) : Type 0 where
   pub reads : image_of g files ≡ image
   pub crash : (after : Image) → outcomes g files.log files.db after → after ≡ image
 
--- The two files of what a failed opening has left.
+-- The two files in what a failed opening has left.
 abbrev pub files_of_left : {D : Type 0} {g : disk.Ghosts D} → Leftover D g → Files D
 files_of_left left = record { log = (files_left left).0; db = (files_left left).1 }
 
--- A failed opening, for this cause, of files with these contents has left them so.
+-- An opening of files with these contents failed for this cause, and left `files`, which have the same contents.
 pub record AreUnopened {D : Type 0} (g : disk.Ghosts D) (image : Image) (cause : Cause) (files : Files D) : Type 0 where
   pub leftover : Leftover D g
   pub files_are : files ≡ files_of_left leftover
   pub fails : FailsToOpen (HoldImage g image) cause leftover
 
 -- Files whose database can't be opened keep these contents, unless the disk fails silently. `FailsToOpen` says how, and
--- ties the cause to what is left of them. If nothing is, they weren't opened, and the cause isn't found in them.
+-- ties the cause to what is left of the files. If none are left, they weren't opened, and the cause isn't one that is
+-- found in files.
 abbrev pub KeepsImage : {D : Type 0} → (g : disk.Ghosts D) → Image → Cause → Option (Files D) → Type 0
 KeepsImage g image cause None = PrecedesOpening cause
 KeepsImage g image cause (Some files) = AreUnopened g image cause files
@@ -97,6 +97,6 @@ HoldTables g None schema t = ⊥
 HoldTables g (Some files) schema t = HoldsStore (image_of g files) schema t
     × ((image : Image) → outcomes g files.log files.db image → HoldsStore image schema t)
 
--- A connection was closed, and its files are left. If they are clean, they hold its store.
+-- A connection was closed, and its files are left. If these are clean, they hold its store.
 abbrev pub ClosesFrom : {D : Type 0} → (g : disk.Ghosts D) → Held (FileStore D g) → Option (Files D) → Type 0
 ClosesFrom g conn files = AreCleanFiles g files → ClosesStore (HoldTables g files) (file_state conn)

@@ -16,8 +16,8 @@ version_line = codes "version 2\n"
 
 module _ {W E : Type 0} (out : W → Option (List ℕ)) (err : E → Option (List ℕ))
     (output output' : Pipe W) (errors errors' : Pipe E) where
-  -- The store couldn't be migrated: the fault is printed after the line of the store's file, which ends with the reason
-  -- that some cause gives, and the status is 3.
+  -- The store couldn't be migrated: the fault is printed, after a line with the name of the store's file and, for
+  -- Store, the reason that some cause gives; the status is 3.
   pub record ReportsUnmigrated (file : List ℕ) (fault : Fault) (status : ℕ) : Type 0 where
     pub cause : Cause
     pub silent : output' ≡ output

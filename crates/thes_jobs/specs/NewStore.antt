@@ -23,8 +23,8 @@ use Rattle.thes_command_line.specs.declared.trouble.StoreTrouble.{StoreTrouble}
 use Rattle.thes_command_line.specs.declared.trouble.StoreTrouble.TheVariants.{Unreadable, Unwritable}
 use Rattle.thes_jobs.specs.Trouble.{trouble_of}
 
--- The verdict on a database in which no tables are to be made; the Boolean says that it has none, and so lacks table
--- meta.
+-- The verdict on a database in which no tables are to be made: one without tables (`true`) is refused, with the fault
+-- of a store that lacks table meta.
 abbrev pub verdict_of_blank : Bool → Result (Unit {0}) (StoreTrouble × Fault)
 verdict_of_blank true = Err (Unreadable, BadStore table.Meta)
 verdict_of_blank false = Ok tt
@@ -47,13 +47,15 @@ module _ {S : Type 0} (store : Ghosts S) where
       × KeepsIn store_schema (state store new).now (empty_tables base)
   MakesStore base old (Err reported) new = IsUnmade old reported.0 reported.1 new
 
-  -- The tables of a new store are made; every other preparation leaves the database as it is, and refuses a blank one.
+  -- The effect of a preparation: MakeTables makes the tables of a new store; every other one leaves the database as it
+  -- is, and refuses a blank one.
   abbrev pub Prepares : Preparation → Bool → List ℕ → Held S → Result (Unit {0}) (StoreTrouble × Fault) → Held S → Type 0
   Prepares MakeTables is_blank base old result new = MakesStore base old result new
   Prepares RemoveMark is_blank base old result new = (result ≡ verdict_of_blank is_blank) × (new ≡ old)
   Prepares Nothing is_blank base old result new = (result ≡ verdict_of_blank is_blank) × (new ≡ old)
 
-  -- The preparation of a database is that for how it was opened, and for whether it has tables.
+  -- The database of a store was prepared as it had to be, by how it was opened, whether it has tables, and whether the
+  -- task only reads.
   pub record PreparesStore (opening : Opening) (reads_only : Bool) (base : List ℕ) (old : Held S)
       (result : Result (Unit {0}) (StoreTrouble × Fault)) (new : Held S) : Type 0 where
     pub is_blank : Bool

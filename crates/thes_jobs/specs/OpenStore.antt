@@ -1,4 +1,4 @@
--- The database of the store in a file, opened for a task, and the reasons why it isn't.
+-- The opening of a store's database for a task, and the reasons why it fails.
 use Rattle.std.specs.Prelude.{◌≡◌, ◌⊎◌, Bool, false, Option, None, Some, Result, Ok, Err}
 use Rattle.thes_base.specs.declared.fault.Fault.{Fault}
 use Rattle.thes_base.specs.declared.fault.Fault.TheVariants.{OutOfMemory, Store}
@@ -14,8 +14,8 @@ use Rattle.thes_jobs.specs.Trouble.{trouble_of}
 use Rattle.thes_jobs.specs.declared.starting.StoreDatabase.{StoreDatabase}
 use Rattle.thes_jobs.specs.declared.starting.UnopenedStore.{UnopenedStore}
 
--- The way to open a file in this state for a task, whether or not it is marked as that of an unfinished store; or the
--- trouble and the fault of the names next to it, or of that choice.
+-- The way to open a file in this state for a task, for some answer to whether it is marked as that of an unfinished
+-- store; or the trouble and the fault of that choice, or of the names of the files next to it.
 abbrev pub ChoosesOpening : Task → FileState → Result Opening (StoreTrouble × Fault) → Type 0
 ChoosesOpening task found (Ok opening) = (is_marked : Bool) × (opening_of task found is_marked ≡ Ok opening)
 ChoosesOpening task found (Err reported) =
@@ -43,7 +43,8 @@ module _ {L : Type 0} (keeps : Cause → L → Type 0) where
     unopened : (found : FileState) → (opening : Opening) → ChoosesOpening task found (Ok opening)
         → IsUnopenedDatabase reported rest → IsUnopenedStore task reported rest
 
--- The database of a store was opened in the way for the task and for some state of its file, and is in no transaction.
+-- The database of a store was opened in the way that is chosen for the task and for some state of the store's file, and
+-- is in no transaction.
 pub record IsOpenedFor {S : Type 0} (task : Task) (store : StoreDatabase S) : Type 0 where
   pub state : FileState
   pub chooses : ChoosesOpening task state (Ok store.opening)

@@ -31,13 +31,13 @@ planned_work (tasks.Import file) = planned.Import file
 planned_work (tasks.Serve options) = planned.Serve options
 planned_work tasks.Migrate = planned.Migrate
 
--- The work of importing a posting file, or that the file couldn't be opened; the Boolean says whether to print the
--- counts of its rows.
+-- The work of importing a posting file, or the failure to open the file; the Boolean says whether to print the counts
+-- of its rows.
 abbrev pub import_work : {F L : Type 0} → Result F Error → Bool → Result (Work F L) OpenFailure
 import_work (Ok file) prints_it = Ok (Output (output.Import file prints_it))
 import_work (Err error) prints_it = Err File
 
--- The work of serving a socket with these options, or that it couldn't be opened.
+-- The work of serving a socket with these options, or the failure to open the socket.
 abbrev pub serve_work : {F L : Type 0} → Result L OpenFailure → ServeOptions → Result (Work F L) OpenFailure
 serve_work (Ok listener) options =
     Ok (Output (output.Serve (record {
@@ -52,7 +52,7 @@ serve_work (Err unopened) options = Err unopened
 abbrev pub IsSocketFailure : OpenFailure → Type 0
 IsSocketFailure failure = (failure ≡ Socket) ⊎ (failure ≡ Connection)
 
--- The planned work, with its posting file or socket opened if it has one, or that this couldn't be opened; None for a
+-- The planned work, with its posting file or socket opened if it has one, or the failure to open that; None for a
 -- migration. The Boolean says whether an import prints the counts of its rows.
 abbrev pub OpensPlanned : {F L : Type 0} → PlannedWork F L → Bool → Result (Option (Work F L)) OpenFailure → Type 0
 OpensPlanned {F} {L} (planned.Ready work) prints_it result = result ≡ Ok (Some work)

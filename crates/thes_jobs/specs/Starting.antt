@@ -31,8 +31,8 @@ use Rattle.thes_jobs.specs.declared.starting.StoreDatabase.{StoreDatabase}
 use Rattle.thes_jobs.specs.declared.work.DatabaseWork.{DatabaseWork}
 use Rattle.thes_jobs.specs.declared.work.MemoryWork.{MemoryWork}
 
--- The connection of work over a store in files with these contents is ready for it, and that of a migration is in no
--- transaction.
+-- If the job is work over a store in files with these contents, its connection is ready for the work; if it is a
+-- migration, its connection is in no transaction.
 abbrev pub IsReadyJob : {S O : Type 0} → Ghosts S → Image → OpenJob S O → Type 0
 IsReadyJob g image (InFile work) = IsReadyConnection g image work.setting.base work.conn
 IsReadyJob g image (InMemory work) = Unit {0}
@@ -61,7 +61,7 @@ module _ {S : Type 0} (store : Ghosts S) (image : Image) where
     pub prepares : PreparesStore store database.opening (only_reads task) base database.conn (Ok tt) conn
     pub ready : IsReadyConnection store image base conn
 
-  -- The work over the store in the file of a job.
+  -- The work is that of this job, over the store in its file.
   pub record IsDatabaseWork {O R F L : Type 0} (job : Job) (work : DatabaseWork S O (Option (Screen R)) F L) : Type 0 where
     pub does : OpensPlanned (planned_work job.task) (is_some work.progress) (Ok (Some work.work))
     pub file : job.file ≡ Some work.file
@@ -69,7 +69,7 @@ module _ {S : Type 0} (store : Ghosts S) (image : Image) where
     pub connects : IsPreparedFor job.task job.setting.base work.conn
     pub listens : ListensTo job.task work.progress
 
-  -- The work of a job over a new store in memory.
+  -- The work is that of this job, over a new store in memory.
   pub record IsMemoryWork {R F L : Type 0} (job : Job) (work : MemoryWork (Option (Screen R)) F L) : Type 0 where
     pub does : OpensPlanned (planned_work job.task) (is_some work.progress) (Ok (Some work.work))
     pub file : job.file ≡ None
@@ -92,8 +92,8 @@ module _ {S : Type 0} (store : Ghosts S) (image : Image) where
       × OpensFrom store image database.conn × (left ≡ Some database.conn)
 
   module _ {L : Type 0} (keeps : Cause → L → Type 0) where
-    -- The trouble and the fault of a store that couldn't be opened, or not prepared, for a task, or whose file's full
-    -- path wasn't found; and the connection to its database, if that was opened, or what is left of its files.
+    -- The trouble and the fault of a store that couldn't be opened or prepared for a task, or whose file's full path
+    -- wasn't found; and the connection to its database, if that was opened, or what is left of its files.
     pub data IsUnpreparedStore (task : Task) (base : List ℕ) (reported : StoreTrouble × Fault) (left : Option (Held S))
         (rest : Option L) : Type 0 where
       unopened : IsUnopenedStore keeps task reported rest → left ≡ None
@@ -115,12 +115,13 @@ module _ {S : Type 0} (store : Ghosts S) (image : Image) where
     IsOpenFailure job (failures.InStore file trouble fault) left rest =
         (job.file ≡ Some file) × IsUnpreparedStore job.task job.setting.base (trouble, fault) left rest
 
-    -- The job is opened, or the reason says why not.
+    -- The job is opened, or the failure says why not.
     abbrev pub OpensJob : {O : Type 0} → Job → Result (OpenJob S O) (FailedStart S L) → Type 0
     OpensJob job (Ok it) = IsOpenJob job it
     OpensJob job (Err failed) = IsOpenFailure job failed.failure failed.conn failed.rest
 
-    -- The job of a command line is opened, if it has one.
+    -- The job of a command line is opened, or the failure says why not; a command line without a job has the failure of
+    -- its early exit.
     abbrev pub OpensPlan : {O : Type 0} → Result Job EarlyExit → Result (OpenJob S O) (FailedStart S L) → Type 0
     OpensPlan (Ok job) opened = OpensJob job opened
     OpensPlan (Err early_exit) opened =

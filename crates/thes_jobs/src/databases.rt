@@ -1,4 +1,5 @@
-//! How the databases of stores are opened and closed.
+//! The trait by which the databases of stores are opened and closed, and its implementation for
+//! files.
 ghost use Rattle.std.specs.Prelude.{IfErr, IfOk};
 ghost use Rattle.sqlite.specs.Schema.{Schema};
 ghost use Rattle.sqlite_wal.specs.Files.{image_at};
@@ -16,20 +17,21 @@ use thes_sqlite::reopening::{HeldTables, Reopen};
 
 /// A way to open the databases of stores by the names of their files, and to close them.
 ///
-/// What opens a store and works over it is generic over this, since a proof about a connection to a
-/// file goes through all its parts.
+/// Code that opens a store and works over it is generic over this trait, so that its proofs don't
+/// involve files.
 pub trait Databases {
-    /// What the connections keep their tables in.
+    /// The storage engine of the connections, which keeps their tables.
     type Engine: Alter + Drop;
 
-    /// What opens a database again. In contracts it names the contents of the files before they are
-    /// opened.
+    /// A value that opens a database again. In contracts, its type also gives the contents of the
+    /// files before they are opened.
     type Opener: Reopen<Connection<Self::Engine>> + HeldTables + Drop;
 
-    /// What closing a database leaves, or an opening that fails.
+    /// What is left of a database's files once it is closed, or when it couldn't be opened.
     type Left: Drop;
 
-    /// What files hold before they are opened, as a value for contracts: code can't read it.
+    /// The contents of files before they are opened, as a value for contracts: code can't read
+    /// them.
     type Image: Drop;
 
     // The files were closed, and the disk has returned what was written.
@@ -42,9 +44,9 @@ pub trait Databases {
     // The files of a database that couldn't be opened, for this cause, hold what they held.
     ghost keeps: { Cause → Self.Left → Type 0 };
 
-    /// Opens the database in a file; if there is no such file, makes it. The image of what the
-    /// files held is consumed, so that only one opening is of them. Returns the cause of a failure
-    /// with what is left of the files.
+    /// Opens the database in a file; if there is no such file, makes it. The call consumes the
+    /// image of what the files hold, so that no second opening claims the same contents. The error
+    /// is the cause, with what is left of the files.
     fn open(
         &self,
         image: Self::Image,
@@ -53,18 +55,20 @@ pub trait Databases {
         ensures opens { IfOk result (OpensFrom Self.Engine.Store Self.Opener.image) }
         ensures fails { IfErr result (λ failed. keeps failed.0 failed.1) };
 
-    /// Returns what opens the database in a file again. The call takes the database's connection,
-    /// since only a database that is open may be opened again.
+    /// Returns a value that can open the database in a file again. The call takes the database's
+    /// connection, since only a database that is open may be opened again. The fault is `Store` if
+    /// the file's full path isn't found.
     fn reopener(&self, conn: &Connection<Self::Engine>, file: &str) -> Result<Self::Opener, Fault>;
 
-    /// Takes a connection, if there is one, closes it, and returns what is left of its files, which
-    /// hold its store. The connection is taken by reference, since Rattle proves no `impl` of a
-    /// method that takes one to an associated type by value.
+    /// Takes the connection out of `conn`, if there is one, closes it, and returns what is left of
+    /// its files, which hold its store. The parameter is a reference since Rattle proves no `impl`
+    /// of a method that takes a connection to an associated type by value.
     fn close(&self, conn: &mut Option<Connection<Self::Engine>>) -> Option<Self::Left>
         ensures { ClosesIfOpen Self.Engine.Store is_clean holds conn.old result };
 }
 
-/// The databases in files of this system, whose contents before they are opened are those of `S`.
+/// Databases in files of this system. In contracts, `S` gives the contents of the files before they
+/// are opened.
 #[derive(Drop)]
 pub struct FileDatabases<'r, S> {
     rt: &'r HostRuntime,
@@ -72,7 +76,7 @@ pub struct FileDatabases<'r, S> {
 }
 
 impl<'r, S> FileDatabases<'r, S> {
-    /// Creates what opens the databases in files.
+    /// Returns a value that opens and closes databases in files.
     pub fn new(rt: &'r HostRuntime) -> FileDatabases<'r, S> {
         FileDatabases {
             rt,
@@ -81,7 +85,7 @@ impl<'r, S> FileDatabases<'r, S> {
     }
 }
 
-/// What is left are the two files of the database; None if they weren't opened, or not closed.
+/// What is left of a database is its two files; None if they weren't opened, or couldn't be closed.
 impl<'r, S: Start + ReopenedImage> Databases for FileDatabases<'r, S> {
     type Engine = FileStore<FileFrom<S>>;
 

@@ -35,8 +35,9 @@ pub fn check_blank(is_blank: bool) -> Result<(), (StoreTrouble, Fault)>
 }
 
 /// Makes the tables of a new store with this base in a database without tables, atomically. An
-/// error is the fault with its reason. The caller keeps a mark beside the file until they are made,
-/// as the file can't be renamed together with its log (DECISIONS.md, The tables).
+/// error is the fault with its reason. The caller keeps a mark next to the file until the tables
+/// are made: the store isn't made under another name and renamed, since its file and its log can't
+/// be renamed together (DECISIONS.md, The tables).
 pub fn make_store<S: Alter>(
     conn: &mut Connection<S>,
     base: &Base,

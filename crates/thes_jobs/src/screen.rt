@@ -51,8 +51,8 @@ impl<'a, R: Clock + Eprint> Screen<'a, R> {
         let _ = eprintln!(self.rt; "thesaurus: new store {file}");
     }
 
-    // Returns whether a second has passed since the last line, and restarts the second if so; false
-    // if the clock fails.
+    // Returns whether a second has passed since the last line, and if so, records the present time
+    // as that of a new line; false if the clock fails.
     fn takes_turn(&mut self) -> bool {
         match Instant::now(self.rt) {
             Ok(now) if is_due(self.last, now) => {
@@ -64,7 +64,7 @@ impl<'a, R: Clock + Eprint> Screen<'a, R> {
     }
 }
 
-/// Prints the number of rows read for every task, and the number of rows done for an import alone.
+/// Prints the number of rows read, and for an import also the number of rows done.
 impl<R: Clock + Eprint> Progress for Screen<'_, R> {
     fn report_rows(&mut self, rows: u64) {
         if rows % STRIDE == 0 && self.takes_turn() {

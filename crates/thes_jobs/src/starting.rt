@@ -75,8 +75,9 @@ fn report_unread(rt: &HostRuntime, file: &str) {
     }
 }
 
-// Opens the database in a file. If that leaves no database there, and no other program has the file
-// open, removes the mark of the unfinished store.
+// Opens the database in a file. If that fails and the file is then absent or empty, removes the
+// mark of the unfinished store, unless another program has the file open. Also prints the name of
+// what keeps the schema from being read, if that is the cause.
 fn open_database<D: Databases>(
     rt: &HostRuntime,
     databases: &D,
@@ -147,7 +148,7 @@ impl<S: Alter> StoreDatabase<'_, S> {
     }
 }
 
-// Returns the fault of a store whose database wasn't to be opened, with its reason.
+// Returns the fault of a store of which no file was opened, with its reason.
 fn without_files<L>(trouble: StoreTrouble, fault: Fault) -> UnopenedStore<L>
     ensures { result ≡ record { report = (trouble, fault); rest = None } }
 {
@@ -157,7 +158,8 @@ fn without_files<L>(trouble: StoreTrouble, fault: Fault) -> UnopenedStore<L>
     }
 }
 
-// Opens the database of the store in a file for a task.
+// Opens the database of the store in a file for a task. If the store is to be made, makes its mark
+// first.
 fn open_store<'r, D: Databases>(
     rt: &'r HostRuntime,
     databases: &D,
@@ -325,8 +327,8 @@ fn failed_over<S: Alter, L>(failure: StartFailure, store: StoreDatabase<'_, S>) 
     }
 }
 
-// Opens the file or socket of a job over an open database, and prepares its store. An error is the
-// fault of either, with the connection.
+// Opens the file or socket of a job over an open database, and prepares its store. The error is the
+// reason, with the connection.
 fn open_over<'r, D: Databases>(
     rt: &'r HostRuntime,
     databases: &D,
@@ -412,7 +414,8 @@ fn open_in_file<'r, D: Databases>(
     }
 }
 
-// Opens the job of a task over a new store in memory.
+// Opens the job of a task over a new store in memory. For a migration this is `Version`, since such
+// a store has version 2.
 fn open_in_memory<D: Databases>(
     rt: &HostRuntime,
     task: Task,
@@ -440,10 +443,10 @@ fn open_in_memory<D: Databases>(
     }
 }
 
-/// Opens the store that a job names, and the file or socket of its task. If the files of a store
-/// held tables, its database serves them; in a new file it has those of an empty store. A failure
-/// comes with the connection to the store, if that was opened, or with what is left of its files,
-/// which hold what they held.
+/// Opens the store that a job names, and the file or socket of its task. If the store's files held
+/// tables, its database serves these; a new file gets the tables of an empty store. The error has
+/// the reason, and the connection to the store, if that was opened, or else what is left of its
+/// files, which hold what they held.
 pub fn open_job<'r, D: Databases>(
     rt: &'r HostRuntime,
     databases: &D,

@@ -15,12 +15,12 @@ use thes_sqlite::cause::Cause;
 use thes_sqlite::files::{close_files, open_files};
 use thes_sqlite::reopening::{HeldTables, Reopen};
 
-/// A sign that files are opened again, which only this module makes.
+/// A token that only this module makes, when it opens files again.
 #[derive(Drop)]
 pub struct Reopening(());
 
-/// What files hold before they are opened again, as a value for contracts. Making one takes a sign,
-/// so no one else makes a second image of what files held at first.
+/// The contents of files before they are opened again, as a value for contracts. Making it takes a
+/// `Reopening`, so no other code makes a second image of what files held at first.
 pub trait ReopenedImage {
     /// Returns the image of files that are opened again.
     fn image_of_reopened(sign: Reopening) -> Self;
@@ -44,8 +44,7 @@ fn take_files<D: Disk>(left: Option<Leftover<D>>) -> Option<Files<D>>
 }
 
 /// Opens the database in the files at a path, which may hold anything; if there are none, makes
-/// them. Returns the cause of a failure with the files, if they were opened: they hold what they
-/// held.
+/// them. The error is the cause, with the files if they were opened; these hold what they held.
 pub fn open_database_files<S: Start>(
     rt: &HostRuntime,
     image: S,
@@ -61,8 +60,8 @@ pub fn open_database_files<S: Start>(
     }
 }
 
-/// Closes a database and returns its files; None after an error. The log holds every change that
-/// was answered; if it can't be copied into the file now, the next run copies it.
+/// Closes a database and returns its files; None after an error. The log holds the changes of every
+/// request that was answered; if it can't be copied into the file now, the next run copies it.
 pub fn close_database_files<D: Disk + Drop>(conn: Connection<FileStore<D>>) -> Option<Files<D>>
     ensures { ClosesFrom D.Disk conn result }
 {
@@ -106,8 +105,8 @@ pub struct StoreFiles<'r, S> {
 }
 
 impl<'r, S> StoreFiles<'r, S> {
-    /// Records the identities of the store's files, which are those that the connection has opened.
-    /// `Store` means that the file's full path isn't found.
+    /// Records the identities of the store's files, which the caller's connection has open. The
+    /// fault `Store` means that the file's full path isn't found.
     pub(crate) fn new(rt: &'r HostRuntime, file: &str) -> Result<StoreFiles<'r, S>, Fault> {
         let Ok(path) = fs::canonicalize(rt, file) else {
             return Err(Fault::Store);

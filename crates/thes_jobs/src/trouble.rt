@@ -12,8 +12,8 @@ use thes_command_line::printing::{report_fault, report_in_file};
 use thes_command_line::trouble::StoreTrouble;
 use thes_sqlite::cause::Cause;
 
-/// Returns the reason that a cause gives, or `other` if it gives none. It looks at no file, which
-/// may have changed meanwhile (DECISIONS.md, The command line).
+/// Returns the reason that a cause gives, or `other` if it gives none. Doesn't look at the file,
+/// which may have changed meanwhile (DECISIONS.md, The command line).
 pub fn trouble_of(cause: Cause, other: StoreTrouble) -> StoreTrouble
     ensures { result ≡ trouble.trouble_of cause other }
 {

@@ -83,8 +83,8 @@ pub fn planned_work<F, L>(task: Task) -> PlannedWork<F, L>
     }
 }
 
-/// Returns the work of importing a posting file, or that it couldn't be opened. The counts of its
-/// rows are printed if there is a listener for progress.
+/// Returns the work of importing a posting file, or `OpenFailure::File` if the file couldn't be
+/// opened. The counts of its rows are printed if there is a listener for progress.
 pub fn import_work<F, L, P>(
     opened: io::Result<F>,
     progress: &Option<P>,
@@ -97,7 +97,7 @@ pub fn import_work<F, L, P>(
     }
 }
 
-/// Returns the work of serving a socket with these options, or that it couldn't be opened.
+/// Returns the work of serving a socket with these options, or the failure to open the socket.
 pub fn serve_work<F, L>(
     opened: Result<L, OpenFailure>,
     options: ServeOptions,

@@ -39,7 +39,7 @@ no_page image new present =
     let none : length image.db ≡ 0 = ap (λ (db : List ℕ). length db) new in
     omega (arith, none, present)
 
--- A new file has no database, so that nothing is listed in what is opened.
+-- A new file holds no database, so the schema of the database opened in it is empty.
 new_is_empty : (image : Image) (s : State) → FindsIn image s → s.now ≡ s.committed → IsDatabase s.committed
     → IsNewFile image → s.now.schema ≡ empty_schema
 new_is_empty image s found clean sound new = elim found.reads [

@@ -28,7 +28,7 @@ use Rattle.thes_sqlite.specs.RowReads.{YieldsTable}
 use Rattle.thes_sqlite.specs.Telling.{Tells}
 use Rattle.thes_sqlite.proofs.KeeperLemmas.{before_read, tables_then}
 
--- The rows of the tables so far and those of one more table.
+-- The rows found in some tables, followed by those found in one more, are those found in all of these tables.
 found_more : (db : Database) (names : List Table) (p : Table) (items : List (Table × Option (List Cell)))
     (found : RawTable) → AreFoundRows db names items → FindsTable p db found
     → AreFoundRows db (names ++ p ∷ []) (items ++ sink_rows_of_table p found)
@@ -41,7 +41,7 @@ found_more db (q ∷ names) p items found h is = grind (
   append_assoc,
 )
 
--- These are the rows that were found of each table.
+-- The rows that were found in each of these tables are those of `raw`.
 abbrev AreRaw : (db : Database) → Raw → (names : List Table) (items : List (Table × Option (List Cell)))
     → AreFoundRows db names items → Type 0
 AreRaw db raw [] items h = Unit {0}
@@ -54,13 +54,15 @@ found_rows db raw (p ∷ names) items h is = h.2.2
     ∙ (λ i. sink_rows_of_table p (sym is.0 i) ++ found_rows db raw names h.2.0 h.2.1 is.1 i)
 
 module _ {R : Type 0} (gives : R → Table × Option (List Cell) → Result (Unit {0}) Fault → R → Type 0) where
-  -- A sink that receives no rows of a table that can't be queried has received what a load finds of it.
+  -- If a sink receives, in place of a table's rows, the report that they can't be queried, it has received what a load
+  -- finds in the table.
   pub none_passed : (p : Table) (db : Database) (old new : R) (r : Result (Unit {0}) Fault) → gives old (p, None) r new
       → FindsTable p db None → OnOk r (PassesTable gives p db old new)
   none_passed p db old new (Ok done) took found = (None, found, (new, took, refl))
   none_passed p db old new (Err fault) took found = tt
 
-  -- A sink that receives no rows of a table that isn't declared as in a store has received what the table yields.
+  -- If a sink receives this report for a table that isn't declared as in a store, it has received what the table
+  -- yields.
   pub undeclared_yielded : {S : Type 0} (g : Ghosts S) (p : Table) (old new : Held S) (before after : R)
       (r : Result (Unit {0}) Fault) → declares (state g old).now.schema p ≡ false → gives before (p, None) r after
       → YieldsTable g gives p old new before r after
@@ -145,7 +147,7 @@ pub unwritten : {S : Type 0} (g : Ghosts S) (old new : Held S) → LeavesTables 
     → (IsTrue (state g old).is_open → (state g old).now ≡ (state g old).committed) → LeavesUnwritten g old new
 unwritten g old new leaves settled up = grind (arith, common_steps, before_read)
 
--- What a database showed before a query, which left it unwritten, holds after it.
+-- What a database showed before a query that left it unwritten, it also shows afterwards.
 pub tells_after : {S : Type 0} (g : Ghosts S) (changes : List Change) (old new : Held S) (answer : Option Bool)
     → LeavesUnwritten g old new → (HasCleanDisk (state g new) → Tells changes (state g old).now answer)
     → IsUp (state g new) → Tells changes (state g new).now answer
@@ -154,7 +156,7 @@ tells_after g changes old new answer leaves tells up =
 
 module _ {S R : Type 0} (g : Ghosts S)
     (gives : R → Table × Option (List Cell) → Result (Unit {0}) Fault → R → Type 0) where
-  -- A load of a database that it leaves unwritten passes what it finds.
+  -- A load that leaves the database unwritten passes the rows that it finds.
   pub database_passed : (old new : KeeperView S) (before : R) (result : Result (Unit {0}) Fault) (after : R)
       → LeavesUnwritten g old.conn new.conn
       → OnOk result (IsUp (state g new.conn) → PassesTables gives (state g old.conn).now before after)

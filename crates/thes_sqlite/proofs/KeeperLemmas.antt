@@ -162,7 +162,7 @@ pub tables_then : {S : Type 0} (g : Ghosts S) (old mid new : Held S) → LeavesT
     → LeavesTables g old new
 tables_then g old mid new first second = grind (arith, common_steps)
 
--- An open store has the tables whose cells its rows are.
+-- If the rows of an open store are the cells of tables, the store has these tables.
 holds_shown : (s : State) → HasCommittedTables s → (t : Tables) → raw_in s.now.trees ≡ cells_of_tables t → Keeps s.now t
 holds_shown s served t is =
     let k = served.keeps in
@@ -308,7 +308,7 @@ module _ {S : Type 0} (g : Ghosts S) (view old : KeeperView S) (same : view ≡ 
       (leaves_either (state g view.first) (state g view.conn) (state g new) changes kept (law view.conn) fits_keeper
       crash)
 
--- A transaction of its own over a database that may hold anything, with the caller's result.
+-- Assumes that the commit was a transaction of its own, over a database that may hold anything.
 module _ {S : Type 0} (g : Ghosts S) (start old new : Held S) (same : start ≡ old) (idle : start.in_transaction ≡ false)
     {C : Trees → Type 0} (survives : Survives (state g start) (state g new) C) {r : Result Bool Error}
     (own : IsOwnTransaction g start new r) where
@@ -322,7 +322,7 @@ module _ {S : Type 0} (g : Ghosts S) (start old new : Held S) (same : start ≡ 
       → DatabaseFrame {T = T} g old new (Err fault)
   frame_of_fault {T} {E} error fault is = grind (arith, common_steps, before_commit)
 
--- A commit that succeeded has made its changes, of whatever store.
+-- A commit that succeeded has made its changes, whatever store the database was.
 pub applies_done : {S E : Type 0} (g : Ghosts S) (inside old new : Held S) (changes : List Change) (r : Result Bool E)
     (done : Bool) → r ≡ Ok done → inside ≡ old → inside.in_transaction ≡ false → IsOwnTransaction g inside new r
     → (HasCleanDisk (state g new) → IfOk r (λ d. IsTrue d → (t : Tables) → Keeps (state g inside).now t

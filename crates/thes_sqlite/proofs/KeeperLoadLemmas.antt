@@ -24,7 +24,8 @@ use Rattle.thes_sqlite.proofs.KeeperLemmas.{before_read, readable_of}
 pub raw_at : (p : Table) (db : Trees) → raw_rows_of p (raw_in db) ≡ raw_table p db
 raw_at p db = grind (arith, common_steps)
 
--- A sink that receives the rows of a readable table receives the rows of that table of the storage.
+-- A sink that receives a table's rows from any readable database receives them from storage that is up, since its
+-- database is readable.
 pub table_yielded : {S R : Type 0} (g : Ghosts S) (gives : R → Table × Option (List Cell)
     → Result (Unit {0}) Fault → R → Type 0) (view old : KeeperView S) (new : Held S) → view ≡ old
     → IsKeeperState (state g view.first) (state g view.conn) → LeavesTables g view.conn new → (p : Table)

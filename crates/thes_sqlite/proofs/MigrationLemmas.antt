@@ -95,7 +95,7 @@ module _ (db : Database) (t : Tables) where
       go (Err (faults.BadStore table.Hier)) h = absurd (one h.0)
       go other h = absurd h
 
--- The error of a store that failed becomes a fault that says so.
+-- The fault for an error of a failed store says that the store has failed.
 
 failed_so : (old new : State) (e : Error) → IsStoreFault old new e → HasFailed old new (error_fault e)
 failed_so old new e fails = grind (arith, common_steps)
@@ -119,7 +119,7 @@ module _ {S : Type 0} (g : Ghosts S) (old new : Held S) where
   meta_unread e fault is fails clean = subst (λ f. HasFailed (state g old) (state g new) f
       ⊎ IsVersionVerdict (state g old).now (Err f)) (sym is) (unread e (fails clean))
 
--- The verdicts on the version and on the tables of links give the verdict on the database.
+-- A fault as the verdict on the version is also the verdict on the database.
 
 module _ (db : Database) where
   pub newer_or_other : (fault : Fault) → IsVersionVerdict db (Err fault) → IsMigrationVerdict db (Err fault)

@@ -94,7 +94,7 @@ found_none key ps items is none row there same = go (filter (has_key key) ps)
     go [] h e = h
     go (q ∷ qs) h e = cc
 
--- The first posting with number `n` is the one at position `n - k`.
+-- If postings are numbered from `k`, the first one with number `n` is at position `n - k`.
 numbered_head : (n k : ℕ) (ps : List PostingRow) → ArePostingsNumbered k ps → k ≤ n
     → slice_get (filter (λ (x : PostingRow). x.number == n) ps) 0 ≡ slice_get ps (n - k)
 numbered_head n k [] num le = sym (slice_get_past [] (n - k) (omega arith))
@@ -113,7 +113,7 @@ none_below : (k : ℕ) (ps : List PostingRow) → ArePostingsNumbered k ps → 0
 none_below k [] num some = refl
 none_below k (p ∷ ps) num some = grind (arith, common_steps, none_below (k + 1) ps num.1 (omega arith), eqb-true)
 
--- The first posting with a number is the one at its position.
+-- If postings are numbered from 1, the first one with a number is the entry at this number.
 numbered_first : (n : ℕ) (ps : List PostingRow) → ArePostingsNumbered 1 ps
     → slice_get (filter (λ (x : PostingRow). x.number == n) ps) 0 ≡ entry_at ps n
 numbered_first zero ps num = none_below 1 ps num (omega arith)

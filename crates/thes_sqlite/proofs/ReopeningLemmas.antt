@@ -1,4 +1,5 @@
--- Proves what storage that opens its database again returns of its first connection.
+-- Proves which connection a `ReopeningKeeper` returns, that it loses its first one only when a failure has shut that,
+-- and what its commits answer.
 use Rattle.std.proofs.Common.{◌≡◌, ◌∙◌, inl, inr, List, Bool, true, false, Option, None, Some, refl, sym, ap, subst}
 use Rattle.sqlite.specs.Held.{Held, state}
 use Rattle.sqlite.specs.State.{HasCleanDisk}
@@ -16,7 +17,7 @@ pub reports_reopened : {A : Type 0} (o : A) (returned : A × Bool) → returned 
 reports_reopened {A} o returned is stays =
     let reported : returned.1 ≡ true = ap (λ (r : A × Bool). r.1) is in absurd (cc)
 
--- The connection of a storage is returned as its first one.
+-- If no failure has shut the first connection, the connection that is returned is this one.
 pub returns_first : {S : Type 0} (g : Ghosts S) (image : Image) (v : ReopeningView S)
     (is_reopened : Bool) (storage : Option (KeeperView S)) (k : KeeperView S) (conn : Held S)
     (returned : Option (Held S) × Bool)
@@ -34,7 +35,7 @@ returns_first g image v false storage k conn returned is some known same kept re
   kept = kept;
 }
 
--- A connection of which a query found that it is shut is shut after the query, too.
+-- A connection that a query has found shut is still shut after the query.
 pub still_shut : {S : Type 0} (g : Ghosts S) (old new : Held S) → LeavesUnwritten g old new
     → (HasCleanDisk (state g new) → (state g old).is_open ≡ false) → HasCleanDisk (state g new)
     → (state g new).is_open ≡ false
@@ -49,7 +50,7 @@ still_shut g old new leaves shut clean = go (state g new).is_open refl
 pub same_keeper : {A : Type 0} (k l : A) → Some k ≡ Some l → k ≡ l
 same_keeper k l same = cc
 
--- The first connection is lost, of which a query found that it is shut.
+-- A first connection that a query has found shut is lost.
 pub loses_shut : {S : Type 0} (g : Ghosts S) (image : Image) (is_reopened : Bool)
     (storage lost after : Option (KeeperView S)) (k l taken : KeeperView S)
     → IsOfFiles g image (first_storage is_reopened storage) → is_reopened ≡ false → storage ≡ Some k → lost ≡ Some l
@@ -70,7 +71,7 @@ loses_shut {S} g image false (Some j) (Some m) after k l taken files fresh is wa
           (sym (same_keeper m l was)) (still_shut g k.conn l.conn leaves shut);
     }
 
--- What was lost before stays lost.
+-- A first connection that was lost before stays lost.
 pub stays_lost : {S : Type 0} (g : Ghosts S) (image : Image) (is_reopened : Bool)
     (storage lost later after : Option (KeeperView S)) → IsKeptOrLost g image is_reopened storage lost
     → is_reopened ≡ true → later ≡ lost → IsKeptOrLost g image true after later
@@ -79,7 +80,7 @@ stays_lost g image true storage None later after kept before same = absurd kept
 stays_lost {S} g image true storage (Some k) later after kept before same =
     subst (λ (l : Option (KeeperView S)). IsKeptOrLost g image true after l) (sym same) kept
 
--- Storage that has lost its first connection keeps that fact.
+-- If there is no first connection any more, it was lost, whatever connection is open now.
 pub is_lost : {S : Type 0} (g : Ghosts S) (image : Image) (is_reopened : Bool)
     (storage lost after : Option (KeeperView S)) → IsKeptOrLost g image is_reopened storage lost
     → first_storage is_reopened storage ≡ None → IsKeptOrLost g image true after lost
@@ -88,7 +89,7 @@ is_lost g image true storage None after kept none = absurd kept
 is_lost g image false None lost after kept none = absurd kept
 is_lost g image false (Some k) lost after kept none = absurd (cc)
 
--- A database that was opened again lost its first connection shut.
+-- Storage whose database was opened again lost its first connection because a failure had shut it.
 pub lost_when_reopened : {S : Type 0} (g : Ghosts S) (image : Image) (is_reopened : Bool)
     (storage lost : Option (KeeperView S)) → IsKeptOrLost g image is_reopened storage lost → is_reopened ≡ true
     → (k : KeeperView S) × LosesShut g image k
@@ -96,7 +97,7 @@ lost_when_reopened g image true storage (Some k) kept again = (k, kept)
 lost_when_reopened g image true storage None kept again = absurd kept
 lost_when_reopened g image false storage lost kept again = absurd (cc)
 
--- Without a connection the first one was lost.
+-- Storage without a connection has lost the first one.
 pub reopened_without : {S : Type 0} (g : Ghosts S) (image : Image) (is_reopened : Bool)
     (storage lost : Option (KeeperView S)) → IsKeptOrLost g image is_reopened storage lost → storage ≡ None
     → is_reopened ≡ true
@@ -104,7 +105,7 @@ reopened_without g image true storage lost kept none = refl
 reopened_without g image false None lost kept none = absurd kept
 reopened_without g image false (Some k) lost kept none = absurd (cc)
 
--- What the open database shows is an answer.
+-- The answer that the open database gives is one that `ShowsChanges` allows.
 pub shows_answer : {S : Type 0} (g : Ghosts S) (changes : List Change) (old new : ReopeningView S) (found : Bool)
     → TellsOpen g changes new.storage found → ShowsChanges g changes old new found
 shows_answer g changes old new true tells = tells
@@ -127,7 +128,7 @@ stays_then g (Some k) (Some l) (Some m) p q = λ up.
     let before = p later.0 in
     (before.0, (later.1.0 ∙ before.1.0, later.1.1 ∙ before.1.1))
 
--- A fault of a commit that wrote nothing, after which the database didn't show the changes.
+-- If a commit wrote nothing, what `ShowsChanges` states after the commit also holds from before it.
 pub ends_fault : {S : Type 0} (g : Ghosts S) (changes : List Change) (old mid new : ReopeningView S)
     → StaysUnwritten g old.storage mid.storage → ShowsChanges g changes mid new false
     → ShowsChanges g changes old new false

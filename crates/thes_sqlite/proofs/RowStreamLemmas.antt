@@ -22,7 +22,7 @@ module _ {A : Type 0} (Is : Row → A → Type 0) where
   AreRowsOf (row ∷ rows) [] = ⊥
   AreRowsOf (row ∷ rows) (x ∷ xs) = Is row x × AreRowsOf rows xs
 
-  -- Items of which the first rows are known are those of these rows and of the others.
+  -- The items of some rows and a tail split into the items of the rows and those of the tail.
   rows_split : (rows tail : List Row) (all : List A) → AreRowsOf (rows ++ tail) all
       → (xs : List A) × (ys : List A) × (all ≡ xs ++ ys) × AreRowsOf rows xs × AreRowsOf tail ys
   rows_split [] tail all h = ([], all, refl, tt, h)
@@ -36,13 +36,14 @@ module _ {A : Type 0} (Is : Row → A → Type 0) where
   one_row row (x ∷ []) h = (x, refl, h.0)
   one_row row (x ∷ y ∷ xs) h = absurd h.1
 
-  -- Each answer of the query has the rows of these items, and rows that begin an answer are the first of them.
+  -- A whole answer of the query has the rows of these items, and the beginning of an answer has the rows of the first
+  -- of them.
   pub record Wants (sql : List ℕ) (params : Row) (db : State) (all : List A) : Type 1 where
     pub whole : (s new : State) (rows : List Row) → s.now ≡ db.now → Shown sql params s new rows → AreRowsOf rows all
     pub part : (s : State) (rows : List Row) → s.now ≡ db.now → IsUnchanged s s → Begins sql params s rows
         → (tail : List Row) × AreRowsOf (rows ++ tail) all
 
--- Items that begin with these, of which the next is this one.
+-- If the items are `xs`, then `one`, which is `x` alone, and then `zs`, they are `xs`, and then `x ∷ zs`.
 next_item : {A : Type 0} (all xs ys one zs : List A) (x : A) → all ≡ xs ++ ys → ys ≡ one ++ zs → one ≡ x ∷ []
     → xs ++ x ∷ zs ≡ all
 next_item all xs ys one zs x whole rest is = sym (whole ∙ ap (λ l. xs ++ l) (rest ∙ ap (λ l. l ++ zs) is))
@@ -113,7 +114,7 @@ module _ {S R A : Type 0} (g : Ghosts S) (gives : R → A → Result (Unit {0}) 
           );
     }
 
-    -- At the end of the rows they are an answer, and the sink has accepted the items of all of them.
+    -- When there are no more rows, those read are the query's answer, and the sink has accepted their items.
     pub streams_end : None ≡ got → HasCleanDisk (state g new) → (rows : List Row) ×
         ((state g mid).now ≡ (state g first).now)
         × Shown sql params (state g mid) (state g new) rows × Accepts before rows between

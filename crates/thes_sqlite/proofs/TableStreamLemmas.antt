@@ -107,7 +107,7 @@ numbers_wanted concept db t keeps = record {
     items rows e = subst (λ l. AreRowsOf IsNumberRow l (assigned_row_numbers concept t.posting)) (sym e)
         (number_items (assigned_posting_rows concept t.posting))
 
--- How a list takes a number: it is appended.
+-- A list takes a number by appending it; a fault may leave any list.
 abbrev pub AppendsNumber : List ℕ → ℕ → Result (Unit {0}) Fault → List ℕ → Type 0
 AppendsNumber old n (Ok done) new = new ≡ old ++ n ∷ []
 AppendsNumber old n (Err fault) new = Unit {0}
@@ -117,7 +117,7 @@ numbers_appended old new [] took = took ∙ sym (append-nil old)
 numbers_appended old new (n ∷ xs) (mid, first, rest) =
     numbers_appended mid new xs rest ∙ ap (λ (l : List ℕ). l ++ xs) first ∙ append_assoc old (n ∷ []) xs
 
--- A sink that has the items of an answer has the rows that the query of the table finds.
+-- A sink that accepts the items of an answer's rows accepts the rows that the table's query finds.
 pub table_passed : {R : Type 0} (gives : R → Table × Option (List Cell) → Result (Unit {0}) Fault → R → Type 0)
     (p : Table) (first mid new : State) (before after : R) (rows : List Row) → declares first.now.schema p ≡ true
     → mid.now ≡ first.now → Shown (read_text p) [] mid new rows

@@ -258,7 +258,7 @@ hier_exact x y e =
 hier_itself : (x : HierRow) → is_same_hier x x ≡ true
 hier_itself x = link_itself (hier_link x)
 
--- A change of a row that is there or not turns that, and no other change does.
+-- A change that inserts or deletes the row reverses whether the row is there; no other change affects that.
 flips : (row : Option ListedRow) (d : Change) (t : Tables) → HasEffect d t
     → has_row row (tables_after_change d t) ≡ cond (are_same (row_of d) row) (not (has_row row t)) (has_row row t)
 flips (Some (inl l)) (change.AddLabel m) t h =
@@ -286,7 +286,7 @@ two_turns false true false = refl
 two_turns false false true = refl
 two_turns false false false = refl
 
--- A row that the changes turn an odd number of times is there afterwards exactly if it wasn't before.
+-- A row that the changes insert or delete an odd number of times is there afterwards exactly if it wasn't before.
 turned : (row : Option ListedRow) (changes : List Change) (t : Tables) → HaveEffect changes t
     → has_row row (tables_after_delta changes t) ≡ cond (turns changes row) (not (has_row row t)) (has_row row t)
 turned row [] t does = refl
@@ -315,7 +315,7 @@ never_none : (changes : List Change) → turns changes None ≡ false
 never_none [] = refl
 never_none (d ∷ changes) = grind (arith, common_steps, never_none changes)
 
--- If none of the later changes is of a row that turns, they don't turn such a row.
+-- If the whole list turns a row, and `rest` has no change of a row that the whole list turns, `rest` doesn't turn it.
 turns_no_more : (all rest : List Change) (row : Option ListedRow) → turns all row ≡ true → last_turning all rest ≡ None
     → turns rest row ≡ false
 turns_no_more all [] row odd none = refl
@@ -331,7 +331,7 @@ turns_no_more all (d ∷ rest) row odd none = go (turns_no_more all rest row odd
         let equal = ap (turns all) (equal_rows (row_of d) row same) in absurd (cc)
     go later None is false odd_here false same = let rest_even = later is in grind (arith, common_steps)
 
--- A change whose row turns shows exactly the presence of that row, or its absence.
+-- Whether tables show a change of a row depends only on whether they have the row.
 shows_row : (c : Change) → (row : ListedRow) → row_of c ≡ Some row → (t u : Tables)
     → has_row (row_of c) u ≡ has_row (row_of c) t → shows_change c u ≡ shows_change c t
 shows_row (change.AddLabel l) row is t u same = same
@@ -475,7 +475,7 @@ others_kept (d ∷ changes) t a b c =
       same_move = rest.same_move ∙ one.same_move;
     }
 
--- If no change shows it, the rows are the same before and after.
+-- If no change shows whether all were made, the rows are the same before and after.
 same_without_telling : (changes : List Change) (t : Tables) → HaveEffect changes t → telling changes ≡ None
     → list_any sets_places changes ≡ false → HaveSameRows t (tables_after_delta changes t)
 same_without_telling changes t does h places =
@@ -535,7 +535,7 @@ tells_without_change changes db is places = record {
     empty [] e = refl
     empty (c ∷ cs) e = absurd (grind (arith, common_steps))
 
--- The tests of whether two rows are the same, as comparisons.
+-- The tests in the code of whether two rows are the same decide as the comparisons of the definitions do.
 
 decided : (r b : Bool) (P : Type 0) → (IsTrue r ↔ P) → (b ≡ true → P) → (P → b ≡ true) → r ≡ b
 decided true b P test from to = sym (to (test.0 refl))

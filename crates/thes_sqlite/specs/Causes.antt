@@ -20,7 +20,7 @@ abbrev pub fault_of_cause : Cause → Fault
 fault_of_cause causes.NoMemory = faults.OutOfMemory
 fault_of_cause _ = faults.Store
 
--- The cause that an error of the database names.
+-- The cause for an error of the database.
 abbrev pub error_cause : Error → Cause
 error_cause (SqliteFailure codes.OutOfMemory) = causes.NoMemory
 error_cause (SqliteFailure codes.DatabaseBusy) = causes.Locked
@@ -29,7 +29,7 @@ error_cause (SqliteFailure codes.DatabaseCorrupt) = causes.Damaged
 error_cause (SqliteFailure codes.DiskFull) = causes.Full
 error_cause _ = causes.Other
 
--- The cause of an error of opening a database. NotADatabase becomes a more exact cause by how far the opening got:
+-- The cause of an error in opening a database. NotADatabase becomes a more exact cause by how far the opening got:
 -- UnknownSchema if to the schema, Damaged if to the rows, which must obey the schema.
 abbrev pub cause_at : {D : Type 0} {g : disk.Ghosts D} → Cause → Leftover D g → Cause
 cause_at causes.NotADatabase (left.Files files) = causes.NotADatabase
@@ -37,25 +37,26 @@ cause_at causes.NotADatabase (left.Unopened files) = causes.UnknownSchema
 cause_at causes.NotADatabase (left.Store store) = causes.Damaged
 cause_at cause _ = cause
 
--- The cause of an error of opening a database, given what the failed opening left.
+-- The cause of an error in opening a database, given what the failed opening left.
 abbrev pub opening_cause : {D : Type 0} {g : disk.Ghosts D} → Error → Leftover D g → Cause
 opening_cause error rest = cause_at (error_cause error) rest
 
--- The cause of an error of opening or making a file for reading and writing.
+-- The cause of an error in opening or making a file for reading and writing.
 abbrev pub kind_cause : ErrorKind → Cause
 kind_cause kinds.OutOfMemory = causes.NoMemory
 kind_cause kinds.NotFound = causes.Missing
 kind_cause kinds.StorageFull = causes.Full
 kind_cause _ = causes.Unwritable
 
--- The cause of an error of opening the two files of a database.
+-- The cause of an error in opening the two files of a database.
 abbrev pub files_cause : OpenError → Cause
 files_cause opening.OutOfMemory = causes.NoMemory
 files_cause opening.Busy = causes.Locked
 files_cause opening.HotJournal = causes.Journal
 files_cause (opening.Io error) = kind_cause (error_kind error)
 
--- The cause of a failure before the files of a database are open: it isn't one that is found in them.
+-- A failure before the files of a database are open can have this cause: it isn't UnknownSchema or Damaged, which are
+-- found in the files.
 abbrev pub PrecedesOpening : Cause → Type 0
 PrecedesOpening causes.UnknownSchema = ⊥
 PrecedesOpening causes.Damaged = ⊥

@@ -12,21 +12,22 @@ use Rattle.thes_store.specs.Storage.{CommitFrame}
 use Rattle.thes_sqlite.specs.KeeperView.{KeeperView, IsUp, IsStore, LeavesEither, LeavesAfter, storage_view}
 use Rattle.thes_sqlite.specs.MigrationEffects.{LeavesUnwritten}
 
--- The changes were made: a store with tables that they fit is afterwards one with the tables after all of them.
+-- The changes were made: if the database was a store with tables that they fit, and the disk hasn't failed silently, it
+-- is now a store with the tables after all changes.
 abbrev pub AppliesAll : {S : Type 0} → Ghosts S → List Change → Held S → Held S → Type 0
 AppliesAll g changes old new = HasCleanDisk (state g new) → (t : Tables) → Keeps (state g old).now t
     → DeltaFits changes t
     → Keeps (state g new).now (tables_after_delta changes t)
 
--- What every commit keeps of any database: one that is open now was open before, and nothing in it is uncommitted; a
--- fault leaves it unwritten.
+-- The effect of every commit on any database: one that is up afterwards was up before, and nothing in it is
+-- uncommitted; a fault leaves it unwritten.
 pub record DatabaseFrame {S T E : Type 0} (g : Ghosts S) (old new : Held S) (result : Result T E) : Type 0 where
   pub was : IsUp (state g new) → IsUp (state g old)
   pub settled : IsUp (state g new) → (state g new).now ≡ (state g new).committed
   pub none : OnErr result (LeavesUnwritten g old new)
 
--- What every commit keeps, whatever the database holds: after a fault that leaves the database up, it and its rows are
--- unchanged; the count of failures agrees with the result; the connection `first` stays the same.
+-- The effect of every commit, whatever the database holds: after a fault that leaves the database up, it and its rows
+-- are unchanged; the count of failures agrees with the result; the connection `first` stays the same.
 pub record KeeperCommitFrame {S T : Type 0} (g : Ghosts S) (old new : KeeperView S) (result : Result T Fault) : Type 0
   where
     pub storage : CommitFrame (storage_view g old) (storage_view g new) result

@@ -58,8 +58,9 @@ pub record OpensFiles (image : Image) (s : State) : Type 0 where
   pub empty : IsNewFile image → s.now.schema ≡ empty_schema
 
 -- A failed opening keeps what the files hold, unless the disk fails silently. Whatever a crash leaves of them is read
--- as the same database or, where there was none, as an empty one. The cause is that of an error of the database, for
--- which its contract has a reason, and of how far the opening got. `AreOpened` says how the files were opened.
+-- as the same database or, where there was none, as an empty one. The cause follows from an error of the database, for
+-- which the library's contract gives a reason, and from how far the opening got. `AreOpened` says how the files were
+-- opened.
 pub record FailsToOpen {D : Type 0} {g : Ghosts D} (AreOpened : Files D → Type 0) (cause : Cause) (rest : Leftover D g)
     : Type 0 where
   pub files : Files D

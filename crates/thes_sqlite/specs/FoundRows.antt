@@ -16,8 +16,8 @@ use Rattle.thes_sql.specs.Reads.{read_text}
 use Rattle.thes_sqlite.specs.KeeperView.{KeeperView, IsUp}
 use Rattle.thes_sqlite.specs.ValueCells.{cell_of}
 
--- What a load finds of a table: the rows that its query finds, as cells, or None if the query finds
--- nothing or the table isn't declared as in a store.
+-- What a load finds in a table: the rows that the table's query finds, as cells; or None if the query doesn't compile,
+-- one of its values has no result, or the table isn't declared as in a store.
 abbrev pub FindsTable : Table → Database → RawTable → Type 0
 FindsTable p db None = (declares db.schema p ≡ false) ⊎ Finds (read_text p) db None
 FindsTable p db (Some rows) = (declares db.schema p ≡ true) × ((found : List Row)
@@ -35,7 +35,7 @@ IsKeeperOpen g k = IsUp (state g k.conn)
 abbrev pub FindsInKeeper : {S : Type 0} → Ghosts S → KeeperView S → Raw → Type 0
 FindsInKeeper g k raw = FindsTables (state g k.conn).now raw
 
--- These are the rows that a load finds of the tables with these names, table after table.
+-- These are the rows that a load finds in the tables with these names, table after table.
 abbrev pub AreFoundRows : Database → List Table → List (Table × Option (List Cell)) → Type 0
 AreFoundRows db [] items = items ≡ []
 AreFoundRows db (p ∷ names) items = (found : RawTable) × FindsTable p db found
@@ -43,16 +43,16 @@ AreFoundRows db (p ∷ names) items = (found : RawTable) × FindsTable p db foun
     × (items ≡ sink_rows_of_table p found ++ rest))
 
 module _ {R : Type 0} (gives : R → Table × Option (List Cell) → Result (Unit {0}) Fault → R → Type 0) where
-  -- The sink accepts the rows that a load finds of a table.
+  -- The sink accepts the rows that a load finds in a table.
   abbrev pub PassesTable : Table → Database → R → R → Type 0
   PassesTable p db old new =
       (found : RawTable) × FindsTable p db found × SinkAcceptsAll gives old (sink_rows_of_table p found) new
 
-  -- The sink accepts the rows that a load finds of the tables with these names, table after table.
+  -- The sink accepts the rows that a load finds in the tables with these names, table after table.
   abbrev pub PassesNamed : List Table → Database → R → R → Type 0
   PassesNamed names db old new =
       (items : List (Table × Option (List Cell))) × AreFoundRows db names items × SinkAcceptsAll gives old items new
 
-  -- The sink accepts the rows that a load finds of all tables, in their order.
+  -- The sink accepts the rows that a load finds in all tables, in the order of the tables.
   abbrev pub PassesTables : Database → R → R → Type 0
   PassesTables db old new = (raw : Raw) × FindsTables db raw × SinkAcceptsAll gives old (sink_rows raw) new

@@ -19,7 +19,7 @@ use Rattle.thes_sql.specs.StoredRows.{Keeps, KeepsIn, Hold}
 use Rattle.thes_sql.specs.Reads.{rows_in_trees}
 use Rattle.thes_sqlite.specs.ValueCells.{cell_of}
 
--- The rows of a table in a database's trees, as cells; the table can be queried.
+-- The rows of a table in a database's trees, as cells, in `Some` since the table can be queried.
 abbrev pub raw_table : Table → Trees → RawTable
 raw_table p db = Some (map (map cell_of) (rows_in_trees p db))
 
@@ -41,8 +41,8 @@ pub record HasCommittedTables (s : State) : Type 0 where
 abbrev pub IsStore : State → Type 0
 IsStore s = IsUp s → HasCommittedTables s
 
--- `held` states which store, of a schema and tables, the files of the database held when it was opened. If they held
--- one, the disk hasn't failed silently and the database is open, it is this store, and nothing in it is uncommitted.
+-- `held` is true of the schema and the tables of the store that the database's files held when it was opened. If there
+-- is such a store, and the database is up, it is this store, and nothing in it is uncommitted.
 abbrev pub ServesTables : (Schema → Tables → Type 0) → State → Type 0
 ServesTables held s = IsUp s → (schema : Schema) (t : Tables) → held schema t
     → (s.now ≡ s.committed) × KeepsIn schema s.now t
@@ -65,8 +65,7 @@ pub record KeeperView (S : Type 0) : Type 0 where
   pub failures : ℕ
   pub first : Held S
 
--- The coding of a view as a triple, which shows the prover that the parts of a `KeeperView`
--- determine it.
+-- The coding of a view as the triple of its parts, which determine it.
 abbrev pub keeper_view_code : {S : Type 0} → Coded S → Coded (KeeperView S)
 keeper_view_code {S} store =
     code_by (Held S × (ℕ × Held S)) (coded× (held_code store) (coded× coded_ℕ (held_code store)))
@@ -81,7 +80,7 @@ raw_of_keeper g k = raw_in (state g k.conn).now.trees
 abbrev pub IsKeeperUp : {S : Type 0} → Ghosts S → KeeperView S → Type 0
 IsKeeperUp g k = IsStore (state g k.first) × IsUp (state g k.conn)
 
--- The view that contracts have of any storage: here, of storage in a database.
+-- The storage as the contracts of `Keeper` see it.
 abbrev pub storage_view : {S : Type 0} → Ghosts S → KeeperView S → StorageView
 storage_view g k = record { rows = raw_of_keeper g k; is_up = IsKeeperUp g k; failures = k.failures }
 
@@ -93,7 +92,7 @@ pub record IsNewKeeper {S : Type 0} (g : Ghosts S) (base : List ℕ) (k : Keeper
   pub schema : IsUp (state g k.first) → (state g k.first).now.schema ≡ store_schema
   pub failures : k.failures ≡ 0
 
--- The effect of every query: that of a query of any storage; and the connection `first` stays the same.
+-- The effect of every query: what the trait `Keeper` states of a query; and the connection `first` stays the same.
 pub record KeeperQueryFrame {S T : Type 0} (g : Ghosts S) (old new : KeeperView S) (result : Result T Fault) : Type 0
   where
     pub storage : QueryFrame (storage_view g old) (storage_view g new) result

@@ -41,8 +41,8 @@ HasMetaVersion Is None = ⊥
 HasMetaVersion Is (Some rows) = (row : Row) × (rows ≡ row ∷ []) × (version : ℕ) × Is version
     × IsVersionRow version (map cell_of row)
 
--- The verdict on the rows of table meta: version 1 (true) or version 2, a newer version, or no
--- version.
+-- The verdict on the rows of table meta: `true` for version 1, `false` for version 2, or a fault for a newer version or
+-- none.
 abbrev pub IsMetaVerdict : Option (List Row) → Result Bool Fault → Type 0
 IsMetaVerdict found (Ok true) = HasMetaVersion (λ version. version ≡ 1) found
 IsMetaVerdict found (Ok false) = HasMetaVersion (λ version. version ≡ 2) found
@@ -59,7 +59,7 @@ IsLinkVerdict schema (Err (BadStore table.Hier)) =
     (compiles schema links_text ≡ true) × (compiles schema hier_text ≡ true)
 IsLinkVerdict schema (Err _) = ⊥
 
--- The verdict on a database by its meta and its schema: it is to be migrated (true), it has version
+-- The verdict on a database by its table meta and its schema: `true` if it is to be migrated, `false` if it has version
 -- 2, or the first of its faults. The tables of links are checked only in a database of version 1.
 abbrev pub IsVerdictOn : Schema → Option (List Row) → Result Bool Fault → Type 0
 IsVerdictOn schema found (Ok true) = IsMetaVerdict found (Ok true) × IsLinkVerdict schema (Ok tt)
@@ -84,8 +84,8 @@ abbrev pub Judges : {S V : Type 0} → Ghosts S → (Database → Result V Fault
 Judges g Is old new r =
     HasCleanDisk (state g new) → IsErrAnd r (HasFailed (state g old) (state g new)) ⊎ Is (state g old).now r
 
--- What every verdict leaves: success keeps the database and what is committed of it, no result changes a database in
--- which nothing is uncommitted, and a fault is one that a migration returns.
+-- The effect of every check for a migration: success keeps the database and what is committed of it, no result changes
+-- a database in which nothing is uncommitted, and a fault is one that a migration returns.
 pub record JudgeFrame {S V : Type 0} (g : Ghosts S) (old new : Held S) (r : Result V Fault) : Type 0 where
   pub database : KeepsDatabase g old new r
   pub effect : LeavesAlone g old new
@@ -115,7 +115,7 @@ IsKnownStore db t = KeepsOld db t ⊎ Keeps db t
 abbrev pub IsUnwritten : State → State → Type 0
 IsUnwritten old new = (new.now ≡ old.now) × (new.committed ≡ old.committed)
 
--- A call that leaves the database open found it open, and has changed neither it nor what is committed of it.
+-- If a call leaves the database up, the database was up before, and neither it nor what is committed of it has changed.
 abbrev pub LeavesUnwritten : {S : Type 0} → Ghosts S → Held S → Held S → Type 0
 LeavesUnwritten g old new = IsUp (state g new) → IsUp (state g old) × IsUnwritten (state g old) (state g new)
 
@@ -141,8 +141,8 @@ abbrev pub ServesMigrated : {S : Type 0} → Ghosts S → KeeperView S → Keepe
 ServesMigrated g old new = IsUp (state g new.conn) → (t : Tables) → KeepsOld (state g old.conn).now t
     → ServesRows g new store_schema (cells_of_tables (tables_after_migration t))
 
--- The tables that the storage serves after a migration: those of a store of version 2 as before, also with a user's
--- additions, and those of version 1 as migrated.
+-- The tables that the storage serves after a migration: those of a store of version 2 stay as they were, also with a
+-- user's additions; those of version 1 are migrated.
 pub record ServesAfterMigration {S : Type 0} (g : Ghosts S) (old new : KeeperView S) (r : Result ℕ Fault) : Type 0 where
   pub current : IsKeeperUp g old → IsUp (state g new.conn) → IsUp (state g old.first)
       × ServesRows g new (state g old.first).now.schema (raw_of_keeper g old)

@@ -22,19 +22,19 @@ use Rattle.thes_sqlite.specs.Telling.{Tells}
 abbrev pub keeper_of_connection : {S : Type 0} → Held S → KeeperView S
 keeper_of_connection conn = record { conn = conn; failures = 0; first = conn }
 
--- The storage as contracts see it.
+-- Storage that opens its database again, as contracts see it.
 pub record ReopeningView (S : Type 0) : Type 0 where
   -- The storage over the first connection, until a failure shuts that.
   pub first : Option (KeeperView S)
-  -- The number of failures.
+  -- The number of failures other than running out of memory, over all connections.
   pub failures : ℕ
   -- The storage over the connection that is open, the first one or a later one; None while the database can't be
   -- opened.
   pub storage : Option (KeeperView S)
-  -- A commit that returned `Store` may have been made.
+  -- Whether a commit that returned `Store` may have been made.
   pub is_in_doubt : Bool
 
--- The storage over a new connection, before any call.
+-- The storage that opens its database again, over a new connection and before any call.
 abbrev pub view_of_connection : {S : Type 0} → Held S → ReopeningView S
 view_of_connection conn = record {
   first = Some (keeper_of_connection conn);
@@ -43,13 +43,13 @@ view_of_connection conn = record {
   is_in_doubt = false;
 }
 
--- The storage over the first connection: None if a failure has shut that, and else the storage over the open one.
+-- The storage over the first connection: None if a failure has shut that connection, and else the storage over the open
+-- one.
 abbrev pub first_storage : {A : Type 0} → Bool → Option A → Option A
 first_storage true storage = None
 first_storage false storage = storage
 
--- The coding of a view as a tuple, which shows the prover that the parts of a `ReopeningView`
--- determine it.
+-- The coding of a view as the tuple of its parts, which determine it.
 abbrev pub reopening_view_code : {S : Type 0} → Coded S → Coded (ReopeningView S)
 reopening_view_code {S} store =
     code_by (Option (KeeperView S) × (ℕ × (Option (KeeperView S) × Bool)))
@@ -71,7 +71,7 @@ no_rows = record {
   move = None;
 }
 
--- The rows of the first connection's tables; none if a failure has shut it.
+-- The rows of the first connection's tables; `no_rows` if a failure has shut that connection.
 abbrev pub rows_of_first : {S : Type 0} → Ghosts S → Option (KeeperView S) → Raw
 rows_of_first g None = no_rows
 rows_of_first g (Some k) = raw_of_keeper g k
@@ -103,7 +103,7 @@ database_of_first g (Some k) = Some (state g k.conn).now
 abbrev pub IsStillOpen : {S : Type 0} → Ghosts S → ReopeningView S → Type 0
 IsStillOpen g v = IsOpenFirst g v.first
 
--- These are rows that a load finds in the database, if there is one.
+-- There is a database, and these are rows that a load finds in it.
 abbrev pub FindsIn : Option Database → Raw → Type 0
 FindsIn None raw = ⊥
 FindsIn (Some db) raw = FindsTables db raw
@@ -116,7 +116,7 @@ FindsOfFirst g v raw = FindsIn (database_of_first g v.first) raw
 abbrev pub FindsStill : {S : Type 0} → Ghosts S → ReopeningView S → Raw → Type 0
 FindsStill g v raw = IsStillOpen g v × FindsOfFirst g v raw
 
--- The database of the first connection, if there is one, began as that of files with these contents.
+-- If there is a first connection, its database was at the start that of files with these contents.
 abbrev pub IsOfFiles : {S : Type 0} → Ghosts S → Image → Option (KeeperView S) → Type 0
 IsOfFiles g image None = Unit {0}
 IsOfFiles g image (Some k) = ServesFiles image (state g k.first)
@@ -127,7 +127,7 @@ IsCertain None is_in_doubt = Unit {0}
 IsCertain (Some k) is_in_doubt = is_in_doubt ≡ false
 
 -- A first connection was lost because a failure had shut it, unless the disk has failed silently. At the start its
--- database was that of files with these contents, and it had kept the invariant of storage.
+-- database was that of files with these contents, and its storage had kept the invariant of storage since then.
 pub record LosesShut {S : Type 0} (g : Ghosts S) (image : Image) (k : KeeperView S) : Type 0 where
   pub of_files : ServesFiles image (state g k.first)
   pub kept : IsKeeperState (state g k.first) (state g k.conn)
@@ -147,13 +147,14 @@ abbrev pub IsLostShut : {S : Type 0} → Ghosts S → KeeperView S → Option (H
 IsLostShut g k None = ⊥
 IsLostShut g k (Some conn) = HasCleanDisk (state g conn) → (state g k.conn).is_open ≡ false
 
--- The same connection is open as before, and nothing was written to it; or none is, and none was.
+-- Nothing was written: the storage had a connection and has one, and its database is unwritten; or it had none and has
+-- none.
 abbrev pub StaysUnwritten : {S : Type 0} → Ghosts S → Option (KeeperView S) → Option (KeeperView S) → Type 0
 StaysUnwritten g None None = Unit {0}
 StaysUnwritten g (Some k) (Some l) = LeavesUnwritten g k.conn l.conn
 StaysUnwritten g _ _ = ⊥
 
--- Both connections are there, and from the one to the other the changes were made by a commit.
+-- The storage had a connection before and has one now, and a commit from the one to the other made the changes.
 abbrev pub AppliesOpen : {S : Type 0} → Ghosts S → List Change → Option (KeeperView S) → Option (KeeperView S)
     → Type 0
 AppliesOpen g changes (Some k) (Some l) = AppliesAll g changes k.conn l.conn
@@ -164,16 +165,17 @@ abbrev pub TellsOpen : {S : Type 0} → Ghosts S → List Change → Option (Kee
 TellsOpen g changes None answer = ⊥
 TellsOpen g changes (Some k) answer = IsUp (state g k.conn) → Tells changes (state g k.conn).now (Some answer)
 
--- The answer to whether changes were made although their commit failed: `true` only if the database, opened again, was
--- asked; `false` if it was asked, or was open and unwritten, or if the request is in doubt.
+-- The answer to whether changes were made although their commit failed: `true` only if the database, opened again,
+-- shows them; `false` only if it shows that they weren't made, if it was open and unwritten, or if the request is in
+-- doubt.
 abbrev pub ShowsChanges : {S : Type 0} → Ghosts S → List Change → ReopeningView S → ReopeningView S → Bool → Type 0
 ShowsChanges g changes old new true = TellsOpen g changes new.storage true
 ShowsChanges g changes old new false = StaysUnwritten g old.storage new.storage
     ⊎ (TellsOpen g changes new.storage false ⊎ (new.is_in_doubt ≡ true))
 
--- What a commit answers: success only if the changes were made, or the database, opened again, was asked and showed
--- them; a fault if the database was open and unwritten, or was asked and didn't show them, or else the request is in
--- doubt.
+-- The answer of a commit: success only if the changes were made, or the database, opened again, shows them; a fault
+-- only if the database was open and unwritten, if, opened again, it shows that they weren't made, or if the request is
+-- in doubt.
 abbrev pub EndsCommit : {S T : Type 0} → Ghosts S → List Change → ReopeningView S → ReopeningView S → Result T Fault
     → Type 0
 EndsCommit g changes old new (Ok x) = AppliesOpen g changes old.storage new.storage
@@ -196,13 +198,14 @@ pub record LeavesFirst {S : Type 0} (g : Ghosts S) (old new : ReopeningView S) :
   pub was : IsStillOpen g new → IsStillOpen g old
   pub same : IsStillOpen g new → database_of_first g new.first ≡ database_of_first g old.first
 
--- What every commit keeps before its failure is counted: on a fault, the rows of a storage that is up are unchanged.
+-- The effect of every commit before its failure is counted: on a fault, the rows of the storage are unchanged if it is
+-- up.
 pub record KeepsOnFault {T : Type 0} (old new : StorageView) (result : Result T Fault) : Type 0 where
   pub same : OnErr result (new.is_up → new.rows ≡ old.rows)
   pub was : new.is_up → old.is_up
   pub count : new.failures ≡ old.failures
 
--- The view that contracts have of any storage, while the first connection is open.
+-- The storage as the contracts of `Keeper` see it: it is up while the first connection is open and serves its tables.
 abbrev pub storage_still : {S : Type 0} → Ghosts S → ReopeningView S → StorageView
 storage_still g v = record { rows = rows_still g v; is_up = IsKeeperStillUp g v; failures = v.failures }
 

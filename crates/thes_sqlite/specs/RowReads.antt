@@ -12,7 +12,7 @@ use Rattle.thes_sqlite.specs.Faults.{IsKeeperFault}
 use Rattle.thes_sqlite.specs.FoundRows.{PassesTable}
 use Rattle.thes_sqlite.specs.KeeperView.{raw_table}
 
--- What every read of rows keeps: the tables are unchanged, and a fault is OutOfMemory or Store.
+-- The effect of every read of rows: the tables are unchanged, and a fault is OutOfMemory or Store.
 pub record RowReadFrame {S T : Type 0} (g : Ghosts S) (old new : Held S) (result : Result T Fault) : Type 0 where
   pub tables : LeavesTables g old new
   pub fault : IfErr result IsKeeperFault
@@ -21,7 +21,7 @@ pub record RowReadFrame {S T : Type 0} (g : Ghosts S) (old new : Held S) (result
 pub record YieldsTable {S R : Type 0} (g : Ghosts S) (gives : R → Table × Option (List Cell) → Result (Unit {0}) Fault
     → R → Type 0)
     (p : Table) (old new : Held S) (before : R) (result : Result (Unit {0}) Fault) (after : R) : Type 0 where
-  -- Of a readable database the sink gets the rows that the table has, or a prefix of them and the fault.
+  -- If the database is readable, the sink gets the rows of the table, or a prefix of them and the fault.
   pub rows : HasCleanDisk (state g new) → IsReadable (state g old).now
       → SinkOutcome gives before (sink_rows_of_table p (raw_table p (state g old).now.trees)) result after
   -- Whatever the database holds, success passes the rows that a load finds.

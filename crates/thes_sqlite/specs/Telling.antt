@@ -1,4 +1,4 @@
--- Which change of a list shows whether all of them were made, given that all were or none was.
+-- The change of a list that shows whether the whole list was made, given that all its changes were made or none was.
 use mathlib.Core.Logic.{inl, inr}
 use Rattle.std.specs.Prelude.{◌≡◌, Bool, true, false, not, cond, List, [], ◌∷◌, Option, None, Some}
 use Rattle.std.specs.List.{find}
@@ -47,12 +47,13 @@ abbrev pub are_same : Option ListedRow → Option ListedRow → Bool
 are_same (Some a) (Some b) = is_equal_row a b
 are_same _ _ = false
 
--- Whether the changes insert or delete the row an odd number of times: insertions and deletions of a row alternate.
+-- Whether the changes insert or delete the row an odd number of times. Since insertions and deletions of a row
+-- alternate, the row is then there afterwards exactly if it wasn't before.
 abbrev pub turns : List Change → Option ListedRow → Bool
 turns [] row = false
 turns (c ∷ changes) row = cond (are_same (row_of c) row) (not (turns changes row)) (turns changes row)
 
--- The last change of the list `rest` whose row `changes` insert or delete an odd number of times.
+-- The last change in `rest` whose row the list `changes` inserts or deletes an odd number of times.
 abbrev pub last_turning : List Change → List Change → Option Change
 last_turning changes [] = None
 last_turning changes (c ∷ rest) =
@@ -76,7 +77,7 @@ abbrev pub HaveEffect : List Change → Tables → Type 0
 HaveEffect [] t = Unit {0}
 HaveEffect (c ∷ changes) t = HasEffect c t × HaveEffect changes (tables_after_change c t)
 
--- Both have the same rows; those of label, link and hier may be in another order.
+-- Both sets of tables have the same rows; those of label, link and hier may be in another order.
 pub record HaveSameRows (t u : Tables) : Type 0 where
   pub same_base : u.base ≡ t.base
   pub same_resource : u.resource ≡ t.resource

@@ -25,7 +25,8 @@ fn any_cell_of(alloc: Global, value: ValueRef<'_>) -> Result<Cell, AllocError>
     }
 }
 
-/// Reads the cells of a row of a database, which may have any values.
+/// Returns the cells of a database's row, which may have any values; a value that no row of a store
+/// has becomes -1.
 pub(crate) fn any_cells_of(alloc: Global, row: &Row) -> Result<Vec<Cell>, AllocError>
     ensures { IfOk result (λ cells. cells.items ≡ map cell_of row.now) }
 {

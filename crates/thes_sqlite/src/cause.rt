@@ -16,8 +16,7 @@ pub enum Cause {
     NoMemory,
     /// Another program has the file open.
     Locked,
-    /// No file has the name, there is no such folder, or the name no longer leads to the file that
-    /// was open.
+    /// The file or its folder doesn't exist, or the name no longer leads to the file that was open.
     Missing,
     /// The name is that of a folder, a pipe or a device.
     NotAFile,
@@ -53,22 +52,22 @@ impl Cause {
     }
 }
 
-/// Storage that remembers why it failed. A fault names no cause, so that all storages return the
-/// same faults.
+/// Storage that remembers why it failed. A fault doesn't say, so that every implementation of
+/// `Keeper` returns the same faults.
 pub trait FaultCause {
-    /// Returns the cause of the last fault `Store` of a load or a migration; `Other` before the
-    /// first.
+    /// Returns the cause of the database's last error in a load or a migration, to be reported with
+    /// the fault `Store`; `Other` before the first.
     fn cause(&self) -> Cause;
 }
 
-/// Storage in memory never answers `Store`.
+/// Storage in memory never fails with `Store`.
 impl FaultCause for MemKeeper {
     fn cause(&self) -> Cause {
         Cause::Other
     }
 }
 
-/// Returns the cause that an error of the database names.
+/// Maps an error of the database to its cause; `Other` for an error without a cause of its own.
 pub fn cause_of(error: Error) -> Cause
     ensures { result ≡ causes.error_cause error }
 {
@@ -82,8 +81,9 @@ pub fn cause_of(error: Error) -> Cause
     }
 }
 
-/// Returns the cause of an error of opening a database in files that are open. What is left of them
-/// shows how far the opening got: to the schema, or to the rows, which must obey the schema.
+/// Returns the cause of an error in opening a database whose files are open. `NotADatabase` becomes
+/// a more exact cause if the opening got as far as the schema (`UnknownSchema`) or the rows, which
+/// must obey the schema (`Damaged`).
 pub(crate) fn cause_of_opening<D: Disk>(error: Error, left: &Leftover<D>) -> Cause
     ensures { result ≡ causes.opening_cause error left.now }
 {
@@ -94,7 +94,7 @@ pub(crate) fn cause_of_opening<D: Disk>(error: Error, left: &Leftover<D>) -> Cau
     }
 }
 
-// Returns the cause of an error of opening or making a file for reading and writing.
+// Returns the cause of an error in opening or making a file for reading and writing.
 fn cause_of_kind(kind: ErrorKind) -> Cause
     ensures { result ≡ causes.kind_cause kind }
 {
@@ -106,7 +106,7 @@ fn cause_of_kind(kind: ErrorKind) -> Cause
     }
 }
 
-/// Returns the cause of an error of opening the two files of a database.
+/// Returns the cause of an error in opening a database's file and its log.
 pub(crate) fn cause_of_files(error: &OpenError) -> Cause
     ensures { result ≡ causes.files_cause error.now }
 {

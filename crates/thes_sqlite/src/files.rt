@@ -1,4 +1,4 @@
-//! The two files of a database, from opening to closing.
+//! Opens and closes the two files of a database: the database file and its log.
 ghost use Rattle.std.specs.Prelude.{◌≡◌, true, false, None, IfErr, IfOk, IfSome, IsTrue};
 ghost use Rattle.sqlite.specs.Files.{file_state};
 ghost use Rattle.sqlite.specs.State.{HasCleanDisk};
@@ -28,7 +28,7 @@ pub(crate) struct FoundFile {
     pub(crate) head: [u8; HEAD_SIZE],
 }
 
-// Reads the first bytes of a database's file, which has this size.
+// Reads the first bytes of a database's file, and returns them with `size`, the file's size.
 fn read_head(rt: &HostRuntime, path: &str, size: u64) -> Result<FoundFile, Cause>
     ensures { IfErr result PrecedesOpening }
 {
@@ -42,8 +42,9 @@ fn read_head(rt: &HostRuntime, path: &str, size: u64) -> Result<FoundFile, Cause
     }
 }
 
-/// Finds the size and the first bytes of a database's file before the database is opened. The name
-/// must be that of no file, or of a regular file without other names.
+/// Returns the size and the first bytes of a database's file before it is opened as a database.
+/// There may be no file, which counts as an empty one. The errors are `NotAFile`, `Linked` for a
+/// file with another hard link, and `Unreadable`.
 pub(crate) fn find_file(rt: &HostRuntime, path: &str) -> Result<FoundFile, Cause>
     ensures { IfErr result PrecedesOpening }
 {
@@ -63,8 +64,8 @@ pub(crate) fn find_file(rt: &HostRuntime, path: &str) -> Result<FoundFile, Cause
     }
 }
 
-// Returns whether the database in a file has a log, which is next to the file to which symbolic
-// links lead.
+// Returns whether the database in a file has a log. The log is next to the file to which symbolic
+// links lead; if they lead to none, there is no log.
 fn has_log(rt: &HostRuntime, path: &str) -> Result<bool, Cause>
     ensures { IfErr result PrecedesOpening }
 {
@@ -77,8 +78,8 @@ fn has_log(rt: &HostRuntime, path: &str) -> Result<bool, Cause>
     }
 }
 
-// Checks that a file may be a database, so that no log is made next to any other file: by its first
-// bytes or, since it may have been cut short, by its log.
+// Checks that a file may be a database: by its first bytes or, since the file may have been cut
+// short, by whether it has a log. So no log is made next to a file of another kind.
 fn check_head(rt: &HostRuntime, path: &str, head: &[u8]) -> Result<(), Cause>
     ensures { IfErr result PrecedesOpening }
 {
@@ -89,8 +90,8 @@ fn check_head(rt: &HostRuntime, path: &str, head: &[u8]) -> Result<(), Cause>
     }
 }
 
-/// Returns the options to open a database with: random salts, and a page cache for this file's
-/// size.
+/// Returns the options to open a database with: random salts for its log, and a page cache for this
+/// file's size.
 pub(crate) fn options_for(rt: &HostRuntime, found: &FoundFile) -> Result<Options, Cause>
     ensures { IfErr result PrecedesOpening }
 {
@@ -102,8 +103,8 @@ pub(crate) fn options_for(rt: &HostRuntime, found: &FoundFile) -> Result<Options
     Ok(options)
 }
 
-// Looks at the file of a database, and returns the options to open it with. Names that SQLite takes
-// for something other than a file are `Unwritable`.
+// Checks the file of a database, and returns the options to open it with. A name that SQLite
+// doesn't take for a file's, such as `:memory:`, is the error `Unwritable`.
 fn options_at(rt: &HostRuntime, path: &str) -> Result<Options, Cause>
     ensures { IfErr result PrecedesOpening }
 {
@@ -115,7 +116,8 @@ fn options_at(rt: &HostRuntime, path: &str) -> Result<Options, Cause>
     options_for(rt, &found)
 }
 
-// Opens the two files at a path, which no other program has open, and makes those that are missing.
+// Opens a database's file and its log at a path, and makes those that are missing. The error is
+// `Locked` if another program has them open.
 fn open_pair<S: Start>(rt: &HostRuntime, path: &str, start: S) -> Result<Files<FileFrom<S>>, Cause>
     ensures log { IfOk result (λ files. IsTrue (file_is_usable S.Start files.log)) }
     ensures db { IfOk result (λ files. IsTrue (file_is_usable S.Start files.db)) }
@@ -128,10 +130,10 @@ fn open_pair<S: Start>(rt: &HostRuntime, path: &str, start: S) -> Result<Files<F
     }
 }
 
-/// Opens the database in the files at a path; if they hold a store, it is this store. `start`
-/// represents their contents, which may be anything. Returns the cause of a failure with what is
-/// left of the files, if they were opened: the database that they held. If the cause is the schema
-/// or damage, they were.
+/// Opens the database in the files at a path. If they hold a store, the connection serves this
+/// store. `start` represents their contents, which may be anything. The error is the cause and, if
+/// the files were opened, what is left of them, which still holds what they held. `UnknownSchema`
+/// and `Damaged` are found only in files that were opened.
 pub fn open_files<S: Start>(
     rt: &HostRuntime,
     path: &str,
@@ -161,8 +163,8 @@ pub fn open_files<S: Start>(
     }
 }
 
-/// Closes a database and returns its files, which hold its store. So do those that a crash leaves.
-/// An error comes with the database.
+/// Closes a database and returns its two files. They hold its store, as do those that a crash
+/// leaves. An error comes with the part of the connection that has the files.
 pub fn close_files<D: Disk + Drop>(
     conn: Connection<FileStore<D>>,
 ) -> Result<Files<D>, (Error, FileStore<D>)>

@@ -52,7 +52,7 @@ pub struct SqlKeeper<S: Alter> {
     // The connection at the start, or after the last `migrate` or `commit_anew`; only contracts use
     // it.
     first: Snapshot<Connection<S>>,
-    // The cause of the last fault of a load or a migration; `Other` before the first.
+    // The cause of the database's last error in a load or a migration; `Other` before the first.
     cause: Cause,
     alloc: Global,
 }
@@ -71,8 +71,8 @@ impl<S: Alter> Model for SqlKeeper<S> {
 }
 
 impl<S: Alter> SqlKeeper<S> {
-    /// Creates the tables of a new store in a database without tables. A fault is returned with the
-    /// connection, and leaves an open database unchanged.
+    /// Creates the tables of a new store in a database without tables. The error is the fault, with
+    /// the connection, whose database is unchanged if it is still open.
     pub fn create(
         alloc: Global,
         mut conn: Connection<S>,
@@ -122,9 +122,9 @@ impl<S: Alter> SqlKeeper<S> {
         Some(SqlKeeper::adopt(alloc, conn))
     }
 
-    /// Migrates the database from version 1 of the tables to version 2, and returns its version, 2.
-    /// A database of version 2 is left unchanged, and so is one that can't be migrated. After
-    /// success the storage serves the store of version 2.
+    /// Migrates the database from version 1 of the tables to version 2, and returns 2. A database
+    /// of version 2 is left unchanged. So is one that can't be migrated, for which the fault is
+    /// `BadStore` or `NewerStore`. After success the storage serves the store of version 2.
     pub fn migrate(&mut self) -> Result<u32, Fault>
         ensures migrates { Migrates S.Store self.old.conn self.new.conn result }
         ensures serves { ServesAfterMigration S.Store self.old self.new result }
@@ -169,8 +169,9 @@ impl<S: Alter> SqlKeeper<S> {
         is_shut(&mut self.conn)
     }
 
-    /// Applies all changes, or none of them and returns a fault, even if a crash interrupts the
-    /// call.
+    /// Applies all changes in one transaction, or returns a fault. After a fault, a database that
+    /// is still open is unchanged; if the failure has shut the database, it holds all the changes
+    /// or none, as after a crash.
     pub fn commit_changes(&mut self, changes: &[Change]) -> Result<(), Fault>
         requires { DeltaFitsStorage changes.now (storage_view S.Store self.old) }
         ensures ok { OnOk result (IsKeeperUp S.Store self.new
@@ -186,8 +187,8 @@ impl<S: Alter> SqlKeeper<S> {
         }
     }
 
-    /// Applies all changes, or none of them and returns a fault. The changes needn't fit the
-    /// tables, so what the storage promises begins anew with the database as they leave it.
+    /// Applies changes as `commit_changes` does, but they needn't fit the tables. So what contracts
+    /// promise of the storage begins anew, from the database that the call leaves.
     pub(crate) fn commit_anew(&mut self, changes: &[Change]) -> Result<(), Fault>
         ensures applies { OnOk result (AppliesAll S.Store changes.now self.old.conn self.new.conn) }
         ensures database { DatabaseFrame S.Store self.old.conn self.new.conn result }
@@ -202,8 +203,8 @@ impl<S: Alter> SqlKeeper<S> {
         }
     }
 
-    /// Checks whether changes whose commit failed were made; None if the database doesn't show it,
-    /// or can't be queried.
+    /// Checks whether changes were made although their commit failed; None if the database's rows
+    /// don't show this, or can't be queried.
     #[tactic(auto, using(crate::proofs::FoundRowLemmas::unwritten))]
     pub(crate) fn has_changes(&mut self, changes: &[Change]) -> Option<bool>
         ensures tells { IsUp (state S.Store self.new.conn)

@@ -27,8 +27,8 @@ enum Version {
     Newer,
 }
 
-// Returns the version of a database to migrate, by the cells of a row of its table meta, whatever
-// their base; None if they state no version of at least 1.
+// Returns the version that the cells of a row of table meta state, whatever the base in them; None
+// if they state no version of at least 1.
 fn version_in(cells: &[Cell]) -> Option<Version>
     ensures { SpellsVersion cells.now result }
 {
@@ -68,8 +68,8 @@ fn is_version_1(alloc: Global, rows: &[Row]) -> Result<bool, Fault>
     }
 }
 
-// Maps an error of the query for meta to a fault, and records its cause: meta can't be read, or the
-// store has failed.
+// Maps an error of the query for table meta to a fault, and records the error's cause. The fault is
+// `BadStore` if the query finds nothing, and else that of any error of the database.
 fn meta_fault(error: Error, cause: &mut Cause) -> Fault
     ensures is { result ≡ meta_fault_of error }
     ensures kind { IsMigrateFault result }
@@ -101,8 +101,8 @@ fn judge_version<S: Alter>(
     }
 }
 
-// Checks the database's answer to whether its table link can be queried: `false` is the fault
-// `BadStore` of link. Records the cause of an error.
+// Returns the verdict that follows from whether table link can be queried: `BadStore` of link if it
+// can't. Records the cause of an error.
 fn links_verdict(there: Result<bool, Error>, cause: &mut Cause) -> Result<(), Fault>
     ensures is { result ≡ links_verdict_of there }
     ensures faults { IfErr result IsMigrateFault }
@@ -115,8 +115,8 @@ fn links_verdict(there: Result<bool, Error>, cause: &mut Cause) -> Result<(), Fa
     }
 }
 
-// Checks the database's answer to whether it has a table hier: `true` is the fault `BadStore` of
-// hier. Records the cause of an error.
+// Returns the verdict that follows from whether there is a table hier: `BadStore` of hier if there
+// is. Records the cause of an error.
 fn hier_verdict(there: Result<bool, Error>, cause: &mut Cause) -> Result<(), Fault>
     ensures is { result ≡ hier_verdict_of there }
     ensures faults { IfErr result IsMigrateFault }

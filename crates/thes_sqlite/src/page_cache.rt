@@ -1,4 +1,4 @@
-//! How many pages of a database are kept in memory.
+//! The number of a database's pages to keep in memory.
 ghost use Rattle.std.specs.Prelude.{◌≡◌, ◌≤◌, ◌+◌, ◌/◌, min};
 ghost use Rattle.sqlite_wal.specs.PageSize.{IsPageSize, size_in_file};
 

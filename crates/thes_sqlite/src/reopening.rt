@@ -29,24 +29,26 @@ use thes_tables::delta::Delta;
 use thes_tables::rows::PostingRow;
 
 /// Storage that keeps its tables in a database, opens the database again after a failure has shut
-/// it, and reports its progress. Contracts state its rows up to the first such failure, and after
-/// it only its faults; they don't mention the reports.
+/// it, and reports its progress. Contracts describe its rows up to the first such failure; after
+/// that, only its faults, and what a commit's answer means. They don't mention the reports.
 pub struct ReopeningKeeper<S: Alter, O: Reopen<Connection<S>> + HeldTables, L> {
     // The storage over the open connection; None while the database can't be opened.
     storage: Option<SqlKeeper<S>>,
     // Whether a failure has shut the first connection.
     is_reopened: bool,
-    // The storage over the first connection when that was lost; only contracts use it.
+    // The storage over the first connection, as it was when that connection was found shut; only
+    // contracts use it.
     loss: Snapshot<Option<SqlKeeper<S>>>,
     opener: O,
     progress: L,
     // The number of look-ups of postings by their keys; it saturates.
     lookups: u64,
-    // The number of failures, over all connections.
+    // The number of failures other than running out of memory, over all connections; it saturates.
     failures: u64,
     // Whether a commit that returned `Store` may have been performed.
     is_in_doubt: bool,
-    // The cause of the last fault of a load, or of opening again; `Other` before the first.
+    // The cause of the last error in a load, or in opening the database again; `Other` before the
+    // first.
     cause: Cause,
     alloc: Global,
 }
@@ -71,7 +73,8 @@ impl<S: Alter, O: Reopen<Connection<S>> + HeldTables, L> Model for ReopeningKeep
         × IsKeptOrLost S.Store O.image k.is_reopened k.storage k.loss.value) };
 }
 
-/// What a `ReopeningKeeper` leaves at its end: its connection, and whether a request is in doubt.
+/// What `ReopeningKeeper::leave` returns: its connection, whether that is still the first one, and
+/// whether a request is in doubt.
 pub struct Leaving<S: Alter> {
     /// The connection; None if the database is shut and can't be opened again.
     pub conn: Option<Connection<S>>,
@@ -197,7 +200,7 @@ impl<S: Alter + Drop, O: Reopen<Connection<S>> + HeldTables, L: Progress> Reopen
     }
 }
 
-/// The last fault may also be that of opening the database again.
+/// The cause may also be that of a failure to open the database again.
 impl<S: Alter, O: Reopen<Connection<S>> + HeldTables, L> FaultCause for ReopeningKeeper<S, O, L> {
     fn cause(&self) -> Cause {
         self.cause

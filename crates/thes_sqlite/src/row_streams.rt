@@ -1,5 +1,5 @@
-//! Passes rows of the database to a sink, as cells or as postings. Each is passed as it is read, so
-//! no table is in memory as a whole.
+//! Reads rows of the database one by one, and passes them to a sink, as cells or as postings, or
+//! collects the numbers of postings. So no table is in memory as a whole.
 ghost use Rattle.std.specs.Prelude.{◌≡◌, ◌∷◌, ◌++◌, ℕ, pos, [], None, Some, false, true, map, IfErr, IfOk, OnOk};
 ghost use Rattle.thes_tables.specs.declared.rows.PostingRow.{PostingRow};
 ghost use Rattle.thes_tables.specs.Cells.{posting_cells};
@@ -92,7 +92,7 @@ pub(crate) fn yield_table_rows<S: Alter, R: RowSink>(
     yield_rows(alloc, conn, name, sink, cause)
 }
 
-// Passes a row of table posting to a sink as a posting.
+// Passes a row of table posting to a sink as a posting. A row of another form is the fault `Store`.
 fn yield_posting<P: PostingSink>(alloc: Global, row: &Row, sink: &mut P) -> Result<(), Fault>
     ensures yields { (x : PostingRow) → row.now ≡ values (posting_cells x)
         → SinkOutcome P.gives sink.old (x ∷ []) result sink.new }
@@ -135,7 +135,7 @@ pub(crate) fn yield_postings<S: Alter, P: PostingSink>(
     Err(Fault::Store)
 }
 
-// Appends the posting's number in the first column of a row of the database.
+// Appends to a list the posting number in the first column of a row.
 fn push_number(row: &Row, numbers: &mut Vec<PostNo>) -> Result<(), Fault>
     ensures ok { OnOk result ((n : ℕ) → column row.now 0 ≡ Int (pos n)
         → numbers.new.items ≡ numbers.old.items ++ n ∷ []) }

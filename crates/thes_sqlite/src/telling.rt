@@ -1,5 +1,5 @@
-//! Whether a database shows that changes were made, and which of several changes shows it, given
-//! that all were made or none was.
+//! Checks whether changes whose commit failed were made. All of them were made or none, so the
+//! database is asked for the trace of a single change, which is chosen here.
 ghost use mathlib.Core.Logic.{inl, inr};
 ghost use Rattle.std.specs.Prelude.{◌≡◌, Some};
 ghost use Rattle.std.specs.List.{list_any, find};
@@ -83,7 +83,8 @@ fn is_of_hier(row: &HierRow, change: &Change) -> bool
     }
 }
 
-// Returns whether a change inserts or deletes the same row of label, link or hier as another.
+// Returns whether a change inserts or deletes the same row of label, link or hier as another change
+// does.
 fn is_of_same_row(change: &Change, other: &Change) -> bool
     ensures { result ≡ are_same (row_of change.now) (row_of other.now) }
 {
@@ -95,8 +96,8 @@ fn is_of_same_row(change: &Change, other: &Change) -> bool
     }
 }
 
-// Returns whether the row of a change is there after the changes and wasn't before, or the reverse:
-// insertions and deletions of a row alternate.
+// Returns whether the changes as a whole add or remove the row of one of them: whether they insert
+// or delete it an odd number of times, since insertions and deletions of a row alternate.
 fn changes_its_row(changes: &[Change], change: &Change) -> bool
     ensures { result ≡ telling.turns changes.now (row_of change.now) }
 {
@@ -133,8 +134,8 @@ fn first_mark(changes: &[Change]) -> Option<&Change>
     None
 }
 
-// Returns the last change whose row is there after the changes and wasn't before, or the reverse,
-// for a look-up after a failed commit.
+// Returns the last change whose row the changes as a whole add or remove, for a look-up after a
+// failed commit.
 fn last_turning(changes: &[Change]) -> Option<&Change>
     ensures { option_copied result ≡ telling.last_turning changes.now changes.now }
 {
@@ -148,8 +149,7 @@ fn last_turning(changes: &[Change]) -> Option<&Change>
 }
 
 // Returns the change whose trace in a database shows that all changes were made: one that no other
-// change of the list can undo, since a plan may remove what it has made. None if no change of a row
-// shows it.
+// change undoes, since a plan may remove what it has made. None if no row shows it.
 fn telling_change(changes: &[Change]) -> Option<&Change>
     ensures { option_copied result ≡ telling.telling changes.now }
 {

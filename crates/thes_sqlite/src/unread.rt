@@ -1,6 +1,6 @@
 //! Finds the name of an object in a database's schema that the library sqlite can't read, for a
-//! message alone; no contract promises anything of the name. It is looked up in copies of the files
-//! in memory, since what a failed opening left of them may still be open.
+//! message only; no contract promises anything about the name. It is looked up in copies of the
+//! files in memory, since the files themselves may still be open after the failed opening.
 ghost use Rattle.std.specs.Prelude.{IfSome, IsTrue};
 ghost use Rattle.sqlite_disk.specs.Memory.{memory_is_usable};
 
@@ -41,7 +41,7 @@ fn without_root(alloc: Global, row: &Row) -> Result<Row, AllocError> {
     Ok(unrooted)
 }
 
-// Returns whether the library can't read a schema that has only the row of this view.
+// Returns whether the library can't read this view, tried as the only row of a schema.
 fn is_unread_view(alloc: Global, row: &Row) -> Result<bool, AllocError> {
     let unrooted = without_root(alloc, row)?;
     let mut rows = Vec::new(alloc);
@@ -59,8 +59,8 @@ fn is_view_named(row: &Row, name: &[u8]) -> bool {
     is_of_kind(row, "view") && bytes_of(row.get(NAME)) == name
 }
 
-// Returns whether a row of the schema is that of a view that can't be read, of a trigger on a view,
-// or of a virtual table.
+// Returns whether a row of the schema is one that the library can't read: that of a view that it
+// can't parse, of a trigger on a view, or of a virtual table.
 fn is_unread(alloc: Global, rows: &[Row], row: &Row) -> Result<bool, AllocError> {
     if is_of_kind(row, "view") {
         return is_unread_view(alloc, row);
@@ -81,8 +81,8 @@ fn is_unread_table(alloc: Global, row: &Row) -> Result<bool, AllocError> {
     Ok(read_table(alloc, &unrooted)?.is_none())
 }
 
-// Returns the name of the object of a row of the schema; None if the name isn't UTF-8, or has
-// control characters of ASCII.
+// Returns the name of the object that a row of the schema describes; None if the name isn't UTF-8,
+// or has ASCII control characters.
 fn name_of(alloc: Global, row: &Row) -> Result<Option<String>, AllocError> {
     match std::str::from_utf8(bytes_of(row.get(NAME))) {
         Ok(name) if name.bytes().all(|byte| byte >= b' ' && byte != 0x7f) => {
@@ -92,8 +92,8 @@ fn name_of(alloc: Global, row: &Row) -> Result<Option<String>, AllocError> {
     }
 }
 
-// Returns the name of the schema's first object that can't be read, tables last: with some of these
-// the library reads the schema all the same.
+// Returns the name of the first object in the schema that can't be read. Tables are tried last,
+// since some tables that can't be read don't keep the library from reading the schema.
 fn first_unread(alloc: Global, rows: &[Row]) -> Result<Option<String>, AllocError> {
     for row in rows {
         if is_unread(alloc, rows, row)? {
@@ -126,8 +126,8 @@ fn copy_of(rt: &HostRuntime, path: &str) -> Option<Memory>
     }
 }
 
-// Returns copies in memory of the two files of a database. Its log is next to the file to which
-// symbolic links lead.
+// Returns copies in memory of the two files of a database; None if either can't be copied. The log
+// is next to the file to which symbolic links lead.
 fn copy_files(rt: &HostRuntime, path: &str) -> Option<Files<Memory>>
     ensures log { IfSome result (λ files. IsTrue (memory_is_usable files.log)) }
     ensures db { IfSome result (λ files. IsTrue (memory_is_usable files.db)) }

@@ -17,7 +17,7 @@ use thes_tables::cells::Cell;
 pub(crate) struct CountingSink<'a, R, L> {
     sink: &'a mut R,
     progress: L,
-    // The number of rows; it saturates.
+    // The number of rows passed so far; it saturates.
     rows: u64,
 }
 
@@ -38,8 +38,7 @@ impl<R: RowSink, L: Progress> RowSink for CountingSink<'_, R, L> {
     }
 }
 
-/// Passes all rows of a storage to a sink, as its `load` does, and reports the number of rows so
-/// far to a listener.
+/// Loads the storage into a sink, and reports to a listener the number of rows passed so far.
 pub(crate) fn load_counted<S: Alter, R: RowSink, L: Progress>(
     keeper: &mut SqlKeeper<S>,
     sink: &mut R,

@@ -1,4 +1,5 @@
-//! Calls of the storage over the connection that is open, if there is one.
+//! Loads and commits over the open connection, if there is one, and the check after a failed
+//! commit.
 ghost use Rattle.std.specs.Prelude.{◌≡◌, None, IfErr, OnOk, OnErr, IsTrue};
 ghost use Rattle.thes_store.specs.FoundLoads.{PassesFound};
 ghost use Rattle.thes_store.specs.Sinks.{SinkOutcome, sink_rows};
@@ -19,9 +20,9 @@ use thes_store::sink::RowSink;
 use thes_tables::change::Change;
 
 impl<S: Alter + Drop, O: Reopen<Connection<S>> + HeldTables, L: Progress> ReopeningKeeper<S, O, L> {
-    // Checks whether changes were made although their commit failed and shut the database, which it
-    // opens again. Returns false if the database isn't shut; returns false and sets `is_in_doubt`
-    // if the changes can't be checked.
+    // Opens the database again if the failed commit of these changes has shut it, and returns
+    // whether they were made nevertheless. Returns false if the database wasn't shut. If it can't
+    // be checked whether they were made, sets `is_in_doubt` and returns false.
     #[tactic(auto, using(crate::proofs::ReopeningLemmas::shows_answer))]
     pub(super) fn shows_changes(&mut self, changes: &[Change]) -> bool
         ensures keeps { KeepsStill S.Store self.old self.new }
@@ -43,8 +44,8 @@ impl<S: Alter + Drop, O: Reopen<Connection<S>> + HeldTables, L: Progress> Reopen
         found
     }
 
-    // Passes all rows of the open database to a sink, and reports them. The fault is `Store` if no
-    // database is open.
+    // Passes all rows of the open database to a sink, and reports their number to the listener. The
+    // fault is `Store` if no database is open.
     pub(super) fn load_now<R: RowSink>(&mut self, sink: &mut R) -> Result<(), Fault>
         ensures yields { IsKeeperStillUp S.Store self.new
             → SinkOutcome R.gives sink.old (sink_rows (rows_still S.Store self.old)) result

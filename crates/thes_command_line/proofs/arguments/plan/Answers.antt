@@ -17,7 +17,7 @@ is_plain : is_simple program ≡ true
 unfolding clap_on_literals
 is_plain = refl
 
--- Arguments that `clap` accepts have no fault, and what it found in them are their matches.
+-- Arguments that `clap` accepts have no fault, and its matches are those that the definitions give for them.
 matches_found : (app : App) (arguments : List Text) (m : ArgMatches) → app ≡ program
     → (is_simple_and_free app ≡ true → fault_of app arguments ≡ []) → HasMatchesOf app arguments m
     → (fault_of program arguments ≡ []) × HasMatchesOf program arguments m
