@@ -1,4 +1,4 @@
--- A list has a text as a lexical label exactly when one of its labels is lexical and has the text.
+-- A list has a text as a lexical label exactly when one of its labels is lexical and has this text in the language.
 use Rattle.std.proofs.lemmas.Grind.{common_steps}
 use Rattle.std.proofs.Common.{◌≡◌, ◌∙◌, List, ℕ, sym, ap, true, ◌&&◌, arith}
 use Rattle.std.specs.Prelude.{nat_eq}
