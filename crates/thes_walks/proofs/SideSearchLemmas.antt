@@ -89,7 +89,7 @@ module _ (f : Link → Option ℕ) (row : List Link) where
   pub LeadsWithin-to : (from i j y : ℕ) → i - from ≤ j - from → Within from i y → Within from j y
   LeadsWithin-to from i j y in_range (k, l, low, high, at, leads) = (k, l, low, omega arith, at, leads)
 
-  -- Assumes the range of a side, whose links are exactly those on it.
+  -- Assumes that the range of the node's row has exactly the links on the side of the relation.
   module _ (edit : LinkEdit) (relation : Relation) (x : ℕ) (held : Links) (at : ℕ) (part : Part)
       (is_row : IsRow held at row) (is_part : IsPart row at (side_in relation) part)
       (same : (l : Link) → HasEnd at l → side_at at l ≡ side_in relation → f l ≡ step_after_edit edit relation x l)

@@ -166,7 +166,7 @@ abbrev pub AreAmong : (nodes all : List ℕ) → Type 0
 AreAmong nodes all = (y : ℕ) → Contains nodes y → Contains all y
 
 -- The result of reading more nodes in `visits` visits: from each state that IsSideSearch describes with some of the
--- goals, the search comes to another one with these, or has found a goal.
+-- goals, the search comes to another such state with the same goals, or has found a goal.
 abbrev pub ContinuesSearch : LinkEdit → Links → Relation → (goals : List ℕ) → (old new : SideSearch) → (visits : ℕ)
     → (found : Bool) → Type 0
 ContinuesSearch edit held relation goals old new visits found =
@@ -203,13 +203,13 @@ AreAlternating edit held low high up down from count =
     × IsSideSearch edit held along.Narrower (high ∷ []) low down b
     × (count ≤ from + a + b)
 
--- A chain leads from `high` up to `low`, which was found within the bound on visits.
+-- A chain leads from `high` up to `low`, and was found within the bound on visits.
 abbrev pub HasFoundCycle : LinkEdit → Links → (low high : ℕ) → (from count : ℕ) → Type 0
 HasFoundCycle edit held low high from count = IsBelow (HeldAfter edit held) high low
     × ((ns : List Link) → CoversBetween edit held low high ns → count ≤ from + 4 * length ns)
 
 -- The result of turns of two searches, during which the count grows from `before` to `after`: from each state that
--- AreAlternating describes, they come to another one, or have met.
+-- AreAlternating describes, the searches come to another such state, or have met.
 abbrev pub ContinuesInTurn : LinkEdit → Links → (up down up_after down_after : SideSearch) → (before after : ℕ)
     → (found : Bool) → Type 0
 ContinuesInTurn edit held up down up_after down_after before after found =

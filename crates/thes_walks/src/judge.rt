@@ -90,7 +90,8 @@ pub fn check_at<L: Links>(
 /// Checks a new link: returns LinkThere if it is held, or else the first rule that the links with
 /// it would break.
 ///
-/// Makes at most six visits for each link near the first end of the new one, which is among them.
+/// Makes at most six visits for each link near the first end of the new link, which counts as one
+/// of these links.
 pub fn judge_add<L: Links>(
     alloc: Global,
     links: &mut L,
