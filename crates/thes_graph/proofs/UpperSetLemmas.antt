@@ -58,8 +58,8 @@ module _ (old new : List ℕ) (n bits : ℕ) (set : HasBitsSet old new n bits) w
   bits_set-new m j same has =
       ap (λ (w : ℕ). bit_at w j) (word_same old new n bits set m (sym same)) ∙ or_bit-second (word_at old m) bits j has
 
--- The state while the block is started: each of the first k nodes of the block has its own bit set in its word, and no
--- other bit is set.
+-- The state while the bits of a block are set at the start: each of the first k nodes of the block has its own bit set
+-- in its word, and no other bit is set.
 abbrev pub AreStarted : (words block : List ℕ) → ℕ → Type 0
 AreStarted words block k = (m i : ℕ) → HasBit words m i ↔ ((i < k) × (slice_get block i ≡ Some m))
 
