@@ -52,7 +52,7 @@ fn levels(alloc: Global, numbers: &mut Numbers, width: u32) -> Result<Graph, All
 }
 
 // Checks the link, or the merge of its second end into its first, and returns whether it is
-// refused.
+// refused, as it is if both ends are one node.
 fn is_refused(
     alloc: Global,
     walk: &mut Walk<'_>,
@@ -120,7 +120,7 @@ fn check_random_links(
 }
 
 /// Returns the number of refusals among `count` random related links, or merges, in a hierarchy of
-/// twelve levels with `nodes` concepts in all.
+/// twelve levels with `nodes` concepts in all; 0 if the hierarchy breaks a rule.
 pub fn count_refused(
     alloc: Global,
     nodes: u32,

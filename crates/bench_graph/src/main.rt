@@ -1,10 +1,10 @@
 //! Builds graphs of links and checks them, for `bench/graph` to time.
 //!
 //! Arguments: `ladder` or `tree`, the number of nodes and the width, or `layers`, the number of
-//! nodes and of links from each; then `made`, if nothing is to be checked; or `levels`, the number
-//! of nodes, the number of links to check, and `merges` to check merges in place of related links.
-//! For `tests/builds/test_count_requests.py`: `requests`, the number of further nodes, and `judged`
-//! to check a link.
+//! nodes, and of broader and of related links from each; with a further argument `made`, nothing is
+//! checked. Or `levels`, the number of nodes, the number of links to check, and `merges` to check
+//! merges in place of related links. For `tests/builds/test_count_requests.py`: `requests`, the
+//! number of further nodes, and `judged` to check a link.
 #![tactic(auto)]
 
 mod layers;
@@ -117,8 +117,8 @@ fn print_left<R: Print + Alloc<A = Global>>(rt: &R, words: &[String]) -> Result<
     }
 }
 
-// Runs the benchmark that the arguments name, and returns the exit status: 1 if a graph or link
-// that is checked breaks a rule, or else 0.
+// Runs the benchmark that the arguments name, and returns the exit status: 1 if the graph or the
+// link checked breaks a rule, or else 0; for `levels` always 0.
 fn obey<R: Env + Print + Alloc<A = Global>>(rt: &R) -> Result<u8, AllocError> {
     let alloc = rt.alloc();
     let Ok(args) = std::env::args(rt) else {

@@ -36,7 +36,7 @@ pub fn side_of(link: &Link, n: ResNo) -> Side
 }
 
 // The number of links at the start of a row that are looked at one by one, before a binary search:
-// in most rows a side ends among these, and such a loop finds its end faster.
+// in most rows the end of the side is among these, and a loop finds it faster.
 const FEW: usize = 4;
 
 // Checks whether the link lies on a side whose rank is less than `number`.

@@ -11,7 +11,7 @@ use thes_base::number::ResNo;
 /// second.
 #[derive(Clone, Copy)]
 pub enum LinkEdit {
-    /// No edit: a check is of the links as they are held.
+    /// No edit: the links are checked as they are held.
     NoEdit,
     /// The addition of this link.
     WithLink(Link),

@@ -24,11 +24,11 @@ pub fn has_bit(words: &[u64], place: u32, j: usize) -> bool
     (word_of(words, place) >> j) & 1 == 1
 }
 
-// The number of words that an extended list has from the word to be written on; there are several,
-// so that writes in ascending order seldom extend it.
+// The number of words that an extended list has from the word to be written on, several of them so
+// that writes in ascending order seldom extend the list.
 const SPARE: usize = 16;
 
-// Extends the list by zeros past the index `place`, which it doesn't have yet.
+// Appends zeros to a list that doesn't reach the index `place`, up to that index and beyond.
 #[cold]
 #[inline(never)]
 fn extend_past(words: &mut Vec<u64>, place: u32) -> Result<(), AllocError>

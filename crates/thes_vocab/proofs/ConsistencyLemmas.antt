@@ -61,7 +61,7 @@ scheme_is : (rs : List Resource) (n : ℕ) (o : Option ℕ) → IsSchemeOf rs n 
 scheme_is rs n None none s concept = absurd (none s concept)
 scheme_is rs n (Some t) at s concept = ap Some (one_scheme rs n s t concept at.1)
 
--- An index that keeps its entries and gains others still finds all holders.
+-- An index that keeps its entries and gains others still finds all holders (live concepts with a preferred label).
 pub finds_more : (rs : List Resource) (labels : Labels) (old new : Names) → KeepsNames old new
     → AreHoldersIndexed rs labels old → AreHoldersIndexed rs labels new
 finds_more rs labels old new keeps finds s n t x h = keeps s n t x (finds s n t x h)

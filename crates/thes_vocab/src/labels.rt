@@ -173,8 +173,8 @@ impl LabelTable {
         self.remove(owner, label.kind(), &label.tag, label.text());
     }
 
-    // Replaces the owner's preferred label `old` in the language of the name by the name; keeps the
-    // old one as an alternative label if `keep` is true.
+    // Replaces the owner's preferred label `old` by the name, in the name's language; keeps the old
+    // one as an alternative label if `keep` is true.
     pub(crate) fn rename(
         &mut self,
         owner: ResNo,

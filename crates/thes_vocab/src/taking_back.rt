@@ -72,8 +72,8 @@ impl Vocab {
         Ok(())
     }
 
-    /// Removes labels that a merge has copied to an owner; those that are left must be legal. Never
-    /// fails.
+    /// Removes these labels of an owner, as when a merge is taken back; the labels that are left
+    /// must be legal. Never fails.
     pub fn drop_labels(&mut self, owner: ResNo, labels: &[Label])
         requires { AreLegalLabels self.old.resources
             (set.difference self.old.labels (labels_of_owner owner labels.now)) }

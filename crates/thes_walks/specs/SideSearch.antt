@@ -147,7 +147,7 @@ abbrev pub LeadsTo : LinkEdit → Links → Relation → (goals : List ℕ) → 
 LeadsTo edit held relation goals start = (y : ℕ) × Contains goals y × Chain (Steps relation (HeldAfter edit held))
     start y
 
--- The number of visits is at most one for each link at a node that the start reaches in the relation.
+-- At most one visit is made for each link at a node that the start reaches in the relation.
 abbrev pub IsReadBounded : LinkEdit → Links → Relation → (start read : ℕ) → Type 0
 IsReadBounded edit held relation start read =
     (ns : List Link) → ((n : ℕ) → Reaches (Steps relation (HeldAfter edit held)) start n → CoversAt edit held n ns)
@@ -180,7 +180,7 @@ pub record AdvancesByNode (edit : LinkEdit) (held : Links) (relation : Relation)
   pub continues : ContinuesSearch edit held relation goals old new visits found
 
 -- The rule that a link from `low` up to `high` would break: Cycle if a chain leads from `high` up to `low`, or else S27
--- if a concept at or below `low` is related to one at or above `high`.
+-- if a concept at or below `low` is related to one at or above `high`, or else none.
 abbrev pub IsBrokenBetween : (Link → Type 0) → (low high : ℕ) → Option Refusal → Type 0
 IsBrokenBetween Held low high None = (IsBelow Held high low → ⊥)
     × ((x y : ℕ) → ReachesUp Held x low → ReachesUp Held high y → IsRelated Held x y → ⊥)

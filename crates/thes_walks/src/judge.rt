@@ -25,7 +25,7 @@ use thes_links::edit::LinkEdit;
 use thes_links::links::Links;
 use thes_links::normal_form::normalize_ends;
 
-// Returns the normal form of the link, in which these links would hold it.
+// Returns the normal form of the link, in which it would be held.
 fn normal<L: Links>(links: &L, link: &Link) -> Link
     ensures normal { result ≡ normal_form (is_marked (L.net links.now)) link.now }
     ensures two_ends { HaveTwoEnds (Holds (L.net links.now).links) }

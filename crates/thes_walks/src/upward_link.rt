@@ -171,7 +171,8 @@ fn check_second_search<L: Links>(
 }
 
 /// Returns the first of Cycle and S27 that a link from the low node up to the high one would break,
-/// together with the links after the edit. If both are one node, finds what the links there break.
+/// together with the links after the edit. If both are the same node, returns the first of these
+/// that the links break around that node.
 pub fn check_upward_link<L: Links>(
     alloc: Global,
     links: &mut L,
