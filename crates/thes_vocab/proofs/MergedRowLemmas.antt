@@ -268,7 +268,7 @@ module _ (labels : Labels) (source target : ℕ) (s13 : S13 labels) where
         ap (λ n. set.len labels + n) (ap length missing.2 ∙ length-map (missing_labels missing.0) merged_label)
         ∙ taken_len missing.0 missing.1 ∙ ap (λ more. set.len (set.union labels more)) (sym missing_set)
 
-    -- The labels of the vocabulary before the merge have none of the copies.
+    -- None of the copies is among the labels before the merge.
     pub missing_new : (q : Label) → set.contains (copied_labels source target labels) q ≡ true
         → set.contains labels q ≡ true → ⊥
     missing_new q copied held =
@@ -277,7 +277,7 @@ module _ (labels : Labels) (source target : ℕ) (s13 : S13 labels) where
         ∙ ap (λ (ls : Labels). set.contains ls q) (copies_are missing.0 missing.1) ∙ copied) in
         copied_is_new found.0 found.1 (subst (λ (l : Label). set.contains labels l ≡ true) found.3 held)
 
--- The set of labels after the insertion of labels of an owner is the union with them.
+-- Inserting labels of an owner gives the union of the old set of labels with them.
 pub union_rows : (old new : LabelRows) (owner : ℕ) (inserted : List LabelData)
     → RowsAfterInsertions old new owner inserted
     → labels_in new ≡ set.union (labels_in old) (labels_of_owner owner inserted)
