@@ -152,8 +152,8 @@ Chain-first : {S : ℕ → ℕ → Type 0} → (x z : ℕ) → Chain S x z → (
 Chain-first x z ([], one) = (z, one, inl refl)
 Chain-first x z (y ∷ ms, path) = (y, path.0, inr (ms, path.1))
 
--- The state of the pass: the words of the nodes with these rows are found, and those of other nodes have only their own
--- bits.
+-- The state of the pass: the words of the nodes with these rows are complete, those of other nodes have at least their
+-- own bits, and no word has a wrong bit.
 pub record AreFoundBelow (held : Links) (rows : List PathNode) (block words : List ℕ) : Type 0 where
   pub sound : (n j x : ℕ) → slice_get block j ≡ Some x → HasBit words n j → ReachesUp (Holds held) n x
   pub starts : (n j : ℕ) → slice_get block j ≡ Some n → HasBit words n j

@@ -27,8 +27,8 @@ BreaksS27 Held = (x : ℕ) × (y : ℕ) × IsRelated Held x y × IsBelow Held x 
 abbrev pub KeepS46 : (Link → Type 0) → List ℕ → Type 0
 KeepS46 Held nodes = (n : ℕ) → Contains nodes n → KeepsS46At Held n
 
--- The verdict on the class of exact matches of n: two of its members break S46, or n is done. Nodes that were done
--- still are, and none that is done is in a class that breaks S46.
+-- The verdict on the class of exact matches of n: S46 is broken, or n is done. Nodes that were done still are, and none
+-- that is done is in a class that breaks S46.
 pub record IsClassVerdict (Held : Link → Type 0) (n : ℕ) (done later : List ℕ) (found : Bool) : Type 0 where
   pub verdict : MatchBool found (BreaksS46 Held) (Contains later n)
   pub growth : (m : ℕ) → Contains done m → Contains later m

@@ -79,7 +79,7 @@ lead_of_side relation.Related walked l n ends is = beside_lead l.a l.b n ends l.
 lead_of_side relation.Exact walked l n ends is = alike_lead l.a l.b n ends l.kind is
 lead_of_side relation.Apart walked l n ends is = absurd walked
 
--- A link still leads from a node to another after all ends are replaced.
+-- A link still leads from one node to another after its ends and both nodes are replaced alike.
 lead_replaced : (f : ℕ → ℕ) (d : Direction) (a b x y : ℕ) → LinkLeads d a b x y → LinkLeads d (f a) (f b) (f x) (f y)
 lead_replaced f Forward a b x y (e, g) = (ap f e, ap f g)
 lead_replaced f Backward a b x y (e, g) = (ap f e, ap f g)
