@@ -6,7 +6,7 @@ use thes_base::data::{Link, LinkKind};
 use thes_base::number::ResNo;
 use thes_graph::graph::Graph;
 
-// Adds a link between the nodes, unless they are the same.
+// Adds a link from `a` to `b`, unless they are the same node.
 fn add(graph: &mut Graph, kind: LinkKind, a: u32, b: u32) -> Result<(), AllocError> {
     let link = Link {
         kind,

@@ -1,5 +1,5 @@
-//! Checks of related links and merges in a hierarchy of levels, in which each concept has two
-//! broader ones in the level above.
+//! Checks of related links and merges in a hierarchy of levels, in which each concept has one or
+//! two broader ones, chosen at random, in the level above.
 ghost use Rattle.std.specs.Prelude.{◌≡◌};
 ghost use Rattle.thes_base.specs.Links.{Holds};
 ghost use Rattle.thes_links.specs.Local.{BreakNone};
@@ -41,7 +41,7 @@ fn link_to_level_above(
     Ok(())
 }
 
-// Returns a graph in which each node below the first level has two broader ones.
+// Returns a graph of twelve levels, in which each node below the first has one or two broader ones.
 fn levels(alloc: Global, numbers: &mut Numbers, width: u32) -> Result<Graph, AllocError> {
     let mut graph = Graph::new(alloc);
     for node in width..width.saturating_mul(12) {
@@ -52,7 +52,7 @@ fn levels(alloc: Global, numbers: &mut Numbers, width: u32) -> Result<Graph, All
 }
 
 // Checks the link, or the merge of its second end into its first, and returns whether it is
-// refused.
+// refused, as it is if both ends are one node.
 fn is_refused(
     alloc: Global,
     walk: &mut Walk<'_>,
@@ -92,7 +92,7 @@ fn pair(numbers: &mut Numbers, width: u32, merges: bool) -> Link {
     )
 }
 
-// The checks of a benchmark: of `count` random links, or merges, in levels of `width` nodes.
+// The checks of a benchmark: `count` random links, or merges, in levels of `width` nodes.
 #[derive(Clone, Copy)]
 struct Trial {
     width: u32,
@@ -120,7 +120,7 @@ fn check_random_links(
 }
 
 /// Returns the number of refusals among `count` random related links, or merges, in a hierarchy of
-/// twelve levels.
+/// twelve levels with `nodes` concepts in all; 0 if the hierarchy breaks a rule.
 pub fn count_refused(
     alloc: Global,
     nodes: u32,

@@ -1,10 +1,10 @@
-//! Builds a graph of broader links and checks all of it, for `bench/graph` to time.
+//! Builds graphs of links and checks them, for `bench/graph` to time.
 //!
 //! Arguments: `ladder` or `tree`, the number of nodes and the width, or `layers`, the number of
-//! nodes and of links from each, each followed by `made` to check nothing; or `levels`, the number
-//! of nodes, the number of links to check, and `merges` to check merges in place of related links.
-//! For `tests/builds/test_count_requests.py`: `requests`, the number of further nodes, and
-//! `judged` to check a link.
+//! nodes, and of broader and of related links from each; with a further argument `made`, nothing is
+//! checked. Or `levels`, the number of nodes, the number of links to check, and `merges` to check
+//! merges in place of related links. For `tests/builds/test_count_requests.py`: `requests`, the
+//! number of further nodes, and `judged` to check a link.
 #![tactic(auto)]
 
 mod layers;
@@ -52,8 +52,8 @@ fn link_to_following(
     Ok(())
 }
 
-// Adds links from each node up to the `width` nodes after it, which makes the deepest graph of that
-// width.
+// Adds links from each node up to the `width` nodes after it, or as many as there are, which makes
+// the deepest graph of that width.
 fn ladder(graph: &mut Graph, nodes: u32, width: u32) -> Result<(), AllocError> {
     for node in 1..nodes {
         link_to_following(graph, node, nodes, width)?;
@@ -61,8 +61,8 @@ fn ladder(graph: &mut Graph, nodes: u32, width: u32) -> Result<(), AllocError> {
     Ok(())
 }
 
-// Adds a link from each node up to the node whose number is its own divided by `width`, rounded
-// down.
+// Adds a link from each node but the last up to the node whose number is its own divided by
+// `width`, rounded down, or to node 1 if that is 0.
 fn tree(graph: &mut Graph, nodes: u32, width: u32) -> Result<(), AllocError> {
     for node in 1..nodes {
         add(graph, node, node / width.max(1))?;
@@ -70,7 +70,7 @@ fn tree(graph: &mut Graph, nodes: u32, width: u32) -> Result<(), AllocError> {
     Ok(())
 }
 
-// Returns the number in the argument at this index, or 1 if there is none.
+// Returns the number in the argument at this index, or 1 if the argument is missing or no number.
 fn number(words: &[String], place: usize) -> u32 {
     match words.get(place) {
         Some(word) => ResNo::read(word.as_str()).map_or(1, ResNo::get),
@@ -117,7 +117,8 @@ fn print_left<R: Print + Alloc<A = Global>>(rt: &R, words: &[String]) -> Result<
     }
 }
 
-// Runs the benchmark that the arguments name, and returns the exit status.
+// Runs the benchmark that the arguments name, and returns the exit status: 1 if the graph or the
+// link checked breaks a rule, or else 0; for `levels` always 0.
 fn obey<R: Env + Print + Alloc<A = Global>>(rt: &R) -> Result<u8, AllocError> {
     let alloc = rt.alloc();
     let Ok(args) = std::env::args(rt) else {

@@ -34,14 +34,14 @@ keys_of kept = sorted_links (links_in kept)
 abbrev pub view_of : Links → FinSet nat_cmp → GraphView
 view_of links outside = record { links = links; outside = outside }
 
--- A set of links is that of its sorted list.
+-- A set of links is the set of the links in its sorted list.
 pub from_sorted : (links : Links) → from_list (sorted_links links) ≡ links
 from_sorted links =
     same_links (from_list (sorted_links links)) links
     (λ m held. held_of_listed links m (listed_of_held (sorted_links links) m held))
     (λ m held. held_from_list (sorted_links links) m (listed_held links m held))
 
--- What the graph holds, by the sorted list of the links in its rows.
+-- A graph holds exactly the links of the sorted list of the links in its rows.
 pub view_by_keys : (kept : Lists SidedLink) (outside : FinSet nat_cmp) (net : GraphView)
     → view_of (links_in kept) outside ≡ net → view_of (from_list (keys_of kept)) outside ≡ net
 view_by_keys kept outside net is = ap (λ (links : Links). view_of links outside) (from_sorted (links_in kept)) ∙ is
@@ -73,7 +73,7 @@ module _ (ks : List Link) (kept : Lists SidedLink) (outside : List ℕ) (index :
   pub links_in_is : links_in kept ≡ from_list ks
   links_in_is = same_links (links_in kept) (from_list ks) links_in_to links_in_from
 
-  -- An index with the number of its links is counted.
+  -- A correct index, with the number of its links, is a counted index.
   pub counted_index : (total : ℕ) → total ≡ len (from_list {R = link_cmp} ks) → IsCountedIndex kept outside total
   counted_index total is = record {
     index = subst (λ (xs : List Link). IsIndexed xs kept outside) (sym (ap sorted_links links_in_is
@@ -81,7 +81,7 @@ module _ (ks : List Link) (kept : Lists SidedLink) (outside : List ℕ) (index :
     total_is = is ∙ ap (λ (links : Links). len links) (sym links_in_is);
   }
 
--- What a graph of the rows holds.
+-- Assumes a graph with these rows: what the index states of its links holds of the links of the graph.
 module _ (kept : Lists SidedLink) (outside : List ℕ) (total : ℕ) (index : IsCountedIndex kept outside total)
     (net : GraphView) (is : view_of (links_in kept) (from_list outside) ≡ net) where
   pub two_ends_seen : HaveTwoEnds (Holds net.links)
@@ -100,13 +100,13 @@ module _ (kept : Lists SidedLink) (outside : List ℕ) (total : ℕ) (index : Is
   test_seen l b test = ap (λ (g : GraphView). contains g.links l) (view_by_keys kept (from_list outside) net is)
       ∙ sym test
 
--- The number of links by the sorted list of the links in the rows.
+-- The number of links in the index is that of the sorted list of the links in its rows.
 pub total_by_keys : (kept : Lists SidedLink) (outside : List ℕ) (total : ℕ) → IsCountedIndex kept outside total → total
     ≡ len (from_list {R = link_cmp} (keys_of kept))
 total_by_keys kept outside total index = index.total_is
     ∙ ap (λ (links : Links). len links) (sym (from_sorted (links_in kept)))
 
--- The index stays counted if the rows keep their values.
+-- The index, with its number of links, stays correct if the rows keep their values.
 module _ (outside : List ℕ) (old new : Lists SidedLink) (total : ℕ) (same : HaveSameValues old new)
     (index : IsCountedIndex old outside total) where
   pub indexed_same : IsIndexed (keys_of old) new outside
@@ -119,7 +119,7 @@ module _ (outside : List ℕ) (old new : Lists SidedLink) (total : ℕ) (same : 
   pub links_in_same : links_in new ≡ links_in old
   links_in_same = links_in_is (keys_of old) new outside indexed_same ∙ from_sorted (links_in old)
 
--- The number of links after one is inserted that isn't held.
+-- Inserting a link that isn't held raises the number of links by one.
 pub total_with : (ks : List Link) (l : Link) (total : ℕ) → total ≡ len (from_list {R = link_cmp} ks)
     → contains (from_list {R = link_cmp} ks) l ≡ false
     → total + 1 ≡ len (from_list {R = link_cmp} (insert_key derived_link_cmp ks l))
@@ -130,7 +130,7 @@ total_with ks l total is absent =
     ∙ len-insert links_total (from_list ks) l
     ∙ ap (λ b. cond b (len (from_list {R = link_cmp} ks)) (len (from_list {R = link_cmp} ks) + 1)) absent)
 
--- The number of links after one is removed that is held.
+-- Removing a link that is held lowers the number of links by one.
 pub total_without : (ks : List Link) (l : Link) (total : ℕ) → IsStrictlySortedBy link_cmp ks → total
     ≡ len (from_list {R = link_cmp} ks)
     → contains (from_list {R = link_cmp} ks) l ≡ true

@@ -141,7 +141,7 @@ module _ (Held : Link → Type 0) where
             (ap (λ (ns : List ℕ). get_or ns k 0) grows.extends.1
             ∙ get_or_append_left done grows.extends.0 0 k inside) up))
 
-        -- A node broader than one that is done is done.
+        -- If a node is done, each node broader than it is done.
         above_done : (n h : ℕ) → Contains done n → S n h → Contains done h
         above_done n h (i, inside, at) up =
             Contains-take i done h (is.order.above_first i inside h (subst (λ (m : ℕ). S m h) (sym at

@@ -94,7 +94,7 @@ listed_more links n old new below adds = record {
   ];
 }
 
--- The list has all links, if no node from n on has one.
+-- The list has all links, if no node from n on has a link.
 pub all_below : (links : Links) (n : ℕ) (all : List Link) → HaveTwoEnds (Holds links) → AreListedBelow links n all
     → ((m : ℕ) → n ≤ m → sided_links_at links m ≡ []) → AreAll links all
 all_below links n all two below none = record {

@@ -284,7 +284,7 @@ IsRow-links_at links n = record {
 pub row_is : (ks : List Link) (n : ℕ) → IsSorted ks → sorted_row n ks ≡ sided_links_at (from_list ks) n
 row_is ks n sorted = ap (sorted_row n) (sym (listed_is ks sorted))
 
--- An insertion or removal by the order that `cmp` computes is one by the defined order.
+-- An insertion or removal by the order that `cmp` computes is the same as one by the defined order.
 pub with_computed : (ks : List Link) (l : Link) (keys : List Link) → keys ≡ insert_key derived_link_cmp ks l → keys
     ≡ with_key ks l
 with_computed ks l keys is = let P : (Link → Link → Ordering) → Type 0 = λ cmp. keys ≡ insert_key cmp ks l in
@@ -295,7 +295,7 @@ pub without_computed : (ks : List Link) (l : Link) (keys : List Link) → keys �
 without_computed ks l keys is = let P : (Link → Link → Ordering) → Type 0 = λ cmp. keys ≡ remove_key (is_at (cmp l))
     ks in subst P derived_link_cmp_is is
 
--- A look-up among the keys is a look-up in the set.
+-- A look-up among the keys finds the link exactly when the set has it.
 pub lookup_in_keys : (ks : List Link) (l : Link) (b : Bool) → b ≡ list_any (λ k. is_eq (derived_link_cmp l k)) ks → b
     ≡ contains (from_list {R = link_cmp} ks) l
 lookup_in_keys ks l b e =

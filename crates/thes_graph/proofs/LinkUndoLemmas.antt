@@ -1,4 +1,4 @@
--- The links are as before once the removal of a node's links, or a merge, is taken back.
+-- Taking back the removal of a node's links, or a merge, restores the links.
 use Rattle.std.proofs.Common.{◌≡◌, ◌⊎◌, inl, inr, ℕ, List, Contains, subst, refl, true, false}
 use Rattle.std.specs.FinSet.{contains}
 use Rattle.std.proofs.lemmas.Bool.{both_ways}
@@ -17,7 +17,7 @@ module _ (n : ℕ) (links : Links) (row : List Link) (is : IsRow links n row) wh
   abbrev fewer : Links
   fewer = links_after_deprecation n links
 
-  -- The links are as before once those of the node are added again.
+  -- Adding the node's links again restores the links.
   pub links_again : with_all fewer row ≡ links
   links_again = same_links (with_all fewer row) links to from
     where
@@ -46,7 +46,7 @@ held_or_not : (links : Links) (l : Link) → Holds links l ⊎ (Holds links l �
 held_or_not links l = elim (contains links l) as (λ b. (b ≡ true) ⊎ (b ≡ true → ⊥))
     [ true ↦ inl refl | false ↦ inr (λ e. both_ways false refl e) ]
 
--- The links are as before a change once the removed ones are added again, and the added ones are removed.
+-- Adding the removed links again, and removing the added ones, restores the links before a change.
 pub links_restored : (before after : Links) (row added : List Link) → ((l : Link) → Contains row l → Holds before l)
     → ((l : Link) → Holds before l → Contains row l ⊎ Holds after l) → AreAddedLinks before after added
     → without_links (with_all after row) added ≡ before

@@ -55,7 +55,7 @@ cond-and : (b x : Bool) → cond b false x ≡ (not b && x)
 cond-and true x = refl
 cond-and false x = refl
 
--- The set of marks after the removal of a number has the old ones but that number.
+-- The set of marks after the removal of a number has all old ones except that number.
 pub from_list_unmarked : (old new : List ℕ) (n : ℕ)
     → ((q : ℕ) → list_any (eq_by_cmp nat_cmp q) new ≡ cond (is_at (nat_cmp n) q) false
     (list_any (eq_by_cmp nat_cmp q) old))

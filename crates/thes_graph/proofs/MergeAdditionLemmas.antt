@@ -1,5 +1,5 @@
--- The links made of those at a merge's source are those that it adds; adding them and removing the source's links gives
--- the merged set.
+-- The new links that a merge makes of those at its source are those that it adds; adding them and removing the source's
+-- links gives the links after the merge.
 use Rattle.std.proofs.lemmas.Grind.{common_steps}
 use Rattle.std.proofs.Common.{◌≡◌, ◌≢◌, ◌⊎◌, ◌+◌, ◌<◌, ◌++◌, length, get_or, inl, inr, ℕ, List, [], ◌∷◌, true, arith}
 use Rattle.std.proofs.Common.{false, ◌==◌, Contains, take, Option, Some, None, if◌then◌else◌, refl, sym, ap, subst}
@@ -97,7 +97,7 @@ module _ (net : GraphView) (source target : ℕ) where
     stays_held l held off = subst (Holds (links_after_merge (is_marked net) source target net.links)) (normal l held)
         (contracted_to (is_marked net) source target net.links l l held (becomes_itself l held off))
 
-    -- A link that a merge makes of one that isn't at the source was held.
+    -- A merge turns a held link that isn't at the source into a link that was held.
     was_held : (l n : Link) → Holds net.links l → (HasEnd source l → ⊥) → link_after_merge source target l ≡ Some n
         → Holds net.links (normal_form (is_marked net) n)
     was_held l n held off gives =
@@ -115,7 +115,7 @@ module _ (net : GraphView) (source target : ℕ) where
     abbrev made_links : List Link
     made_links = filter_map merged_standing (sided_links_at net.links source)
 
-    -- Links at the source that are made the same link are the same.
+    -- Links at the source that become the same link in the merge are the same.
     one_made : is_marked net source ≡ is_marked net target → (s t : SidedLink) (m : Link)
         → Contains (sided_links_at net.links source) s → Contains (sided_links_at net.links source) t
         → merged_standing s ≡ Some m → merged_standing t ≡ Some m → s ≡ t
@@ -132,7 +132,7 @@ module _ (net : GraphView) (source target : ℕ) where
         ∙ sym (ap (normal_form (is_marked net)) two'.1)) in
         sym p.2 ∙ ap (sided_link_at source) same ∙ q.2
 
-    -- The links made of those at the source are those that the merge adds.
+    -- The new links made of those at the source are exactly those that the merge adds.
     pub AreMergeAdditions-made : (ms : List Link) → ms ≡ made_links → AreMergeAdditions net source target ms
     AreMergeAdditions-made ms is = subst (AreMergeAdditions net source target) (sym is) (record {
       sound = λ m has.
@@ -184,7 +184,7 @@ module _ (net : GraphView) (source target : ℕ) where
         normal : (m : Link) → IsMade m → normal_form (is_marked net) m ≡ m
         normal m (l, n, _, _, is) = ap (normal_form (is_marked net)) is ∙ norm_again (is_marked net) n ∙ sym is
 
-    -- The set with the new links and without those at the source is the merged set.
+    -- Adding the new links and removing those at the source gives the links after the merge.
     pub merged_links : source ≢ target → HaveTwoEnds (Holds net.links) → AreNormal net
         → links_after_deprecation source (with_all net.links ms)
         ≡ links_after_merge (is_marked net) source target net.links

@@ -42,7 +42,8 @@ sides_rise links n i j d lt in_range = go (eq-or-lt_of_le lt)
         lower_side (number_of (get_or (sided_links_at links n) i d)) (number_of (get_or (sided_links_at links n) j d)) _
         (Less-from_sorted sided_link_cmp (sided_links_at links n) i j d (sided_links_sorted links n) below in_range)
 
--- If all links before an index of a partitioned row pass the test and the link there fails it, no other passes.
+-- If all links before an index of a partitioned row pass the test and the link at the index fails it, no later link
+-- passes.
 pub passed_until : (p : SidedLink → Bool) (row : List SidedLink) (i : ℕ)
     → ((k : ℕ) (d : SidedLink) → k < i → p (get_or row k d) ≡ true) → (s : SidedLink)
     → ((d : SidedLink) → s ≡ get_or row i d) → p s ≡ false → IsPartitionIndex p row i

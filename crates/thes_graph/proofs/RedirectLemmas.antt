@@ -1,4 +1,4 @@
--- A merge makes different links of different links at its source.
+-- A merge turns different links at its source into different links.
 use Rattle.std.proofs.Common.{◌≡◌, ◌≢◌, ◌⊎◌, inl, inr, ℕ, refl, sym, ap, ◌∙◌, subst, Bool, true, false, cond, ◌||◌}
 use Rattle.std.proofs.Common.{◌&&◌, ◌==◌, nat_lt, arith}
 use Rattle.std.specs.Prelude.{if◌then◌else◌}
@@ -10,14 +10,15 @@ use Rattle.thes_links.specs.Reading.{HaveTwoEnds}
 use Rattle.thes_links.specs.GraphView.{GraphView, is_marked}
 use Rattle.thes_graph.specs.MergeAdditions.{AreNormal}
 
--- Two pairs of ends, each with one at the source, are equal if they are redirected alike to two different ends.
+-- Two pairs of ends that each include the source are equal if a redirection turns both into the same pair of different
+-- ends.
 ends_equal : (s t a b c d : ℕ) → s ≢ t → (a ≡ s) ⊎ (b ≡ s) → (c ≡ s) ⊎ (d ≡ s) → a ≢ b → c ≢ d
     → redirect s t a ≢ redirect s t b → redirect s t a ≡ redirect s t c → redirect s t b ≡ redirect s t d
     → (a ≡ c) × (b ≡ d)
 ends_equal s t a b c d apart p q two two' sent left right = (grind arith, grind arith)
 
 module _ (f : ℕ → Bool) where
-  -- A link between two nodes whose ends may be swapped isn't in normal form in both orders.
+  -- A symmetric link between two different nodes isn't in normal form in both orders of its ends.
   one_order : (l : Link) → l.a ≢ l.b → is_symmetric (f l.a || f l.b) l.kind ≡ true → normal_form f l ≡ l
       → normal_form f (reversed_link l) ≡ reversed_link l → ⊥
   one_order l two flag this other =
@@ -49,7 +50,7 @@ module _ (net : GraphView) (source target : ℕ) (different : source ≢ target)
   abbrev redirected_link : Link → Link
   redirected_link l = normal_form (is_marked net) (redirect_link source target l)
 
-  -- Redirection changes no mark of an end.
+  -- A redirected end is marked as an outside concept exactly when the end was.
   mark_stays : (n : ℕ) → is_marked net (redirect source target n) ≡ is_marked net n
   mark_stays n = elim (cases_Bool (n == source)) [
     | inl at ↦ ap (λ b. is_marked net (cond b target n)) at ∙ sym inside ∙ ap (is_marked net)
@@ -57,7 +58,7 @@ module _ (net : GraphView) (source target : ℕ) (different : source ≢ target)
     | inr off ↦ ap (λ b. is_marked net (cond b target n)) off
   ]
 
-  -- A held link at the source, whose ends stay different.
+  -- The link is held, has an end at the source, and has two different ends after redirection.
   abbrev pub IsSent : Link → Type 0
   IsSent l = Holds net.links l × HasEnd source l × (redirect source target l.a ≢ redirect source target l.b)
 

@@ -58,8 +58,8 @@ module _ (old new : List ℕ) (n bits : ℕ) (set : HasBitsSet old new n bits) w
   bits_set-new m j same has =
       ap (λ (w : ℕ). bit_at w j) (word_same old new n bits set m (sym same)) ∙ or_bit-second (word_at old m) bits j has
 
--- The state while the block is started: each of the first k nodes of the block has its own bit set in its word, and no
--- other bit is set.
+-- The state while the bits of a block are set at the start: each of the first k nodes of the block has its own bit set
+-- in its word, and no other bit is set.
 abbrev pub AreStarted : (words block : List ℕ) → ℕ → Type 0
 AreStarted words block k = (m i : ℕ) → HasBit words m i ↔ ((i < k) × (slice_get block i ≡ Some m))
 
@@ -152,8 +152,8 @@ Chain-first : {S : ℕ → ℕ → Type 0} → (x z : ℕ) → Chain S x z → (
 Chain-first x z ([], one) = (z, one, inl refl)
 Chain-first x z (y ∷ ms, path) = (y, path.0, inr (ms, path.1))
 
--- The state of the pass: the words of the nodes with these rows are found, and those of other nodes have only their own
--- bits.
+-- The state of the pass: the words of the nodes with these rows are complete, those of other nodes have at least their
+-- own bits, and no word has a wrong bit.
 pub record AreFoundBelow (held : Links) (rows : List PathNode) (block words : List ℕ) : Type 0 where
   pub sound : (n j x : ℕ) → slice_get block j ≡ Some x → HasBit words n j → ReachesUp (Holds held) n x
   pub starts : (n j : ℕ) → slice_get block j ≡ Some n → HasBit words n j

@@ -58,7 +58,7 @@ pub holds_all : (P : Link → Type 0) (all : List Link) (i : ℕ) → length all
 holds_all P all i past each l (k, within, is) = subst P is (each k l (omega arith))
 
 module _ (Held : Link → Type 0) where
-  -- If no cycle runs through the first end of a link, there is no cycle.
+  -- If no cycle runs through the first end of any link, there is no cycle.
   pub no_cycle_all : ((l : Link) → Held l → NoCycleAt Held l.a) → NoCycle Held
   no_cycle_all none = record { none = λ x (ms, path). go x ms path }
     where
@@ -74,7 +74,7 @@ module _ (Held : Link → Type 0) where
       go x [] one = at x one.0 one.1 x one.2 ([], one) (inl refl)
       go x (m ∷ ms) path = at x path.0.0 path.0.1 m path.0.2 (m ∷ ms, path) (inr (ms, path.1))
 
-  -- If one member of a class of exact matches keeps S46 there, each member does.
+  -- If S46 holds in the class of one node, it holds in the class of each member of that class.
   pub class_free : (p m : ℕ) → KeepsS46At Held p → InClassOf Held p m → KeepsS46At Held m
   class_free p m none to x y in_x in_y apart = none x y (reach_join p m x to in_x) (reach_join p m y to in_y) apart
 

@@ -22,7 +22,7 @@ pub record IsIndexed (links : List Link) (kept : Lists SidedLink) (outside : Lis
 abbrev pub links_in : Lists SidedLink → Links
 links_in kept = from_list (map (λ s. s.link) (all_listed kept))
 
--- The rows are a correct index of the links in them, and `total` is their number.
+-- The rows are a correct index of the links in them, and `total` is the number of these links.
 pub record IsCountedIndex (kept : Lists SidedLink) (outside : List ℕ) (total : ℕ) : Type 0 where
   pub index : IsIndexed (sorted_links (links_in kept)) kept outside
   pub total_is : total ≡ len (links_in kept)

@@ -16,14 +16,14 @@ AreNormal net = (l : Link) → Holds net.links l → normal_form (is_marked net)
 abbrev pub link_if_new : Links → Link → Option Link
 link_if_new links l = if contains links l then None else Some l
 
--- The link in normal form that a merge adds in place of this one; None if both its ends are then the target or it is
+-- The link that a merge adds in place of this one, in normal form; None if both its ends would be the target or it is
 -- held already.
 abbrev pub added_link : GraphView → (source target : ℕ) → Link → Option Link
 added_link net source target l = option_and_then (λ m. link_if_new net.links (normal_form (is_marked net) m))
     (link_after_merge source target l)
 
--- The links are exactly those that a merge adds: held after it, and not before. None is listed twice if source and
--- target are both marked as outside concepts, or neither is.
+-- The links are exactly those that a merge adds, which are held after it and not before. None is listed twice if source
+-- and target are both marked as outside concepts, or neither is.
 pub record AreMergeAdditions (net : GraphView) (source target : ℕ) (ms : List Link) : Type 0 where
   pub sound : (m : Link) → Contains ms m → Holds (links_after_merge (is_marked net) source target net.links) m
       × (Holds net.links m → ⊥)

@@ -9,8 +9,8 @@ use Rattle.thes_links.specs.Words.{HasBit}
 abbrev pub IsRowNode : List PathNode → ℕ → Type 0
 IsRowNode rows n = (r : PathNode) × Contains rows r × (r.node ≡ n)
 
--- Each row lists exactly the broader nodes of its node, and comes after their rows. Each node with broader nodes has
--- one.
+-- Each row lists exactly the broader nodes of its node, and comes after their rows. Each node with broader nodes has a
+-- row.
 pub record AreUpwardRows (held : Links) (rows : List PathNode) : Type 0 where
   pub broader : (r : PathNode) → Contains rows r → (h : ℕ) → Contains r.above.items h ↔ IsNarrower (Holds held) r.node h
   pub above_first : (k : ℕ) (d : PathNode) → k < length rows → (h : ℕ) → Contains (get_or rows k d).above.items h

@@ -9,8 +9,8 @@ use Rattle.thes_graph.specs.CycleSearch.{IsUpwardOrder}
 abbrev pub HasAllEnds : (Link → Type 0) → List ℕ → Type 0
 HasAllEnds Held nodes = (l : Link) → Held l → Contains nodes l.a × Contains nodes l.b
 
--- The list has both ends of each link; a node comes in it after all nodes broader than it, and no cycle runs through
--- any.
+-- The list has both ends of each link, each node after all nodes broader than it, and no cycle runs through any of
+-- them.
 pub record IsWholeOrder (Held : Link → Type 0) (nodes : List ℕ) : Type 0 where
   pub order : IsUpwardOrder Held nodes
   pub ends : HasAllEnds Held nodes
@@ -23,12 +23,12 @@ KeepsS27Below Held x = (y : ℕ) → IsRelated Held x y → ReachesUp Held y x �
 abbrev pub BreaksS27 : (Link → Type 0) → Type 0
 BreaksS27 Held = (x : ℕ) × (y : ℕ) × IsRelated Held x y × IsBelow Held x y
 
--- No class of exact matches of one of the nodes breaks S46.
+-- None of the nodes is in a class of exact matches that breaks S46.
 abbrev pub KeepS46 : (Link → Type 0) → List ℕ → Type 0
 KeepS46 Held nodes = (n : ℕ) → Contains nodes n → KeepsS46At Held n
 
--- The verdict on the class of exact matches of n: two of its members break S46, or n is done. Nodes that were done
--- still are, and no class of one that is done breaks S46.
+-- The verdict on the class of exact matches of n: S46 is broken, or n is done. Nodes that were done still are, and none
+-- that is done is in a class that breaks S46.
 pub record IsClassVerdict (Held : Link → Type 0) (n : ℕ) (done later : List ℕ) (found : Bool) : Type 0 where
   pub verdict : MatchBool found (BreaksS46 Held) (Contains later n)
   pub growth : (m : ℕ) → Contains done m → Contains later m

@@ -85,7 +85,7 @@ impl Graph {
         }
     }
 
-    /// Returns the normal form of the link, the only one in which the graph holds it.
+    /// Returns the normal form of the link, the only form in which the graph holds it.
     pub fn normal(&self, link: &Link) -> Link
         ensures { result ≡ normal_form (is_marked self.now) link.now }
     {
@@ -217,7 +217,7 @@ impl Graph {
         self.total
     }
 
-    // Lists the neighbours of this sort of the concept in ascending order.
+    // Lists the concept's neighbours of this sort in ascending order.
     fn neighbours(
         &self,
         alloc: Global,
@@ -348,8 +348,8 @@ impl Graph {
         }
     }
 
-    // Returns the link in normal form as a merge adds it, or None if both its ends are then the
-    // target or it is held already.
+    // Returns the link that a merge adds in place of this one, in normal form, or None if both its
+    // ends would be the target or it is held already.
     fn merge_addition(&self, link: &Link, source: ResNo, target: ResNo) -> Option<Link>
         ensures { result ≡ added_link self.now source target link.now }
     {
@@ -357,8 +357,8 @@ impl Graph {
         if self.holds(&new) { None } else { Some(new) }
     }
 
-    /// Returns the links that a merge adds in place of those at the source: those held after it, in
-    /// normal form, and not before.
+    /// Returns the links that a merge adds in place of those at the source: those that are held
+    /// after the merge, in normal form, and aren't held before.
     pub fn merge_additions(&self, source: ResNo, target: ResNo) -> Result<Vec<Link>, AllocError>
         requires { source ≢ target }
         ensures merge_additions { IfOk result
@@ -393,7 +393,7 @@ impl Graph {
         Ok(())
     }
 
-    /// Removes those of these links that are held with their ends in this order; never fails.
+    /// Removes each of these links that is held with its ends in this order; never fails.
     pub fn detach_all(&mut self, links: &[Link])
         ensures { self.new ≡ record self.old { links = without_links self.old.links links.now } }
     {

@@ -39,7 +39,8 @@ fn read_upward_rows<L: Links>(
     Ok(rows)
 }
 
-// Appends the ends of the link, unless they are there, if it is a related link or a related match.
+// Appends the ends of a related link or related match, unless they are there; does nothing for
+// other links.
 fn meet_related(nodes: &mut Nodes, link: &Link) -> Result<(), AllocError>
     ensures extends { OnOk result ((n : ℕ) → Contains nodes.old n → Contains nodes.new n) }
     ensures ends { OnOk result (HasDirection relation.Related link.now

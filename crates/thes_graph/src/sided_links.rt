@@ -35,8 +35,8 @@ pub fn side_of(link: &Link, n: ResNo) -> Side
     }
 }
 
-// The number of links at the start of a row that are looked at one by one: most rows have no more
-// before the end of a side, and such a loop is faster there than a binary search.
+// The number of links at the start of a row that are looked at one by one, before a binary search:
+// in most rows the end of the side is among these, and a loop finds it faster.
 const FEW: usize = 4;
 
 // Checks whether the link lies on a side whose rank is less than `number`.
@@ -91,7 +91,8 @@ pub fn count_before(row: &[SidedLink], number: u8) -> usize
     search_before(row, number)
 }
 
-// Returns what `count_until` does, by a look at the first links one by one.
+// Returns what `count_until` does: looks at the first `FEW` links one by one, and then calls
+// `search_until`.
 #[inline(always)]
 fn scan_until(row: &[SidedLink], number: u8) -> usize
     ensures bound { result ≤ length row.now }

@@ -52,7 +52,7 @@ fn start_block(words: &mut Vec<u64>, block: &[ResNo]) -> Result<(), AllocError>
     Ok(())
 }
 
-// Sets the bits of the broader nodes' words in the word of the node itself.
+// Sets, in the word of the row's node, all bits that are set in the words of its broader nodes.
 fn set_bits_above(words: &mut Vec<u64>, row: &PathNode) -> Result<(), AllocError>
     ensures { OnOk result ((m j : ℕ) → HasBit words.new.items m j
         ↔ (HasBit words.old.items m j ⊎ ((row.now.node ≡ m)

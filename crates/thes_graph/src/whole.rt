@@ -47,7 +47,8 @@ fn has_cycle<L: Links>(
     Ok(false)
 }
 
-// Appends these nodes to those whose class of exact matches is checked, unless they are there.
+// Appends these nodes to those whose class of exact matches has been checked, unless they are
+// there.
 fn add_done(done: &mut Nodes, nodes: &[ResNo]) -> Result<(), AllocError>
     ensures { OnOk result (GrowsBy done.old done.new (Contains nodes.now)) }
 {

@@ -1,4 +1,4 @@
--- The links at the members of a class of exact matches decide S46 there.
+-- The links at the members of a class of exact matches decide whether the class breaks S46.
 use Rattle.std.proofs.Common.{ℕ, List, Contains}
 use Rattle.thes_base.specs.declared.data.Link.{Link}
 use Rattle.thes_base.specs.Links.{disjoint_direction}

@@ -15,7 +15,7 @@ use Rattle.thes_links.specs.LinkEdit.{HeldAfter, link_after_merge}
 use Rattle.thes_links.proofs.NormLemmas.{IsEntailedBy, IsEntailedBy-itself, norm-says, IsFirstBroken-same}
 use Rattle.thes_links.proofs.SetLemmas.{inserted_held, insert_keeps}
 
--- Each link after an addition is entailed by a link of the new set.
+-- Each link after an addition is entailed by a link of the set into which the new link is inserted.
 pub inserted_to : (held : Links) (new l : Link) → HeldAfter (WithLink new) held l → (m : Link)
     × Holds (insert held new) m × IsEntailedBy l m
 inserted_to held new l (inl old) = (l, insert_keeps held new l old, IsEntailedBy-itself l)
@@ -45,7 +45,7 @@ module _ (is_outside : ℕ → Bool) (source target : ℕ) (held : Links) where
       → (redirect source target l.a ≢ redirect source target l.b) × (redirect_link source target l ≡ n)
   two_of_becomes l n e = grind (arith, common_steps, eqb-false, none-some, same_Some)
 
-  -- Each link of a merged set is the normal form of what the merge makes of a held link.
+  -- Each link held after a merge is the normal form of a link held before, with its ends redirected.
   pub contracted_from : (m : Link) → Holds (links_after_merge is_outside source target held) m
       → (l : Link) × (n : Link) × Holds held l × (link_after_merge source target l ≡ Some n)
       × (m ≡ normal_form is_outside n)
@@ -60,7 +60,7 @@ module _ (is_outside : ℕ → Bool) (source target : ℕ) (held : Links) where
       merged_to is_outside source target held (normal_form is_outside n)
       (l, has, is.0, ap (normal_form is_outside) (sym is.1))
 
-  -- Each link after a merge is entailed by a link of the merged set.
+  -- Each link after a merge is entailed by its normal form, which is held after the merge.
   pub would_to : (n : Link) → HeldAfter (AfterMerge source target) held n → (m : Link)
       × Holds (links_after_merge is_outside source target held) m × IsEntailedBy n m
   would_to n (l, has, gives) = (normal_form is_outside n, contracted_to l n has gives, (norm-says is_outside n).0)

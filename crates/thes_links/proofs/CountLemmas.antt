@@ -1,4 +1,4 @@
--- At most two of a list of distinct nodes are ends of a given link, and at most one is its first or its second end.
+-- Of a list of distinct nodes at most two are ends of a given link: one its first end, and one its second.
 use Rattle.std.proofs.lemmas.Grind.{common_steps}
 use Rattle.std.proofs.Common.{◌≡◌, ◌==◌, ◌+◌, ◌*◌, ◌≤◌, ℕ, List, [], ◌∷◌, length, ap, ◌∙◌, arith, refl}
 use Rattle.std.proofs.Common.{sum_by, true, false, nat_eq, if◌then◌else◌}

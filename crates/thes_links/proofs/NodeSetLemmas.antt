@@ -26,7 +26,7 @@ has_met nodes n false e = λ has. true≢false (sym (test_of_has nodes n has) �
 pub no_test_of_none : (nodes : List ℕ) (n : ℕ) → (Contains nodes n → ⊥) → list_any (nat_eq n) nodes ≡ false
 no_test_of_none nodes n none = grind (arith, common_steps, has_of_test)
 
--- The bits of a list's nodes are set after that of one more node is.
+-- After one more node is appended and its bit is set, the bits of all nodes of the list are set.
 pub shared_bits_push : (nodes : List ℕ) (n old new : ℕ) → HasSharedBit new n
     → ((m : ℕ) → HasSharedBit old m → HasSharedBit new m) → HasSharedBits nodes old
     → HasSharedBits (nodes ++ n ∷ []) new

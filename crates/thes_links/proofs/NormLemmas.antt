@@ -76,7 +76,7 @@ pub norm-says : (is_outside : ℕ → Bool) (l : Link) → IsEntailedBy l (norma
     × IsEntailedBy (normal_form is_outside l) l
 norm-says is_outside l = grind (arith, common_steps, IsEntailedBy-exchanged, IsEntailedBy-itself)
 
--- Sets of links that entail the same relations break the same rules.
+-- Assumes that each link of P is entailed by a link of Q: P then breaks no rule that Q keeps.
 module _ (P Q : Link → Type 0) (to : (l : Link) → P l → (m : Link) × Q m × IsEntailedBy l m) where
   broader_to : (x y : ℕ) → IsNarrower P x y → IsNarrower Q x y
   broader_to x y (l, p, r) = let t = to l p in (t.0, t.1, t.2.broader x y r)

@@ -40,7 +40,7 @@ module _ (edit : LinkEdit) (held : Links) (node : ℕ) (row : List Link) (is : I
       (λ l has. let both = is.sound l has in covers l both.0 (either_end edit node node l moves both.1))
       (λ l has. touches_one edit node l (either_end edit node node l moves (is.sound l has).1))
 
--- If a weight is at least two others together, its sum is at least their two sums together.
+-- If a weight is at least the sum of two others for each item, its total is at least the sum of their totals.
 pub sum_by-two : {X : Type 0} (f g h : X → ℕ) → ((x : X) → f x + g x ≤ h x) → (xs : List X) → sum_by f xs
     + sum_by g xs ≤ sum_by h xs
 sum_by-two f g h each [] = omega arith

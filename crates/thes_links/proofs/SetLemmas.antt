@@ -1,4 +1,4 @@
--- Sets of links are equal exactly when they have the same members.
+-- The members of sets of links after insertions and removals; sets with the same members are equal.
 use Rattle.std.proofs.lemmas.Grind.{common_steps}
 use Rattle.std.proofs.Common.{◌≡◌, ◌≢◌, ◌||◌, List, Bool, true, false, cond, Contains, refl, arith}
 use Rattle.std.specs.FinSet.{insert, remove, items, from_list}

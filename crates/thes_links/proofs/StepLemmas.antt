@@ -1,4 +1,4 @@
--- The list of nodes grows by exactly the nodes to which one link leads.
+-- Appending the nodes to which each link leads, link by link, grows a list by exactly these nodes.
 use Rattle.std.proofs.lemmas.Grind.{common_steps}
 use Rattle.std.proofs.Common.{◌≡◌, ℕ, ◌+◌, ◌<◌, ◌⊎◌, inl, inr, List, [], ◌∷◌, ◌++◌, length, take, get_or, Contains}
 use Rattle.std.proofs.Common.{nat_eq, false, Some, None, sym, ap, subst, ◌∙◌, append_assoc, arith}

@@ -24,7 +24,7 @@ module _ (old new : List ℕ) (n bits : ℕ) (set : HasBitsSet old new n bits) w
   word_other m other = set m ∙ ap (λ b. if b then bit_or (word_at old m) bits else word_at old m)
       (false_from_ne_true (nat_eq m n) (λ e. other ((Decides-eqb m n).0 e)))
 
--- After the bit of n is set, the marks are the old ones with n marked.
+-- Assumes that the bit of n is set: the new marks are the old ones with n marked.
 module _ (old new : List ℕ) (n : ℕ) (set : HasBitsSet old new (n / 64) (1 * 2 ^ (n % 64) % 2 ^ 64)) where
   within : n % 64 < 64
   within = omega arith
@@ -60,7 +60,7 @@ module _ (old new : List ℕ) (n : ℕ) (set : HasBitsSet old new (n / 64) (1 * 
             (word_other old new (n / 64) (1 * 2 ^ (n % 64) % 2 ^ 64) set (m / 64) apart)
       ]
 
--- After the bit of k is set in a word, it is set, and so are those that were.
+-- Assumes that the bit of k is set in a word: the new word has this bit, and all bits that were set before.
 module _ (word k : ℕ) where
   abbrev word_with_bit : ℕ
   word_with_bit = bit_or word (1 * 2 ^ (k % 64) % 2 ^ 64)

@@ -17,7 +17,7 @@ pub record CountedGraphView : Type 0 where
   pub net : GraphView
   pub visits : ℕ
 
--- The test of whether the resource is marked as an outside concept.
+-- Whether the resource is marked as an outside concept.
 abbrev pub is_marked : GraphView → ℕ → Bool
 is_marked net = contains net.outside
 
@@ -25,6 +25,6 @@ is_marked net = contains net.outside
 abbrev pub MarksOutside : List Resource → GraphView → Type 0
 MarksOutside resources net = (n : ℕ) → is_marked net n ≡ is_outside resources n
 
--- The test of whether the link has an end at the node.
+-- Whether the link has an end at the node.
 abbrev pub ends_at : ℕ → Link → Bool
 ends_at n l = l.a == n || l.b == n

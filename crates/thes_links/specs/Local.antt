@@ -29,7 +29,7 @@ HeldAwayFrom Held p l = Held l × (l.a ≢ p) × (l.b ≢ p)
 abbrev pub ReachesUp : (Link → Type 0) → ℕ → ℕ → Type 0
 ReachesUp Held = Reaches (IsNarrower Held)
 
--- Node y is x, or an exact match of x by one or more links.
+-- Node y is x, or is joined to x by a chain of one or more exact matches.
 abbrev pub InClassOf : (Link → Type 0) → ℕ → ℕ → Type 0
 InClassOf Held = Reaches (IsJoined Held exact_direction)
 

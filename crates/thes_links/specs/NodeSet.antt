@@ -4,8 +4,8 @@ use Rattle.std.specs.Int.{bit_at}
 use Rattle.std.specs.List.{list_any}
 use Rattle.thes_links.specs.Words.{word_at}
 
--- The test of whether node n is marked: whether its bit is set in the words, each of which has the bits of 64 nodes.
--- Nodes past the end aren't marked.
+-- Whether node n is marked: its bit is set in the words, each of which has the bits of 64 nodes. Nodes past the end
+-- aren't marked.
 abbrev pub mark_at : List ℕ → ℕ → Bool
 mark_at marks n = nat_eq (bit_at (word_at marks (n / 64)) (n % 64)) 1
 
@@ -21,7 +21,7 @@ IsOneMore old new n = (m : ℕ) → mark_at new m ≡ (nat_eq m n || mark_at old
 abbrev pub IsNodeSet : (nodes marks : List ℕ) → Type 0
 IsNodeSet nodes marks = 16 < length nodes → AreMarked nodes marks
 
--- The bit of the number is set in the word; numbers that leave the same remainder by 64 share it.
+-- The bit of the number is set in the word; numbers that are equal modulo 64 share it.
 abbrev pub HasSharedBit : (word n : ℕ) → Type 0
 HasSharedBit word n = bit_at word (n % 64) ≡ 1
 

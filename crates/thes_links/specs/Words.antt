@@ -1,4 +1,4 @@
--- Bits in a list of words of 64.
+-- Bits in a list of 64-bit words.
 use Rattle.std.specs.Prelude.{◌≡◌, ℕ, List, get_or, nat_eq, if◌then◌else◌, bit_or}
 use Rattle.std.specs.Int.{bit_at}
 

@@ -1,4 +1,4 @@
-//! Edits of the links held, which are checked before they are made.
+//! Edits of the links held, and the links after an edit, which are checked before the edit is made.
 ghost use Rattle.std.specs.Prelude.{◌≡◌, IfOk};
 ghost use Rattle.std.specs.List.{filter_map};
 ghost use Rattle.thes_links.specs.LinkEdit.{link_after_merge, row_after_edit};
@@ -11,11 +11,11 @@ use thes_base::number::ResNo;
 /// second.
 #[derive(Clone, Copy)]
 pub enum LinkEdit {
-    /// No edit: the links held are to be checked.
+    /// No edit: the links are checked as they are held.
     NoEdit,
-    /// The link is added.
+    /// The addition of this link.
     WithLink(Link),
-    /// The first node is merged into the second.
+    /// The merge of the first node into the second.
     AfterMerge(ResNo, ResNo),
 }
 

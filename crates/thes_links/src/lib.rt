@@ -1,5 +1,5 @@
-//! What checks of links share: the trait `Links`, which counts visits; the relations that links
-//! state between nodes; the links after an edit; sets of nodes, as marks.
+//! The parts that checks of links share: the trait `Links`, which counts visits; the relations that
+//! links state between nodes; the links after an edit; and sets of nodes, with marks.
 #![tactic(auto)]
 
 pub mod edit;

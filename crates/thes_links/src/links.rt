@@ -25,7 +25,7 @@ pub trait Links {
     ghost count: { Self → ℕ };
 
     /// Returns the link at index `i` of those with an end at the node, and counts a visit if there
-    /// is one.
+    /// is such a link.
     fn link_at(&mut self, node: ResNo, i: usize) -> Option<Link>
         ensures net { net self.new ≡ net self.old }
         ensures row { IsTwoEndedRow (net self.old).links node (links_of (net self.old) node) }

@@ -18,8 +18,8 @@ pub fn has_mark(marks: &[u64], n: ResNo) -> bool
     has_bit(marks, number / 64, (number % 64) as usize)
 }
 
-/// Checks whether the node's bit is set in the word; nodes whose numbers leave the same remainder
-/// by 64 share a bit.
+/// Checks whether the node's bit is set in the word; nodes whose numbers are equal modulo 64 share
+/// a bit.
 #[inline(always)]
 pub fn has_shared_bit(word: u64, n: ResNo) -> bool
     ensures { MatchBool result (HasSharedBit word n) (HasSharedBit word n → ⊥) }

@@ -17,7 +17,8 @@ const USUAL: usize = 64;
 pub struct Nodes {
     list: Vec<ResNo>,
     marks: Vec<u64>,
-    // The bits of all nodes (several may share one): a node whose bit isn't set wasn't met.
+    // A word in which the bit of each node met is set; several nodes may share a bit. A node whose
+    // bit isn't set wasn't met.
     bits: u64,
 }
 

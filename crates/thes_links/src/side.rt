@@ -15,7 +15,7 @@ pub enum Side {
     Alike,
     /// The link leads down to a narrower concept.
     Down,
-    /// The link leads to none of these, as a close match or a membership does.
+    /// The link leads to none of these; it is, for example, a close match or a membership.
     Apart,
 }
 

@@ -1,4 +1,4 @@
-//! Collects the nodes reachable from a start node in a relation, with the links there.
+//! Collects the nodes reachable from a start node in a relation, and the links at these nodes.
 ghost use Rattle.std.specs.Prelude.{◌≡◌, ◌≢◌, ◌↔◌, ◌+◌, ◌*◌, ◌≤◌, ℕ, List, Contains, OnOk, IfOk, MatchBool, length, sum_by};
 ghost use Rattle.std.specs.List.{filter_map};
 ghost use Rattle.thes_base.specs.declared.data.Link.{Link};
@@ -157,7 +157,7 @@ pub struct ReachableSet {
 }
 
 /// Collects the nodes reachable from `start` in the relation after the edit, `start` included, and
-/// the links there.
+/// the links after the edit that have an end at one of them.
 pub fn gather<L: Links>(
     alloc: Global,
     links: &mut L,

@@ -1,4 +1,4 @@
-//! Bits in words of 64, in a list that is extended where it is written. A word past the end is 0.
+//! Bits in a list of 64-bit words, which is extended where it is written. A word past the end is 0.
 ghost use Rattle.std.specs.Prelude.{◌≡◌, ◌<◌, ◌≤◌, ℕ, OnOk, OnErr, MatchBool, length};
 ghost use Rattle.thes_links.specs.Words.{word_at, HasBit, HasBitsSet};
 
@@ -24,11 +24,11 @@ pub fn has_bit(words: &[u64], place: u32, j: usize) -> bool
     (word_of(words, place) >> j) & 1 == 1
 }
 
-// A list that ends before the word to be written is extended to this many words from that word on,
-// so that writes in ascending order seldom extend it.
+// The number of words that an extended list has from the word to be written on, several of them so
+// that writes in ascending order seldom extend the list.
 const SPARE: usize = 16;
 
-// Extends the words by zeros past the index `place`, at which they end or before it.
+// Appends zeros to a list that doesn't reach the index `place`, up to that index and beyond.
 #[cold]
 #[inline(never)]
 fn extend_past(words: &mut Vec<u64>, place: u32) -> Result<(), AllocError>
@@ -41,7 +41,8 @@ fn extend_past(words: &mut Vec<u64>, place: u32) -> Result<(), AllocError>
     Ok(())
 }
 
-/// Sets these bits in the word at the index `place`, and extends the words if they end before it.
+/// Sets these bits in the word at the index `place`, and extends the list if it ends before that
+/// word.
 #[inline(always)]
 pub fn set_bits(words: &mut Vec<u64>, place: u32, bits: u64) -> Result<(), AllocError>
     ensures ok { OnOk result (HasBitsSet words.old.items words.new.items place bits) }

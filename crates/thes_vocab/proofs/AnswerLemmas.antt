@@ -1,4 +1,4 @@
--- Facts on optional and Boolean results.
+-- Facts about optional and Boolean results.
 use Rattle.std.proofs.Common.{◌≡◌, refl, Bool, true, false, Bor}
 use Rattle.std.specs.Bool.{MatchBool}
 use Rattle.std.specs.Prelude.{Option, None, Some, Result, Ok, Err}
@@ -25,7 +25,7 @@ pub match_copied : {A : Type 0} (P : Type 0) (Q : A → Type 0) (o : Option (Bor
 match_copied P Q None h = h
 match_copied P Q (Some b) h = h
 
--- A property of a Boolean result is proved by cases.
+-- A Boolean result meets its contract if each of its two values does.
 pub match_bool_cases : (b : Bool) (Bad Good : Type 0) → (b ≡ true → Bad) → (b ≡ false → Good) → MatchBool b Bad Good
 match_bool_cases true Bad Good f g = f refl
 match_bool_cases false Bad Good f g = g refl

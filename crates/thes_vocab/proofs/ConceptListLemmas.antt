@@ -1,4 +1,4 @@
--- The index of live concepts is complete after a resource is added, marked as dead, or live again.
+-- The index of live concepts stays complete when a resource is added, marked as dead, or made live again.
 use Rattle.std.proofs.Common.{arith}
 use Rattle.std.proofs.lemmas.Grind.{common_steps}
 use Rattle.std.proofs.Common.{◌≡◌, ◌≢◌, ◌⊎◌, inl, inr, ℕ, ◌+◌, length, List, [], ◌∷◌, ◌++◌, refl, sym, ◌∙◌}
@@ -21,12 +21,12 @@ use Rattle.std.proofs.lemmas.Option.{same_Some}
 use Rattle.thes_vocab.specs.Vocabulary.{IsConceptIn, IsConceptOf}
 use Rattle.thes_vocab.specs.ConceptLists.{ConceptListsAfterInsert, ConceptListsAfterRemove}
 
--- A concept of a scheme is the new resource, or was one before it.
+-- After a resource is added, each live concept of a scheme is the new resource, or was a live concept of it before.
 pub concept_cases : (rs : List Resource) (r : Resource) (scheme n : ℕ) → IsConceptOf (rs ++ r ∷ []) scheme n
     → IsConceptOf rs scheme n ⊎ ((n ≡ length rs + 1) × IsConceptIn scheme r)
 concept_cases rs r scheme n c = grind (arith, common_steps, push_cases, scheme_at)
 
--- Assumes that a resource is added, and its number to the list of its scheme if it is a live concept.
+-- Assumes that a resource is added, and, if it is a live concept, its number is inserted in the list of its scheme.
 module _ (rs : List Resource) (r : Resource) (old new : Lists ℕ) where
   abbrev resources_with_new : List Resource
   resources_with_new = rs ++ r ∷ []
@@ -50,7 +50,7 @@ module _ (rs : List Resource) (r : Resource) (old new : Lists ℕ) where
       (λ s n c. elim (concept_cases rs r s n c)
       [ inl was ↦ inl was | inr made ↦ inr (same_Some _ _ (sym made.1.1 ∙ is.1), made.0) ])
 
--- Assumes that a concept is marked as dead, and its number removed from the list of its scheme.
+-- Assumes that a concept is marked as dead, and its number is removed from the list of its scheme.
 module _ (rs : List Resource) (n : ℕ) (replaced : Option ℕ) (r : Resource) (at : entry_at rs n ≡ Some r)
     (old new : Lists ℕ) where
   abbrev resources_with_dead : List Resource
@@ -59,7 +59,7 @@ module _ (rs : List Resource) (n : ℕ) (replaced : Option ℕ) (r : Resource) (
   pub concept_before : (s m : ℕ) → IsConceptOf resources_with_dead s m → IsConceptOf rs s m × (m ≢ n)
   concept_before s m c = let was = live_before rs n replaced r at m c.0 in ((was.1, sym was.2 ∙ c.1), was.0)
 
-  -- A concept of a scheme before is one after, or is the dead one.
+  -- Each live concept of a scheme before the death is still one after it, or is the concept that died.
   pub concept_after : (s m : ℕ) → IsConceptOf rs s m
       → IsConceptOf resources_with_dead s m ⊎ ((r.scheme ≡ Some s) × (m ≡ n))
   concept_after s m c = grind (arith, common_steps, cases_eq, numbered_bound, scheme_at, set_other)
@@ -82,7 +82,7 @@ module _ (rs : List Resource) (n : ℕ) (replaced : Option ℕ) (r : Resource) (
       ])
       (λ s m c. (concept_before s m c).0)
 
-  -- The index is complete if the concept is live again, and its number inserted again.
+  -- The index is complete if the concept is made live again, and its number is inserted again.
   pub listed_alive : IsLiveConcept rs n → (o : Option ℕ) → r.scheme ≡ o → ConceptListsAfterInsert old new o n
       → AreListings nat_cmp (IsConceptOf resources_with_dead) old → AreListings nat_cmp (IsConceptOf rs) new
   listed_alive live None is same listed =

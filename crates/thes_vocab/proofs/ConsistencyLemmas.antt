@@ -53,7 +53,7 @@ use Rattle.thes_vocab.proofs.LabelCheckLemmas.{owners_bound, relabelled_is, rena
 abbrev pub IsSchemeOf : List Resource → ℕ → Option ℕ → Type 0
 IsSchemeOf rs n o = MatchOption o ((scheme : ℕ) → IsConceptOf rs scheme n → ⊥) (λ scheme. IsConceptOf rs scheme n)
 
--- A concept has one scheme.
+-- A concept has only one scheme.
 one_scheme : (rs : List Resource) (n s t : ℕ) → IsConceptOf rs s n → scheme_of rs n ≡ Some t → t ≡ s
 one_scheme rs n s t at e = same_Some _ _ (sym e ∙ at.1)
 
@@ -61,12 +61,12 @@ scheme_is : (rs : List Resource) (n : ℕ) (o : Option ℕ) → IsSchemeOf rs n 
 scheme_is rs n None none s concept = absurd (none s concept)
 scheme_is rs n (Some t) at s concept = ap Some (one_scheme rs n s t concept at.1)
 
--- An index with more entries finds all holders.
+-- An index that keeps its entries and gains others still finds all holders (live concepts with a preferred label).
 pub finds_more : (rs : List Resource) (labels : Labels) (old new : Names) → KeepsNames old new
     → AreHoldersIndexed rs labels old → AreHoldersIndexed rs labels new
 finds_more rs labels old new keeps finds s n t x h = keeps s n t x (finds s n t x h)
 
--- The index finds all holders after an entry and its label are added.
+-- The index finds all holders after a label and its entry are added.
 pub finds_added : (rs : List Resource) (labels : Labels) (l : Label) (old new : Names) → AreHoldersIndexed rs labels old
     → KeepsNames old new → (o : Option ℕ) → IsSchemeOf rs l.owner o
     → HasLabelEntry new o (record { kind = l.kind; tag = l.tag; text = l.text }) l.owner
@@ -79,7 +79,7 @@ pub finds_less : (rs : List Resource) (labels : Labels) (l : Label) (names : Nam
     → AreHoldersIndexed rs (set.remove labels l) names
 finds_less rs labels l names finds s n t x h = finds s n t x (h.0, (removed_cases labels l _ h.1).1)
 
--- The index finds all holders after an entry and its label take the place of the owner's old preferred label.
+-- The index finds all holders after a label replaces its owner's old preferred label, and its entry is added.
 pub finds_renamed : (rs : List Resource) (labels : Labels) (owner : ℕ) (tag text was : List ℕ) (keep : Bool)
     (old new : Names) → AreHoldersIndexed rs labels old → KeepsNames old new → (o : Option ℕ) → IsSchemeOf rs owner o
     → HasEntryInScheme new o tag text owner
@@ -116,7 +116,7 @@ module _ (rs : List Resource) (labels : Labels) (r : Resource) (tag text : List 
   scheme_of_new None none s is = absurd (none s is)
   scheme_of_new (Some t) at s is = sym at.1 ∙ is.1
 
-  -- The index finds all holders after an entry, and a new resource with its preferred label, are added.
+  -- The index finds all holders after a new resource, its preferred label and its entry are added.
   pub finds_new : (o : Option ℕ) → MatchOption o ((scheme : ℕ) → IsConceptIn scheme r → ⊥)
       (λ scheme. IsConceptIn scheme r) → HasEntryInScheme new o tag text number_of_new
       → AreHoldersIndexed (rs ++ r ∷ []) with_name new
@@ -263,13 +263,13 @@ kept_dropped base rs iris labels names concepts kept l row = record {
   listed = kept.listed;
 }
 
--- The invariant holds if the index of concepts has the same entries as before.
+-- The invariant holds if the index of live concepts has the same entries as before.
 pub kept_same : (base : List ℕ) (rs : List Resource) (iris : Iris) (labels : Labels) (names : Names)
     (was is : Lists ℕ) → IsConsistentVocabulary base rs iris labels names was
     → lists.HaveSameValues was is → IsConsistentVocabulary base rs iris labels names is
 kept_same base rs iris labels names was is kept listed = grind (arith, common_steps, listings_same)
 
--- A concept that passes its check has a preferred label that no live concept of its scheme has.
+-- If a new concept passes its check, no live concept of its scheme has its preferred label.
 pub free_concept : (rs : List Resource) (labels : Labels) (scheme : ℕ) (tag text : List ℕ) → unless_scheme rs scheme
     (unless_unique (rs ++ concept_resource (Some scheme) ∷ [])
     (set.insert labels (label (length rs + 1) Pref tag text)) accepted) None
@@ -290,7 +290,7 @@ kept_empty base names concepts bare = record {
       (listing_none nat_cmp (IsConceptOf [] s) (λ n c. none_at n c.0.0 c.0.1));
 }
 
--- The entry at the index of a number is the entry with the number.
+-- The item of a list at index `n - 1` is its entry with number `n`.
 pub numbered_at : {A : Type 0} (xs : List A) (n : ℕ) (x y : A) → entry_at xs n ≡ Some y → x ≡ get_or xs (n - 1) x
     → entry_at xs n ≡ Some x
 numbered_at {A = A} xs zero x y e f = absurd (cc)

@@ -1,4 +1,4 @@
--- A vocabulary is as before once the death of a concept is taken back.
+-- Taking back the death of a concept restores the vocabulary.
 use Rattle.std.proofs.Common.{◌≡◌, ◌<◌, ◌+◌, ◌-◌, inl, inr, ℕ, zero, suc, length, get_or, List, [], ◌∷◌, ◌++◌, take}
 use Rattle.std.proofs.Common.{refl, sym, ap, ◌∙◌, subst, arith, true}
 use Rattle.std.proofs.lemmas.Bool.{and_parts}
@@ -27,7 +27,7 @@ use Rattle.thes_vocab.specs.Vocabulary.{Vocabulary, vocabulary_from, concept_sch
 use Rattle.thes_vocab.proofs.ConceptListLemmas.{concept_after, listed_alive}
 use Rattle.thes_vocab.proofs.LoadingLemmas.{own_push}
 
--- One more label has its entry.
+-- If the first `i` labels have their entries, and the next label gets its entry, the first `i + 1` labels have theirs.
 pub entries_with_next : (old new : Names) (o : Option ℕ) (n : ℕ) (own : List LabelData) (i : ℕ) (x : LabelData)
     → i < length own → x ≡ get_or own i x → KeepsNames old new
     → ((d : LabelData) → has_own (take i own) d ≡ true → HasLabelEntry old o d n) → HasLabelEntry new o x n
@@ -40,7 +40,7 @@ entries_with_next old new o n own i x within is keeps before here d has =
       | inr same ↦ subst (λ (l : LabelData). HasLabelEntry new o l n) (sym same) here
     ]
 
--- A list is as before once an entry that was replaced is put back.
+-- Putting back an item that was replaced restores the list.
 put_back : {A : Type 0} (xs : List A) (x y : A) (i : ℕ) → slice_get xs i ≡ Some x
     → slice_set (slice_set xs i y) i x ≡ xs
 put_back [] x y i e = absurd (cc)
@@ -82,7 +82,7 @@ module _ (n : ℕ) (replaced : Option ℕ) (before after : Vocabulary) (was : Is
   scheme_is : concept_scheme concept ≡ concept.scheme
   scheme_is = ap (λ b. if b then concept.scheme else None) was.live.2
 
-  -- Assumes the parts of the vocabulary.
+  -- Assumes the parts that make up the vocabulary after the death.
   module _ (base : List ℕ) (rs : List Resource) (iris : Iris) (labels : Labels)
       (seen : vocabulary_from base rs iris labels ≡ after) where
     seen_dead : vocabulary_from base rs iris labels
@@ -124,7 +124,7 @@ module _ (n : ℕ) (replaced : Option ℕ) (before after : Vocabulary) (was : Is
         labels = ap (λ (v : Vocabulary). v.labels) seen_dead i;
       }
 
-      -- It satisfies the invariant.
+      -- Assumes that the indexes have the entries of the live concept again: then the invariant holds.
       module _ (old new : Names) (listed room full : Lists ℕ) (own : List LabelData)
           (kept : IsConsistentVocabulary base rs iris labels old listed) (owns : AreLabelsOf labels n own)
           (keeps : KeepsNames old new)

@@ -22,7 +22,7 @@ module _ (rs : List Resource) where
   remaining_at_end done place all = ap (λ k. replacements_within rs k place) (let q : length rs - done ≡ 0 =
       omega (arith, all) in q)
 
--- What a loop along a chain of replacements cites.
+-- The lemmas for loops along a chain of replacements.
 pub ruleset along_chain = (
   remaining_at_start,
   remaining_at_step,

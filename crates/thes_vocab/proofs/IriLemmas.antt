@@ -61,7 +61,7 @@ iris_after_insert old new n iri u = dict.same_map nat_cmp_total dict.nat_cmp-IsA
     ∙ sym (dict.get-insert nat_cmp_total (iris_in old.entries) n iri q ∙ ap (cond (eq_by_cmp nat_cmp q n) (Some iri))
     (get_iri_at old q)))
 
--- A new number is inserted at a copy of its new IRI, in the map back.
+-- Assumes that a new number is inserted in the map from IRIs to numbers, at a copy of its new IRI.
 module _ (iris now : Iris) (seen : iris ≡ now) (numbers more : Numbers) (n : ℕ) (iri copy : List ℕ)
     (tied : AreInverse iris numbers) (free : (m : ℕ) → dict.get now m ≢ Some iri) (same_copy : copy ≡ iri)
     (updates : Updates iri_cmp numbers more copy (Some n)) where
@@ -72,7 +72,7 @@ module _ (iris now : Iris) (seen : iris ≡ now) (numbers more : Numbers) (n : �
   other_iri : (m : ℕ) (i : List ℕ) → dict.get iris m ≡ Some i → i ≡ iri → ⊥
   other_iri m i has same = free m (ap (λ (x : Iris). dict.get x m) (sym seen) ∙ has ∙ ap Some same)
 
-  -- Inserting the number and its IRI keeps the maps inverse.
+  -- Inserting the IRI in the other map, too, keeps the maps inverse.
   pub inverse_after_insert : dict.get now n ≡ None → AreInverse (dict.insert iris n iri) more
   inverse_after_insert unused = record {
     number = λ m i e. number_at m i (iri_cases iris n iri m i e);
@@ -107,7 +107,7 @@ module _ (iris now : Iris) (seen : iris ≡ now) (numbers more : Numbers) (n : �
       iri_at m i e (inl same) = grind (arith, common_steps, put_at, same_Some)
       iri_at m i e (inr apart) = kept m i (tied.iri m i (sym (number_set.others i apart) ∙ e))
 
-  -- Removing the IRI from the map back again restores the old maps.
+  -- Removing the IRI from the map from IRIs to numbers again restores the old maps.
   pub inverse_after_undo : (back : Numbers) (removed : List ℕ) → removed ≡ iri → Updates iri_cmp more back removed None
       → AreInverse iris back
   inverse_after_undo back removed same undone = restored (subst (λ (i : List ℕ). IsNumberSet more back i None) same
@@ -124,7 +124,7 @@ iris_after_remove old new n u = dict.same_map nat_cmp_total dict.nat_cmp-IsAntis
     ∙ sym (dict.get-remove nat_cmp_total (iris_in old.entries) n q ∙ ap (cond (eq_by_cmp nat_cmp q n) None)
     (get_iri_at old q)))
 
--- The IRI that was inserted is the one at its number.
+-- A look-up of a number returns the IRI just inserted under it.
 pub inserted_iri : (iris : Iris) (n : ℕ) (iri : List ℕ) → dict.get (dict.insert iris n iri) n ≡ Some iri
 inserted_iri iris n iri = dict.get-insert nat_cmp_total iris n iri n ∙ ap (λ b. cond b (Some iri) (dict.get iris n))
     (ap is_eq (tied_itself nat_cmp_total n))
@@ -144,7 +144,7 @@ insert_then_remove_iri iris n iri none = dict.same_map nat_cmp_total dict.nat_cm
     go q false tie = dict.get-remove nat_cmp_total with_iri n q ∙ ap (λ b. cond b None (dict.get with_iri q)) tie
         ∙ dict.get-insert nat_cmp_total iris n iri q ∙ ap (λ b. cond b (Some iri) (dict.get iris q)) tie
 
--- A number and its IRI are removed.
+-- Assumes that the IRI of a number is removed from the map from IRIs to numbers.
 module _ (iris : Iris) (numbers fewer : Numbers) (n : ℕ) (iri : List ℕ) (tied : AreInverse iris numbers)
     (has : dict.get iris n ≡ Some iri) (unset : IsNumberSet numbers fewer iri None) where
   same_number : (m : ℕ) → dict.get iris m ≡ Some iri → m ≡ n
@@ -181,7 +181,7 @@ module _ (iris : Iris) (numbers fewer : Numbers) (n : ℕ) (iri : List ℕ) (tie
       let held = tied.iri m i (sym (unset.others i apart) ∙ e) in
       other_iri_kept m i (λ same. apart (same_Some _ _ (sym held ∙ ap (dict.get iris) same ∙ has))) held
 
-  -- Removing a number and its IRI keeps the maps inverse.
+  -- Removing the number from the other map, too, keeps the maps inverse.
   pub inverse_after_remove : AreInverse (dict.remove iris n) fewer
   inverse_after_remove = record {
     number = λ m i e.

@@ -53,7 +53,7 @@ preferred_is labels owner tag s14 o h = go (preferred_label_in labels owner tag)
     go (Some x) is None h = absurd (h x (preferred_found labels owner tag x is))
     go (Some x) is (Some text) h = ap Some (s14 owner tag text x h (preferred_found labels owner tag x is))
 
--- Owners are numbers of resources.
+-- The owner of each label is the number of a resource.
 pub owners_bound : (rs : List Resource) (labels : Labels) → AreLegalLabels rs labels → (l : Label)
     → set.contains labels l ≡ true → (1 ≤ l.owner) × (l.owner ≤ length rs)
 owners_bound rs labels legal l held = let at = owner_exists rs l.owner (legal.owners l held) in
@@ -63,7 +63,7 @@ pub kind_of_name : (labels : Labels) (owner : ℕ) (tag text : List ℕ) → has
     → (k : LabelKind) × (is_lexical_kind k ≡ true) × HasLabel labels owner k tag text
 kind_of_name labels owner tag text e = grind (arith, common_steps, or_cases)
 
--- A live concept of the scheme has a rival in another one that has its preferred label.
+-- A live concept has a rival if another live concept of its scheme has its preferred label.
 rival_of : (rs : List Resource) (labels : Labels) (l : Label) (m n scheme : ℕ) (tag text : List ℕ)
     → label m Pref tag text ≡ l → HasLabel labels n Pref tag text → n ≢ m → IsLiveConcept rs m
     → scheme_of rs m ≡ Some scheme → IsLiveConcept rs n → scheme_of rs n ≡ Some scheme
@@ -210,7 +210,7 @@ pub row_without_name : (rs : List Resource) (labels next : Labels) (owner : ℕ)
     (Some no.NoSuchLabel)
 row_without_name rs labels next owner tag none = inl (λ (text, has). none text has, refl)
 
--- The verdict on a new preferred label, by look-ups in the vocabulary as it is seen.
+-- Assumes that `old` is the owner's preferred label: look-ups decide whether the text may replace it.
 module _ (seen v : Vocabulary) (is : seen ≡ v) (owner : ℕ) (tag text old : List ℕ) (keep : Bool)
     (legal : AreLegalLabels seen.resources seen.labels) (has : HasLabel seen.labels owner Pref tag old) where
   abbrev labels : Labels
@@ -279,7 +279,7 @@ pub not_pref : (value : LabelValue) → ((text : List ℕ) → value ≡ values.
     → ⊥
 not_pref value other e = grind (arith, common_steps)
 
--- Reads the result of a look-up as a condition on preferred labels.
+-- Shows that a look-up finds a holder exactly when the preferred label is taken.
 module _ (rs : List Resource) (labels : Labels) (scheme : ℕ) (tag text : List ℕ) where
   pub holder_taken : (o : Option ℕ) → MatchOption o (IsPreferredTaken rs labels scheme tag text → ⊥)
       (IsHolder rs labels scheme tag text) → is_some o ≡ true → IsPreferredTaken rs labels scheme tag text

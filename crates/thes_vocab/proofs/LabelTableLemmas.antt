@@ -47,7 +47,7 @@ pub apart_by_cmp : (m n : ℕ) → m ≢ n → eq_by_cmp nat_cmp m n ≡ false
 apart_by_cmp m n apart = grind (arith, common_steps, Equal-is, exact_unsigned)
 
 module _ (q : Label) where
-  -- Rows whose first owner has number `k` have no labels of owners before it.
+  -- If the first row is that of owner `k`, the rows have no labels of owners with smaller numbers.
   none_before : (k : ℕ) (rows : LabelRows) → q.owner < k → list_any (eq_by_cmp label_cmp q) (all_owned k rows) ≡ false
   none_before k [] before = refl
   none_before k (row ∷ rows) before =
@@ -97,7 +97,7 @@ pub row_owns : (rows : LabelRows) (owner : ℕ) (o : Option (List LabelData)) �
     → MatchOption o (HasNoLabels (labels_in rows) owner) (IsRowOfOwner (labels_in rows) owner)
 row_owns rows owner o e = grind (arith, common_steps, has_label)
 
--- Writing a row at the index of an owner that has one replaces this row alone.
+-- Writing a row at the index of an owner that has one replaces only that owner's row.
 pub row_set : (rows : LabelRows) (owner i : ℕ) (now : List LabelData) → i ≡ owner → i < length rows
     → IsRowWritten rows (set_at rows i now) owner now
 row_set rows owner i now at within = record {
@@ -113,7 +113,7 @@ row_set rows owner i now at within = record {
   ]);
 }
 
--- The row at the index of an owner that has one is the owner's.
+-- The row at the index that is an owner's number is the owner's row.
 pub row_at : (rows : LabelRows) (owner i : ℕ) (row : List LabelData) → i ≡ owner → i < length rows
     → row ≡ get_or rows i row → owner_row rows owner ≡ row
 row_at rows owner i row at within is = ap (owner_row rows) (sym at)
@@ -188,7 +188,7 @@ module _ (old new : LabelRows) (count owner : ℕ) (l : LabelData) (counted : co
       (owned_label owner l)
       ∙ ap (λ b. cond b (set.len (labels_in old) - 1) (set.len (labels_in old))) (was_there ∙ sym e))
 
-  -- A set with a label isn't empty.
+  -- If the owner's row has the label, the number of all labels is at least 1.
   pub counted_one : has_own (owner_row old owner) l ≡ true → 1 ≤ count
   counted_one has = grind (arith, common_steps, set.contains-empty, set.empty_of_len, was_there)
 

@@ -1,4 +1,4 @@
--- The labels without those of a list, which are removed one by one; a vocabulary without them.
+-- Removing labels one by one removes them all, and keeps the invariant of a vocabulary.
 use Rattle.std.proofs.Common.{◌≡◌, ◌<◌, ◌+◌, ℕ, length, get_or, List, [], ◌∷◌, ◌++◌, take, map, Bool, true, false, not}
 use Rattle.std.proofs.Common.{◌&&◌, ◌||◌, refl, sym, ap, ◌∙◌}
 use Rattle.std.proofs.Math.Bool.{and-true}
@@ -37,7 +37,7 @@ remove_from_difference s t l = set.same_set labels_total labels_exact _ _ (λ q.
     ∙ sym (set.contains-difference labels_total s (set.insert t l) q
     ∙ ap (λ b. set.contains s q && not b) (set.contains-insert labels_total t l q)))
 
--- One more label of the list is removed.
+-- If the first `i` labels of the list are removed, removing the next one leaves the set without the first `i + 1`.
 pub removed_next : (s : Labels) (owner : ℕ) (ls : List LabelData) (i : ℕ) (x : LabelData) (middle new : Labels)
     → i < length ls → x ≡ get_or ls i x → middle ≡ set.difference s (labels_of_owner owner (take i ls))
     → new ≡ set.remove middle (owned_label owner x)

@@ -1,4 +1,4 @@
--- A list has a text as a lexical label exactly when one of its labels is lexical and has the text.
+-- A list has a text as a lexical label exactly when one of its labels is lexical and has this text in the language.
 use Rattle.std.proofs.lemmas.Grind.{common_steps}
 use Rattle.std.proofs.Common.{◌≡◌, ◌∙◌, List, ℕ, sym, ap, true, ◌&&◌, arith}
 use Rattle.std.specs.Prelude.{nat_eq}
@@ -19,7 +19,7 @@ text_itself : (xs : List ℕ) → pointwise nat_eq xs xs ≡ true
 text_itself xs = texts_ties xs xs ∙ ap is_eq (tied_itself nat_list_cmp_total xs)
 
 module _ (tag text : List ℕ) where
-  -- A label that passes the test has the text in the language.
+  -- A label that passes the test `is_name` is lexical and has the text in the language.
   named : (l : LabelData) → is_name tag text l ≡ true → (l ≡ own_label l.kind tag text) × (is_lexical_kind l.kind
       ≡ true)
   named l hit =

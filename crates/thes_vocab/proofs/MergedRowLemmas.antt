@@ -29,7 +29,7 @@ use Rattle.thes_vocab.proofs.OwnLabelLemmas.{data_total, label_data_of_tie, tie_
 use Rattle.thes_vocab.proofs.OwnLabelLemmas.{any_found, any_of}
 use Rattle.thes_vocab.proofs.LabelTableLemmas.{data_of, owned_tie, any_row, apart_by_cmp, has_label}
 
--- A copy of a label for the target, with its owner.
+-- Copying all labels and then giving each the target as its owner is the same as doing both label by label.
 pub as_labels : (target : ℕ) (ds : List LabelData) → map (owned_label target) (map merged_label ds)
     ≡ map (λ d. owned_label target (merged_label d)) ds
 as_labels target [] = refl
@@ -42,7 +42,7 @@ module _ {A : Type 0} (p : A → Bool) where
   pub kept_no : (x : A) (xs : List A) → p x ≡ false → filter p (x ∷ xs) ≡ filter p xs
   kept_no x xs e = ap (λ b. if b then x ∷ filter p xs else filter p xs) e
 
--- A member of the list comes from an item that passes the filter.
+-- Each member of a filtered and mapped list comes from an item that passes the filter.
 any_mapped : {A : Type 0} (cmp : A → A → Ordering) (equal_is_tie : (x : A) → eq_by_cmp cmp x x ≡ true) (p : A → Bool)
     (f : A → Label) (q : Label) (xs : List A) → list_any (eq_by_cmp label_cmp q) (map f (filter p xs)) ≡ true
     → (x : A) × (p x ≡ true) × (list_any (eq_by_cmp cmp x) xs ≡ true) × (q ≡ f x)
@@ -65,7 +65,7 @@ any_mapped cmp equal_is_tie p f q (x ∷ xs) e =
 equal_is_tie : (x : Label) → eq_by_cmp label_cmp x x ≡ true
 equal_is_tie x = ap is_eq (tied_itself labels_total x)
 
--- An item that passes the filter gives a member of the list.
+-- Each item that passes the filter gives a member of the filtered and mapped list.
 mapped_any : (p : Label → Bool) (f : Label → Label) (q l : Label) (ls : List Label) → p l ≡ true → q ≡ f l
     → list_any (eq_by_cmp label_cmp l) ls ≡ true → list_any (eq_by_cmp label_cmp q) (map f (filter p ls)) ≡ true
 mapped_any p f q l [] picks is e = e
@@ -146,7 +146,7 @@ module _ (labels : Labels) (source target : ℕ) (s13 : S13 labels) where
   abbrev set_of_copies : List LabelData → Labels
   set_of_copies own = set.from_list (map as_taken (missing_labels own))
 
-  -- Each label of the list is one of the source.
+  -- Each label of the list is a label of the source.
   abbrev AreSome : List LabelData → Type 0
   AreSome own = (d : LabelData) → has_own own d ≡ true → set.contains labels (owned_label source d) ≡ true
 
@@ -255,7 +255,7 @@ module _ (labels : Labels) (source target : ℕ) (s13 : S13 labels) where
   taken_len own are = sym (len_built own are.ordered (λ d h. sym (are.each d) ∙ h))
       ∙ ap (λ more. set.len (set.union labels more)) (copies_are own are)
 
-  -- The missing labels are those that the machine copies, and as many as they add.
+  -- The missing labels are those that the machine copies, and each of them adds one to the number of labels.
   module _ (copies : List LabelData) (missing : AreMissingLabels labels source target copies) where
     pub missing_set : labels_of_owner target copies ≡ copied_labels source target labels
     missing_set =
@@ -268,7 +268,7 @@ module _ (labels : Labels) (source target : ℕ) (s13 : S13 labels) where
         ap (λ n. set.len labels + n) (ap length missing.2 ∙ length-map (missing_labels missing.0) merged_label)
         ∙ taken_len missing.0 missing.1 ∙ ap (λ more. set.len (set.union labels more)) (sym missing_set)
 
-    -- None of the labels that the machine copies is there before.
+    -- None of the copies is among the labels before the merge.
     pub missing_new : (q : Label) → set.contains (copied_labels source target labels) q ≡ true
         → set.contains labels q ≡ true → ⊥
     missing_new q copied held =
@@ -277,7 +277,7 @@ module _ (labels : Labels) (source target : ℕ) (s13 : S13 labels) where
         ∙ ap (λ (ls : Labels). set.contains ls q) (copies_are missing.0 missing.1) ∙ copied) in
         copied_is_new found.0 found.1 (subst (λ (l : Label). set.contains labels l ≡ true) found.3 held)
 
--- The set of labels after the insertion of labels of an owner is the union with them.
+-- Inserting labels of an owner gives the union of the old set of labels with them.
 pub union_rows : (old new : LabelRows) (owner : ℕ) (inserted : List LabelData)
     → RowsAfterInsertions old new owner inserted
     → labels_in new ≡ set.union (labels_in old) (labels_of_owner owner inserted)

@@ -26,7 +26,7 @@ entry_total = then_total (on_total (λ (e : ℕ × ℕ). e.0) nat_cmp_total) (on
 entry_exact : CmpEqualImpliesEq entry_cmp
 entry_exact = exact_pairs nat_cmp nat_cmp exact_unsigned exact_unsigned
 
--- An entry that a search for another finds is that entry.
+-- An entry that a search finds is the one searched for.
 pub same_entry : (e f : ℕ × ℕ) → is_at (entry_cmp e) f ≡ true → e ≡ f
 same_entry e f at = entry_exact e f ((Equal-is (entry_cmp e f)).0 at)
 
@@ -41,7 +41,7 @@ kept_by_remove old new gone e updates apart had = grind (arith, common_steps, sa
 not_greater : (d m n : ℕ) → m ≤ n → is_gt (entry_cmp (d, m) (d, n)) ≡ false
 not_greater d m n le = grind (arith, common_steps, cases_eq)
 
--- The entries of a digest from the first possible concept to the last one have each entry of the digest.
+-- The range of entries with a digest, from the least possible concept to the greatest, has each entry with the digest.
 pub all_of_digest : (set : BTreeSet (ℕ × ℕ)) (d first last n : ℕ) → first ≤ n → n ≤ last
     → contains entry_cmp set (d, n) ≡ true → list_any (is_at (entry_cmp (d, n)))
     (keys_between entry_cmp (Included (d, first)) (Included (d, last)) set) ≡ true
@@ -53,7 +53,7 @@ all_of_digest set d first last n low high had =
     (not_greater d first n low, not_greater d n last high))) set.keys
     ∙ had
 
--- If none of the labels is a preferred one with the digest, each preferred one has another digest.
+-- If none of the labels is preferred and has the digest, each preferred label has another digest.
 pub other_digest : (own : List LabelData) (scheme digest : ℕ) (tag text : List ℕ)
     → list_any (has_digest scheme digest) own ≡ false → has_own own (own_label Pref tag text) ≡ true
     → name_digest scheme tag text ≡ digest → ⊥

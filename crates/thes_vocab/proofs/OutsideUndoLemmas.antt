@@ -1,4 +1,4 @@
--- A vocabulary is as before once the creation of an outside concept is taken back.
+-- Taking back the creation of an outside concept restores the vocabulary.
 use Rattle.std.proofs.Common.{◌≡◌, inl, inr, ℕ, ◌+◌, length, List, [], ◌∷◌, ◌++◌, refl, sym, ap, ◌∙◌, subst, true, false}
 use Rattle.std.proofs.lemmas.List.{same_from_push}
 use Rattle.std.specs.Prelude.{Some}

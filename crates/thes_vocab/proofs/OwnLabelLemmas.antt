@@ -73,7 +73,7 @@ pub found_is : (own : List LabelData) (l : LabelData) (r : Result ℕ ℕ) → I
 found_is own l (Ok i) at = sym (has_found data_cmp data_total own i l at.0 at.1)
 found_is own l (Err i) at = sym (has_missed data_cmp data_total own i l at.1 at.0)
 
--- A test that passes somewhere in a list passes for a label of it.
+-- If a test passes somewhere in a list, the list has a label that passes it.
 pub any_found : (test : LabelData → Bool) (own : List LabelData) → list_any test own ≡ true → (d : LabelData)
     × (test d ≡ true) × (has_own own d ≡ true)
 any_found test [] e = absurd (cc)
@@ -87,7 +87,7 @@ any_found test (x ∷ own) e = grind (
   any_found test own,
 )
 
--- A label of a list that passes a test is found.
+-- If a label of a list passes a test, the test passes somewhere in the list.
 pub any_of : (test : LabelData → Bool) (own : List LabelData) (d : LabelData) → test d ≡ true → has_own own d ≡ true
     → list_any test own ≡ true
 any_of test [] d hit e = e
@@ -96,13 +96,13 @@ any_of test (x ∷ own) d hit e = elim (or_cases _ _ e) [
   | inr later ↦ or_right (test x) _ (any_of test own d hit later)
 ]
 
--- A list has its last label and those before it.
+-- The members of a list are its last label and those before it.
 pub has_pushed : (own : List LabelData) (l q : LabelData) → has_own (own ++ l ∷ []) q
     ≡ (has_own own q || eq_by_cmp data_cmp q l)
 has_pushed own l q = list_any-append (eq_by_cmp data_cmp q) own (l ∷ [])
     ∙ ap (λ b. has_own own q || b) (or-false (eq_by_cmp data_cmp q l))
 
--- Moving the last label of one list into another changes no membership in one of them.
+-- Moving the last label of one list into another doesn't change which labels the two have together.
 pub has_moved : (labels rest own now : List LabelData) (l q : LabelData) → labels ≡ rest ++ l ∷ []
     → has_own now q ≡ (eq_by_cmp data_cmp q l || has_own own q)
     → (has_own rest q || has_own now q) ≡ (has_own labels q || has_own own q)
@@ -121,7 +121,7 @@ pub has_inserted : (own : List LabelData) (l : LabelData) (i : ℕ) → IsLabelP
     → has_own (insert own i l) q ≡ (eq_by_cmp data_cmp q l || has_own own q)
 has_inserted own l i at q = ap (λ xs. has_own xs q) (insert_is own l i at) ∙ has_insert data_cmp data_total own l q
 
--- Inserting a label that is in the list changes no member.
+-- Inserting a label that the list already has changes no membership.
 pub has_again : (own : List LabelData) (l : LabelData) (i : ℕ) → IsStrictlySortedBy data_cmp own
     → IsLabelPosition own l (Ok i) → (q : LabelData) → has_own own q ≡ (eq_by_cmp data_cmp q l || has_own own q)
 has_again own l i sorted at q =

@@ -1,4 +1,4 @@
--- A finite set is as before once an insertion, a removal or a union is taken back.
+-- Taking back an insertion, a removal or a union restores a finite set.
 use Rattle.std.proofs.Common.{◌≡◌, ◌∙◌, inl, inr, true, subst, sym}
 use Rattle.std.proofs.lemmas.Bool.{and_from, and_parts, both_ways, false_from_ne_true, not-true, not_from_false, or_left}
 use Rattle.std.specs.declared.cmp.Ordering.{Ordering}

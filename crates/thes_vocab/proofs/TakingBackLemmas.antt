@@ -1,4 +1,4 @@
--- A vocabulary is as before once the creation of its last resource is taken back.
+-- Taking back the creation of the last resource restores the vocabulary.
 use Rattle.std.proofs.Common.{◌≡◌, ◌≢◌, inl, inr, ℕ, ◌+◌, length, List, [], ◌∷◌, ◌++◌, refl, sym, ap, ◌∙◌, subst}
 use Rattle.std.proofs.Common.{arith, true}
 use Rattle.std.proofs.lemmas.List.{same_from_push}
@@ -64,7 +64,8 @@ module _ (tag text : List ℕ) (before after : Vocabulary) (was : IsBeforeCreati
   labels_before = insert_then_remove labels_total labels_exact before.labels label_of_last
       (λ held. apart_from_last label_of_last held refl)
 
-  -- The index of preferred labels finds all holders before the creation.
+  -- After the removal of an entry of the last resource, the index finds all holders that there were before the
+  -- creation.
   pub holders_before : (old new : Names) (o : Option ℕ) (own : List LabelData)
       → KeepsOtherNames old new o number_of_last own
       → AreHoldersIndexed with_last (set.insert before.labels label_of_last) old
@@ -76,7 +77,8 @@ module _ (tag text : List ℕ) (before after : Vocabulary) (was : IsBeforeCreati
         inserted_kept before.labels label_of_last _ h.1,
       ))
 
-  -- The index of live concepts lists those before the creation.
+  -- After the removal of the last resource's number, the index lists the live concepts that there were before the
+  -- creation.
   pub listed_before : (old new : Lists ℕ) (o : Option ℕ) → MatchOption o
       ((scheme : ℕ) → IsConceptIn scheme was.resource → ⊥) (λ scheme. IsConceptIn scheme was.resource)
       → ConceptListsAfterRemove old new o number_of_last → AreListings nat_cmp (IsConceptOf with_last) old

@@ -7,7 +7,7 @@ use Rattle.std.specs.Set.{remove_key}
 use Rattle.thes_lists.specs.declared.lists.Lists.{Lists}
 use Rattle.thes_lists.specs.Lists.{listed_at, HasSpare, HaveSameValues, ChangesOnlyAt}
 
--- The scheme's list has room for one more number without allocating; always so if no scheme is given.
+-- The scheme's list has room for one more number without allocating; true if no scheme is given.
 abbrev pub HasRoomIn : Lists ℕ → Option ℕ → Type 0
 HasRoomIn concepts None = Unit {0}
 HasRoomIn concepts (Some scheme) = HasSpare concepts scheme

@@ -11,8 +11,8 @@ use Rattle.thes_vocab.specs.declared.names.Names.{Names}
 use Rattle.thes_lists.specs.declared.lists.Lists.{Lists}
 use Rattle.thes_lists.specs.Lists.{AreListings}
 
--- The invariant of a vocabulary: resources, IRIs and labels are legal, and both indexes have all their entries: one for
--- each preferred label of a live concept, and the live concepts of each scheme.
+-- The invariant of a vocabulary: its resources, IRIs and labels are legal, the index of preferred labels has an entry
+-- for each such label of a live concept, and the other index lists exactly the live concepts of each scheme.
 pub record IsConsistentVocabulary (base : List ℕ) (resources : List Resource) (iris : Iris) (labels : Labels)
     (names : Names) (concepts : Lists ℕ) : Type 0 where
   pub legal : AreLegalResources base resources iris

@@ -13,11 +13,11 @@ use Rattle.thes_vocab.specs.OwnLabels.{data_cmp, has_own}
 abbrev pub LabelRows : Type 0
 LabelRows = List (List LabelData)
 
--- The labels of the list, as a set of labels of the owner.
+-- The set of the labels of the list, each with the owner.
 abbrev pub labels_of_owner : ℕ → List LabelData → Labels
 labels_of_owner owner own = set.from_list (map (owned_label owner) own)
 
--- The labels of rows whose first owner has number `n`, each with its owner.
+-- The labels of all rows, each with its owner, if the first row is that of owner `n`.
 abbrev pub all_owned : ℕ → LabelRows → List Label
 all_owned n [] = []
 all_owned n (row ∷ rows) = map (owned_label n) row ++ all_owned (n + 1) rows
@@ -59,12 +59,12 @@ pub record RowsAfterInsertions (old new : LabelRows) (owner : ℕ) (inserted : L
   pub own : (l : LabelData) → has_own (owner_row new owner) l ≡ (has_own inserted l || has_own (owner_row old owner) l)
   pub others : (n : ℕ) → n ≢ owner → owner_row new n ≡ owner_row old n
 
--- Each owner has the same row in both, where a missing row is the same as an empty one.
+-- Each owner has the same row in both; a missing row counts as an empty one.
 abbrev pub AreSameLabelRows : LabelRows → LabelRows → Type 0
 AreSameLabelRows old new = (n : ℕ) → owner_row new n ≡ owner_row old n
 
 -- The outcome of inserting a label for the owner: Ok with whether the label is new, and the owner then has it; or Err,
--- and each owner has the same row.
+-- and no owner's row has changed.
 pub record InsertsInRow {E : Type 0} (old new : LabelRows) (owner : ℕ) (l : LabelData) (result : Result Bool E)
     : Type 0 where
   pub answer : IfOk result (λ is_new. is_new ≡ not (has_own (owner_row old owner) l))

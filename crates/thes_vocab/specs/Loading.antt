@@ -17,7 +17,7 @@ use Rattle.thes_vocab.specs.declared.names.Names.{Names}
 use Rattle.thes_lists.specs.declared.lists.Lists.{Lists}
 use Rattle.thes_lists.specs.Lists.{AreListings}
 
--- The resources are legal, apart from the IRIs of outside concepts.
+-- The resources meet all conditions of legality except those on the IRIs of outside concepts.
 pub record AreSound (resources : List Resource) : Type 0 where
   pub few : length resources < 2 ^ 32
   pub each : (n : ℕ) (r : Resource) → entry_at resources n ≡ Some r → IsLegalResource resources n r
@@ -92,8 +92,8 @@ abbrev pub LoadLabelResult : Vocabulary → Vocabulary → Label → Bool → Ty
 LoadLabelResult old new l true = MayLoadLabel old l × (new ≡ with_labels old (set.insert old.labels l))
 LoadLabelResult old new l false = (MayLoadLabel old l → ⊥) × (new ≡ old)
 
--- The condition on which a label may be loaded, as look-ups of its owner and its text decide it. It is equivalent to
--- MayLoadLabel if the labels so far are legal.
+-- The condition for loading a label, in terms of look-ups of its owner and its text. It is equivalent to MayLoadLabel
+-- if the labels so far are legal.
 pub record IsFreeLabel (resources : List Resource) (labels : Labels) (l : Label) : Type 0 where
   pub owner : CanOwn resources l.owner
   pub new : set.contains labels l ≡ false

@@ -1,5 +1,5 @@
--- The index of preferred labels: for each preferred label of a live concept, an entry with a digest of the scheme, the
--- language and the text, and with the concept.
+-- The index of preferred labels: for each preferred label of a live concept, an entry that pairs a digest of the
+-- scheme, the language and the text with the concept.
 use Rattle.std.specs.Prelude.{◌≡◌, ◌<◌, ◌%◌, ◌^◌, ◌&&◌, ◌==◌, ℕ, List, Bool, true, Option, Some, fold, length}
 use Rattle.std.specs.declared.cmp.Ordering.{Ordering}
 use Rattle.std.specs.Ordering.{nat_cmp, ordering_then}
@@ -40,14 +40,14 @@ HasEntryInScheme names in_scheme tag text n =
 abbrev pub HasLabelEntry : Names → Option ℕ → LabelData → ℕ → Type 0
 HasLabelEntry names in_scheme l n = l.kind ≡ Pref → HasEntryInScheme names in_scheme l.tag l.text n
 
--- The new index has the entries of the old one for other concepts, and those for this concept with the preferred labels
--- of the list `own` in its scheme.
+-- The new index keeps the old entries of all other concepts, and of this concept those for the preferred labels in the
+-- list `own`, in its scheme.
 abbrev pub KeepsOtherNames : Names → Names → Option ℕ → ℕ → List LabelData → Type 0
 KeepsOtherNames old new in_scheme concept own =
     (scheme n : ℕ) (tag text : List ℕ) → (n ≡ concept → (in_scheme ≡ Some scheme) × HasOwnPreferred own tag text)
     → HasNameEntry old scheme tag text n → HasNameEntry new scheme tag text n
 
--- The test of whether the label is a preferred one with this digest in the scheme.
+-- Whether the label is preferred and has this digest in the scheme.
 abbrev pub has_digest : ℕ → ℕ → LabelData → Bool
 has_digest scheme digest l = label_kind_no l.kind == 1 && name_digest scheme l.tag l.text == digest
 

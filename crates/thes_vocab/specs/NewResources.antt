@@ -28,7 +28,7 @@ pub record AddsResource {E : Type 0} (old new after : Vocabulary) (result : Resu
   pub ok : OnOk result (new ≡ after)
   pub err : OnErr result (new ≡ old)
 
--- The checks of a new resource, followed by the remaining rule.
+-- Refuses unless the resource may be added; the rule `rest` follows.
 abbrev pub unless_new : Vocabulary → NewResource → RefusalRule → RefusalRule
 unless_new v (Scheme tag text) rest = rest
 unless_new v (Concept scheme tag text) rest =
@@ -38,7 +38,7 @@ unless_new v (Collection scheme tag text) rest = unless_scheme v.resources schem
 unless_new v (Outside iri) rest = unless_new_foreign_iri v.base v.iris iri rest
 
 -- The resource may be added with a label: it is a scheme, a concept or a collection, live and without a replacement,
--- and has a scheme unless it is one.
+-- and has a scheme unless it is a scheme itself.
 pub record IsNewOwner (resources : List Resource) (r : Resource) : Type 0 where
   pub live : r.live ≡ true
   pub replaced : r.replaced ≡ None

@@ -20,11 +20,11 @@ language_cmp x y = ordering_then (nat_cmp (label_kind_no x.kind) (label_kind_no 
 abbrev pub data_cmp : LabelData → LabelData → Ordering
 data_cmp x y = ordering_then (language_cmp x y) (slice_cmp nat_cmp x.text y.text)
 
--- A label without its owner, of a kind, a language and a text.
+-- The label with this kind, language and text, without an owner.
 abbrev pub own_label : LabelKind → List ℕ → List ℕ → LabelData
 own_label kind tag text = record { kind = kind; tag = tag; text = text }
 
--- The test of whether the label is in the list.
+-- Whether the label is in the list.
 abbrev pub has_own : List LabelData → LabelData → Bool
 has_own own l = list_any (eq_by_cmp data_cmp l) own
 

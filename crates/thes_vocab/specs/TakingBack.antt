@@ -1,4 +1,4 @@
--- A vocabulary before the creation of its last resource, or before the death of a concept, which is taken back.
+-- The vocabulary that taking back the creation of the last resource, or the death of a concept, must restore.
 use Rattle.std.specs.Prelude.{◌≡◌, ℕ, List, Option}
 use Rattle.thes_base.specs.declared.data.Resource.{Resource}
 use Rattle.thes_base.specs.Legal.{AreLegalResources, AreLegalLabels}
@@ -19,8 +19,8 @@ pub record IsBeforeOutside (iri : List ℕ) (before after : Vocabulary) : Type 0
   pub named : AreLegalLabels before.resources before.labels
   pub created : after ≡ vocabulary_of before.base (state_after_outside iri (bare_state before))
 
--- The vocabulary `before` is legal, and the death of its live concept, with its replacement if it was merged, turns it
--- into `after`.
+-- The vocabulary `before` is legal and has the live concept `n`, whose death, with a replacement if it was merged,
+-- turns it into `after`.
 pub record IsBeforeDeath (n : ℕ) (replaced : Option ℕ) (before after : Vocabulary) : Type 0 where
   pub legal : AreLegalResources before.base before.resources before.iris
   pub named : AreLegalLabels before.resources before.labels

@@ -17,7 +17,7 @@ pub record Vocabulary : Type 0 where
   pub iris : Iris
   pub labels : Labels
 
--- The vocabulary of these parts.
+-- The vocabulary with this base, and these resources, IRIs and labels.
 abbrev pub vocabulary_from : List ℕ → List Resource → Iris → Labels → Vocabulary
 vocabulary_from base resources iris labels =
     record { base = base; resources = resources; iris = iris; labels = labels }
@@ -54,7 +54,7 @@ pub record IsLiveOwner (resources : List Resource) (n : ℕ) : Type 0 where
   pub can : CanOwn resources n
   pub live : IsLive resources n
 
--- A replacement for the concept may be recorded: another live concept of its scheme, or none.
+-- The replacement may be recorded for the concept: it is none, or another live concept of the same scheme.
 abbrev pub IsReplacement : List Resource → ℕ → Option ℕ → Type 0
 IsReplacement resources n None = Unit {0}
 IsReplacement resources n (Some m) = (m ≢ n) × IsLiveConcept resources m

@@ -21,7 +21,8 @@ use thes_base::number::ResNo;
 use thes_base::text::{Iri, Tag, Text};
 
 impl Vocab {
-    /// Adds a scheme, or a resource that its check allows, and returns its number, the next one.
+    /// Adds a scheme, or another resource that passes its check, and returns its number, which is
+    /// the next one.
     pub fn add_resource(&mut self, new: NewResource) -> Result<ResNo, AllocError>
         requires allowed { unless_new self.old new accepted None }
         requires room { length self.old.resources + 1 < 2 ^ 32 }
@@ -175,8 +176,8 @@ impl Vocab {
         };
     }
 
-    /// Checks whether the label is lexical (preferred, alternative or hidden) and the target lacks
-    /// its text in the language.
+    /// Checks whether the label is lexical (preferred, alternative or hidden) and the target has no
+    /// lexical label with its text and language.
     pub fn lacks_name(&self, target: ResNo, label: &Label) -> bool
         ensures { result ≡ lacks_name self.now.labels target label.now }
     {
@@ -220,7 +221,7 @@ impl Vocab {
         Ok(n)
     }
 
-    // Adds an outside concept with an IRI that no other has.
+    // Adds an outside concept with a new IRI that doesn't begin with the base.
     fn add_outside(&mut self, iri: Iri) -> Result<ResNo, AllocError>
         requires foreign { BeginsWith iri self.old.base → ⊥ }
         requires free { (n : ℕ) → dict.get self.old.iris n ≢ Some iri }

@@ -21,8 +21,8 @@ use thes_base::number::ResNo;
 use thes_base::text::{Iri, Tag, Text};
 
 impl Vocab {
-    /// Checks whether a concept with this preferred label may be added: whether its scheme exists,
-    /// and no live concept there has the label.
+    /// Checks whether a concept with this preferred label may be added: whether the number is that
+    /// of a scheme in which no live concept has the label.
     pub fn check_concept(&self, scheme: ResNo, tag: &Tag, text: &Text) -> Option<Refusal>
         ensures { unless_new self.now
             (new_resource.Concept scheme tag.now text.now) accepted result }
@@ -39,7 +39,7 @@ impl Vocab {
         None
     }
 
-    /// Checks whether a collection may be added: whether its scheme exists.
+    /// Checks whether a collection may be added: whether the number is that of a scheme.
     pub fn check_collection(&self, scheme: ResNo) -> Option<Refusal>
         ensures { unless_scheme self.now.resources scheme accepted result }
     {
@@ -52,8 +52,8 @@ impl Vocab {
         None
     }
 
-    /// Checks whether an outside concept may be added: whether its IRI is new, and doesn't begin
-    /// with the base.
+    /// Checks whether an outside concept may be added: whether its IRI doesn't begin with the base
+    /// (or else `WrongKind`), and is new (or else `OutsideKnown`).
     pub fn check_outside(&self, iri: &Iri) -> Option<Refusal>
         ensures { unless_new_foreign_iri self.now.base self.now.iris iri.now accepted result }
     {
@@ -90,8 +90,8 @@ impl Vocab {
         None
     }
 
-    // Checks whether a new label would break SKOS S13, since its owner would have the text under
-    // two lexical kinds.
+    // Checks whether a new label would break SKOS S13, by giving its owner the text in the language
+    // under two lexical kinds.
     fn breaks_s13(&self, owner: ResNo, label: &Label) -> bool
         requires { set.contains self.now.labels (owned_label owner label.now) ≡ false }
         ensures { let after = set.insert self.now.labels (owned_label owner label.now) in
@@ -103,8 +103,8 @@ impl Vocab {
                 .has_lexical_label(owner, &label.tag, label.text())
     }
 
-    // Checks whether a new label would break SKOS S14, since its owner would have two preferred
-    // labels in a language.
+    // Checks whether a new label would break SKOS S14, by giving its owner two preferred labels in
+    // a language.
     fn breaks_s14(&self, owner: ResNo, label: &Label) -> bool
         requires { set.contains self.now.labels (owned_label owner label.now) ≡ false }
         ensures { let after = set.insert self.now.labels (owned_label owner label.now) in
@@ -126,8 +126,8 @@ impl Vocab {
         }
     }
 
-    /// Checks whether a label may be removed from a live owner: whether it is there, and isn't the
-    /// last preferred one.
+    /// Checks whether a label may be removed from a live owner: whether the owner has it, and it
+    /// isn't the owner's only preferred label.
     pub fn check_drop(&self, owner: ResNo, label: &Label) -> Option<Refusal>
         requires { IsLiveOwner self.now.resources owner }
         ensures { unless_droppable self.now.labels (owned_label owner label.now) accepted result }
@@ -145,7 +145,7 @@ impl Vocab {
     }
 
     /// Checks whether the text may replace the live owner's preferred label in the language:
-    /// whether there is one, and the text breaks neither S13 nor the uniqueness of preferred
+    /// whether the owner has one, and the text breaks neither S13 nor the uniqueness of preferred
     /// labels. If `keep` is true, the old one would stay as an alternative label.
     pub fn check_relabel(&self, owner: ResNo, tag: &Tag, text: &Text, keep: bool) -> Option<Refusal>
         requires { IsLiveOwner self.now.resources owner }

@@ -62,7 +62,7 @@ impl IriTable {
         self.numbers.get(iri).copied()
     }
 
-    // Inserts an IRI under a number, both of them new, in both directions or in neither.
+    // Inserts a new IRI under a new number, in both directions; if memory runs out, in neither.
     pub(crate) fn insert(&mut self, n: ResNo, iri: Iri) -> Result<(), AllocError>
         requires number { dict.get self.old n ≡ None }
         requires iri { (m : ℕ) → dict.get self.old m ≢ Some iri }

@@ -157,7 +157,7 @@ impl LabelTable {
         }
     }
 
-    // Removes these labels, as far as the owner has them.
+    // Removes those of the labels that the owner has.
     pub(crate) fn remove_all(&mut self, owner: ResNo, labels: &[Label])
         ensures { self.new ≡ set.difference self.old (labels_of_owner owner labels.now) }
     {
@@ -173,8 +173,8 @@ impl LabelTable {
         self.remove(owner, label.kind(), &label.tag, label.text());
     }
 
-    // Replaces the owner's preferred label `old` in the language of the name by the name; keeps the
-    // old one as an alternative label if `keep` is true.
+    // Replaces the owner's preferred label `old` by the name, in the name's language; keeps the old
+    // one as an alternative label if `keep` is true.
     pub(crate) fn rename(
         &mut self,
         owner: ResNo,
@@ -211,7 +211,7 @@ impl LabelTable {
         self.insert_value(owner, tag, value)
     }
 
-    // Inserts a label of the owner with a copy of the tag.
+    // Inserts a label of the owner, with a copy of the tag and the given value.
     fn insert_value(&mut self, owner: ResNo, tag: &Tag, value: LabelValue) -> Result<(), AllocError>
         ensures ok { OnOk result (self.new ≡
             set.insert self.old
@@ -242,7 +242,7 @@ impl LabelTable {
     }
 }
 
-// Returns the owner's row, at the index that is its number.
+// Returns the owner's row, which is at the index `owner`, or None if there is none.
 fn row_of(rows: &[OwnerRow], owner: ResNo) -> Option<&OwnerRow>
     ensures { option_copied result ≡ slice_get rows.now owner }
 {
@@ -284,7 +284,7 @@ fn open_row(rows: &mut Vec<OwnerRow>, alloc: Global, owner: ResNo) -> Result<(),
     Ok(())
 }
 
-// Inserts labels into their owner's row.
+// Inserts labels into their owner's row; if memory runs out, inserts none.
 fn put_all(
     rows: &mut Vec<OwnerRow>,
     alloc: Global,
@@ -299,7 +299,7 @@ fn put_all(
     insert_all_in_row(rows, owner, labels)
 }
 
-// Inserts labels into the row of an owner that has one.
+// Inserts labels into the row of an owner that has one; if memory runs out, inserts none.
 fn insert_all_in_row(
     rows: &mut Vec<OwnerRow>,
     owner: ResNo,

@@ -81,8 +81,8 @@ impl VocabLoad {
         self.resources.as_slice()
     }
 
-    /// Adds the IRI of an outside concept; returns false if the IRI isn't new or begins with the
-    /// base, or the number isn't that of an outside concept without one.
+    /// Adds the IRI of an outside concept. Returns false, and changes nothing, if the IRI isn't new
+    /// or begins with the base, or the number isn't that of an outside concept without an IRI.
     pub fn take_iri(&mut self, n: ResNo, iri: Iri) -> Result<bool, AllocError>
         ensures { IfOk result (LoadIriResult self.old self.new n iri) }
     {
@@ -110,8 +110,8 @@ impl VocabLoad {
         let _ = &self.alloc;
     }
 
-    /// Adds a label; returns false if its owner already has it or can't have labels, or it would
-    /// break S13, S14 or the uniqueness of preferred labels.
+    /// Adds a label. Returns false, and changes nothing, if its owner already has it or can't have
+    /// labels, or it would break S13, S14 or the uniqueness of preferred labels.
     pub fn take_label(&mut self, owner: ResNo, label: Label) -> Result<bool, AllocError>
         ensures { IfOk result (LoadLabelResult self.old self.new (owned_label owner label)) }
     {
@@ -221,8 +221,8 @@ fn have_iris(resources: &[Resource], iris: &IriTable) -> bool
     true
 }
 
-// Checks whether the label may be added to those loaded so far: its owner can have labels and lacks
-// this one, and it breaks none of S13, S14 and the uniqueness of preferred labels.
+// Checks whether the label may be added to those loaded so far: whether its owner can have labels
+// and lacks this one, and it breaks none of S13, S14 and the uniqueness of preferred labels.
 fn is_free_label(
     resources: &[Resource],
     labels: &LabelTable,

@@ -35,9 +35,9 @@ pub(crate) struct LabelledConcept<'a> {
     pub(crate) labels: &'a [Label],
 }
 
-// For each preferred label of a live concept, an entry with a digest of the scheme, the language
-// and the text, and the concept. A look-up checks the labels of the concepts under a digest, so
-// further entries do no harm.
+// The index of preferred labels: for each preferred label of a live concept, an entry with a digest
+// of the scheme, the language and the text, and the concept. A look-up checks the labels of the
+// concepts under a digest, so superfluous entries do no harm.
 #[derive(Drop)]
 pub(crate) struct Names {
     entries: BTreeSet<(u32, ResNo)>,
@@ -97,7 +97,7 @@ impl Names {
         }
     }
 
-    // Returns the entries with the digest.
+    // Returns the entries with the digest, in ascending order of their concepts.
     fn with_digest(&self, digest: u32) -> Range<'_, (u32, ResNo)>
         ensures { (n : ℕ) → IsNumber n → contains entry_cmp self.now.entries (digest, n) ≡ true
             → list_any (is_at (entry_cmp (digest, n))) result ≡ true }
@@ -107,7 +107,7 @@ impl Names {
         self.entries.range(first..=last)
     }
 
-    // Adds an entry for the concept, if the label is preferred and there is a scheme.
+    // Adds an entry for the concept, if the label is preferred and a scheme is given.
     pub(crate) fn put_label(
         &mut self,
         scheme: Option<ResNo>,
@@ -141,7 +141,7 @@ impl Names {
         Ok(())
     }
 
-    // Adds an entry for the concept with the preferred label, if there is a scheme.
+    // Adds an entry for the concept with the preferred label, if a scheme is given.
     pub(crate) fn put(
         &mut self,
         scheme: Option<ResNo>,
@@ -174,7 +174,7 @@ impl Names {
         Ok(())
     }
 
-    // Removes the entry for a label that the concept doesn't have, if there is a scheme, unless one
+    // Removes the entry for a label that the concept doesn't have, if a scheme is given, unless one
     // of the concept's preferred labels has the same digest.
     pub(crate) fn forget(
         &mut self,
@@ -224,21 +224,21 @@ fn is_held(
         && labels.contains(n, LabelKind::Pref, name.tag, name.text.as_str())
 }
 
-// Checks whether one of the labels is a preferred one with the digest in the scheme.
+// Checks whether one of the labels is preferred and has the digest in the scheme.
 fn is_digest_of_one(own: &[Label], scheme: ResNo, digest: u32) -> bool
     ensures { result ≡ list_any (has_digest scheme digest) own.now }
 {
     own.iter().any(|label| has_digest(label, scheme, digest))
 }
 
-// Checks whether the label is a preferred one with the digest in the scheme.
+// Checks whether the label is preferred and has the digest in the scheme.
 fn has_digest(label: &Label, scheme: ResNo, digest: u32) -> bool
     ensures { result ≡ has_digest scheme digest label.now }
 {
     label.kind().number() == 1 && name_digest(scheme, &label.tag, label.text()) == digest
 }
 
-// Returns a 32-bit digest of a preferred label in a scheme.
+// Returns a 32-bit digest of a preferred label in a scheme; different labels may share one.
 #[tactic(auto, unfolding(crate::specs::NameIndex::name_digest))]
 fn name_digest(scheme: ResNo, tag: &Tag, text: &str) -> u32
     ensures { result ≡ name_digest scheme tag.now text.now }

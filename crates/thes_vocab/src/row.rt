@@ -135,8 +135,8 @@ impl OwnerRow {
         }
     }
 
-    // Checks whether the row has two different preferred labels. They come first in the row, so the
-    // second label decides.
+    // Checks whether the row has two different preferred labels. Preferred labels come first in a
+    // row, so the second label decides.
     #[tactic(auto, using(crate::proofs::OwnLabelLemmas::two_preferred))]
     pub(crate) fn has_two_preferred(&self) -> bool
         ensures { IsTrue result ↔ HasTwoOwnPreferred self.now }
@@ -148,23 +148,24 @@ impl OwnerRow {
     }
 }
 
-// Checks whether one of the labels is a preferred, alternative or hidden one with the text in the
-// language.
+// Checks whether one of the labels is lexical (preferred, alternative or hidden) and has this
+// language and text.
 fn has_name(labels: &[Label], tag: &Tag, text: &str) -> bool
     ensures { result ≡ list_any (is_name tag.now text.now) labels.now }
 {
     labels.iter().any(|label| is_name(label, tag, text))
 }
 
-// Checks whether the label is a preferred, alternative or hidden one with the text in the language.
+// Checks whether the label is lexical (preferred, alternative or hidden) and has this language and
+// text.
 fn is_name(label: &Label, tag: &Tag, text: &str) -> bool
     ensures { result ≡ is_name tag.now text.now label.now }
 {
     label.text() == text && label.tag == *tag && label.kind() != LabelKind::Scope
 }
 
-// Inserts a label at an index. A full row grows by two labels and a quarter, since most owners have
-// few labels, and the first label gets room for itself alone, since many have no other.
+// Inserts a label at an index. An empty row gets room for one label, since many owners have no
+// other; a full row grows by two labels and a quarter of its length, since most owners have few.
 fn insert_at(labels: &mut Vec<Label>, place: usize, label: Label) -> Result<(), AllocError>
     requires { place ≤ length labels.old.items }
     ensures ok { OnOk result (labels.new.items ≡ insert labels.old.items place label) }

@@ -16,7 +16,7 @@ use thes_base::number::ResNo;
 use thes_base::text::{Iri, Tag, Text};
 
 impl Vocab {
-    /// Takes back the creation of the last resource with its preferred label; never fails.
+    /// Takes back the creation of the last resource and of its preferred label; never fails.
     pub fn take_back_named(&mut self, tag: &Tag, text: &Text)
         requires { (before : Vocabulary) × IsBeforeCreation tag.now text.now before self.old }
         ensures { (before : Vocabulary) → IsBeforeCreation tag.now text.now before self.old
@@ -38,8 +38,7 @@ impl Vocab {
         self.names.forget(scheme, tag, text.as_str(), &concept);
     }
 
-    /// Takes back the creation of the last resource, an outside concept with this IRI; it can't
-    /// fail.
+    /// Takes back the creation of the last resource, an outside concept with this IRI; never fails.
     pub fn take_back_outside(&mut self, iri: &Iri)
         requires { (before : Vocabulary) × IsBeforeOutside iri.now before self.old }
         ensures { (before : Vocabulary) → IsBeforeOutside iri.now before self.old
@@ -52,8 +51,8 @@ impl Vocab {
         self.iris.remove(n, iri);
     }
 
-    /// Takes back that a concept was marked as dead: it is live again, and has no replacement. If
-    /// memory runs out, nothing changes.
+    /// Takes back the death of a concept: it is live again, and has no replacement. If memory runs
+    /// out, nothing changes.
     pub fn take_back_death(&mut self, n: ResNo) -> Result<(), AllocError>
         requires { (before : Vocabulary) × (replaced : Option ℕ)
             × IsBeforeDeath n replaced before self.old }
@@ -65,7 +64,7 @@ impl Vocab {
         let dead = self.resources[place];
         let concept = Resource::new(dead.kind, dead.scheme);
         concepts::make_room(&mut self.concepts, &concept)?;
-        // The index may have lost the names of a dead concept.
+        // The index needn't have entries for the labels of a dead concept.
         let own = self.labels.of_owner(n);
         self.names.put_all(&concept, own, n)?;
         concepts::insert(&mut self.concepts, &concept, n);
@@ -73,7 +72,8 @@ impl Vocab {
         Ok(())
     }
 
-    /// Removes these labels of an owner; those that are left must be legal. Never fails.
+    /// Removes these labels of an owner, as when a merge is taken back; the labels that are left
+    /// must be legal. Never fails.
     pub fn drop_labels(&mut self, owner: ResNo, labels: &[Label])
         requires { AreLegalLabels self.old.resources
             (set.difference self.old.labels (labels_of_owner owner labels.now)) }

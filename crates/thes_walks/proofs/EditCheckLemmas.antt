@@ -1,4 +1,4 @@
--- The checks at the pivot find what the links after the edit break.
+-- The checks at the pivot find the first rule that the links after the edit break.
 use Rattle.std.proofs.Common.{◌≡◌, ◌≢◌, ◌+◌, ◌⊎◌, inl, inr, ℕ, List, ◌∷◌, ◌++◌, length, ap, sym, subst, ◌∙◌, arith}
 use Rattle.std.proofs.Common.{refl, Contains, Option, length-append}
 use Rattle.std.proofs.lemmas.List.Elements.{Contains-append_left, Contains-append_right, Contains-append_cases}
@@ -22,7 +22,7 @@ module _ (held : Links) (new : Link) (two : new.a ≢ new.b) (all_two : HaveTwoE
   with_two l (inl has) = all_two l has
   with_two l (inr same) = λ ends. two (ap (λ (w : Link). w.a) same ∙ ends ∙ sym (ap (λ (w : Link). w.b) same))
 
-  -- The links after the addition without an end at the first end of the new link break no rule, since they were held
+  -- After the addition, the links without an end at the first end of the new link break no rule, since they were held
   -- before.
   with_away : BreakNone (HeldAwayFrom (HeldAfter (WithLink new) held) new.a)
   with_away = BreakNone-within (HeldAwayFrom (HeldAfter (WithLink new) held) new.a) (Holds held) old legal

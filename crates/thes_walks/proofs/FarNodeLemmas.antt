@@ -1,4 +1,5 @@
--- A link on the side of a relation leads to its other end in this relation, after an edit to the node that replaces it.
+-- A link on the side of a relation leads in this relation to its other end, or, after an edit, to the node that
+-- replaces that end.
 use Rattle.std.proofs.lemmas.Grind.{common_steps}
 use Rattle.std.proofs.Common.{◌≡◌, ◌⊎◌, ◌==◌, inl, inr, ℕ, Bool, true, false, Some, None, refl, sym, ap, subst, ◌∙◌}
 use Rattle.std.proofs.Common.{arith}
@@ -21,7 +22,7 @@ use Rattle.thes_links.proofs.NumberLemmas.{same_of, other_of}
 use Rattle.thes_links.proofs.StepLemmas.{step_from_Leads}
 use Rattle.thes_walks.specs.SideSearch.{other_end, far_node_after, step_after_edit}
 
--- A link with an end at n, followed in a direction in which it leads from n.
+-- A link with an end at n leads from n to its other end, if it is followed in this direction.
 abbrev LeadsToOther : Direction → (a b n : ℕ) → Type 0
 LeadsToOther d a b n = LinkLeads d a b n (if a == n then b else a)
 
@@ -78,7 +79,7 @@ lead_of_side relation.Related walked l n ends is = beside_lead l.a l.b n ends l.
 lead_of_side relation.Exact walked l n ends is = alike_lead l.a l.b n ends l.kind is
 lead_of_side relation.Apart walked l n ends is = absurd walked
 
--- A link still leads from a node to another after all ends are replaced.
+-- A link still leads from one node to another after its ends and both nodes are replaced alike.
 lead_replaced : (f : ℕ → ℕ) (d : Direction) (a b x y : ℕ) → LinkLeads d a b x y → LinkLeads d (f a) (f b) (f x) (f y)
 lead_replaced f Forward a b x y (e, g) = (ap f e, ap f g)
 lead_replaced f Backward a b x y (e, g) = (ap f e, ap f g)
@@ -86,7 +87,7 @@ lead_replaced f Either a b x y (inl (e, g)) = inl (ap f e, ap f g)
 lead_replaced f Either a b x y (inr (e, g)) = inr (ap f e, ap f g)
 lead_replaced f Never a b x y h = absurd h
 
--- After a merge the far node is the node itself exactly when both ends of the link are.
+-- After a merge the other end is the node itself exactly when both ends of the link have become one node.
 far_itself : (s t : ℕ) (l : Link) (n : ℕ) → HasEnd n l → (redirect s t (other_end n l) == redirect s t n)
     ≡ (redirect s t l.a == redirect s t l.b)
 far_itself s t l n ends = grind (arith, common_steps, same_of, other_of)

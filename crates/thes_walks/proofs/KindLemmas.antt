@@ -138,7 +138,8 @@ module _ (Held : Link → Type 0) (new : Link) where
         (Chain-one (IsNarrower WithLink) low high new_step))
         (up_with high y from)
 
-    -- The rule that a link from the low end up to the high one breaks is the first that the new links break.
+    -- The rule that a link from the low end up to the high one breaks is the first that the links with the new one
+    -- break.
     pub IsFirstOfCycleAndS27-between : related_direction new.kind ≡ Never → NoCycle Held → S27 Held
         → (r : Option Refusal)
         → IsBrokenBetween Held low high r → IsFirstOfCycleAndS27 WithLink r
@@ -240,7 +241,7 @@ module _ (Held : Link → Type 0) (new : Link) where
                   (inr (subst (λ (w : ℕ). IsBelow Held new.b w) (sym a)
                   (subst (λ (w : ℕ). IsBelow Held w y) (sym b) above)))
 
--- Assumes that the new link leads up from one of its ends.
+-- A new link that leads up from one of its ends leads up only from there, to its other end.
 module _ (new : Link) where
   pub only_up : broader_direction new.kind ≡ Forward → (x y : ℕ) → LinkLeads (broader_direction new.kind) new.a new.b
       x y → (new.a ≡ x) × (new.b ≡ y)
@@ -307,7 +308,7 @@ module _ (Held : Link → Type 0) (new : Link) (two : new.a ≢ new.b) (legal : 
           related x (related_turns Held x new.b (subst (λ (w : ℕ). IsRelated Held x w) (sym same) one))
       pair x y to (inr chain) one = no_chain_from Held new.b y up_on chain
 
--- A new link that no rule concerns breaks none.
+-- A new link of a kind that has no part in any relation breaks no rule.
 pub unbroken_loose : (Held : Link → Type 0) (new : Link) → BreakNone Held → broader_direction new.kind ≡ Never
     → related_direction new.kind ≡ Never → exact_direction new.kind ≡ Never → disjoint_direction new.kind ≡ Never
     → BreakNone (WithLink Held new)

@@ -23,7 +23,7 @@ module _ (held : Links) (source target : ℕ) (two : source ≢ target) where
   off e = two (sym e)
 
   module _ (relation : Relation) (walked : IsOneSided relation) (two_ends : HaveTwoEnds (Holds held)) where
-    -- After a merge the target leads only to nodes to which the source or the target led before it.
+    -- After a merge, each step from the target is made by a link held at the target or at the source.
     pub Steps-target : (y : ℕ) → Steps relation (HeldAfter (AfterMerge source target) held) target y
         → LeadsFrom (AfterMerge source target) held relation target target y ⊎ LeadsFrom (AfterMerge source target)
         held relation source target y

@@ -14,7 +14,7 @@ use Rattle.thes_walks.specs.EditChecks.{IsChanged, CoversEdit}
 use Rattle.thes_links.proofs.NormLemmas.{IsEntailedBy, IsEntailedBy-itself, above_to, exact_to}
 use Rattle.thes_links.proofs.ContractLemmas.{inserted_to, would_to}
 
--- Nodes that are near one another by some links are also near by links that entail the same relations.
+-- If a node is near another by some links, it is also near by other links that entail the same relations.
 near_to : (Would After : Link → Type 0) → ((l : Link) → Would l → (m : Link) × After m × IsEntailedBy l m) → (p n : ℕ)
     → IsNearPivot Would p n
     → (n ≡ p) ⊎ IsBelow After p n ⊎ IsBelow After n p ⊎ IsExactMatch After p n

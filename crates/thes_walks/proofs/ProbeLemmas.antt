@@ -1,4 +1,4 @@
--- The checks at the pivot decide the rules there, and read only links near the pivot.
+-- The checks at the pivot decide whether a rule is broken there, and read only links near the pivot.
 use Rattle.std.proofs.Common.{◌≡◌, ◌⊎◌, inl, inr, ℕ, List, [], ◌∷◌, sym, subst, refl, Some}
 use Rattle.thes_base.specs.declared.data.Link.{Link}
 use Rattle.thes_base.specs.declared.data.Direction.{Direction}
@@ -13,7 +13,7 @@ use Rattle.thes_base.specs.declared.fault.Refusal.TheVariants as no
 use Rattle.thes_links.specs.declared.relation.Relation.TheVariants.{Narrower, Exact}
 use Rattle.thes_links.proofs.PivotLemmas.{Reaches-turn, Leads-two}
 
--- A path ends with a step.
+-- Each path ends with a step to its last node.
 module _ (S : ℕ → ℕ → Type 0) where
   pub Path-last : (x : ℕ) (ms : List ℕ) (z : ℕ) → Path S x ms z → (y : ℕ) × Reaches S x y × S y z
   Path-last x [] z one = (x, inl refl, one)

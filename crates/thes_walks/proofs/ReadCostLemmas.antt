@@ -58,7 +58,7 @@ unless : (e : Bool) (s k : ℕ) → s ≢ k → ◌≡◌ {A = ℕ} (if e && (s 
 unless true s k differ = grind arith
 unless false s k differ = omega arith
 
--- If neither of two sides has the rank k, the one that `if_either` chooses hasn't this rank.
+-- If neither of two sides has the rank k, the one that `if_either` chooses doesn't have this rank.
 level_side : (d : Direction) (x y : Side) (k : ℕ) → side_no x ≢ k → side_no y ≢ k → side_no (if_either d x y) ≢ k
 level_side Forward x y k one other = other
 level_side Backward x y k one other = other
@@ -113,7 +113,7 @@ down_one Never r e a b = omega (
       (level_down r e),
 )
 
--- A link lies on the side of a hierarchical relation at no more than one of its ends.
+-- In a hierarchical relation (broader or narrower), a link lies on the relation's side at no more than one of its ends.
 on_foot : (relation : Relation) → IsHierarchy relation → (l : Link) → (p : ℕ)
     × ((n : ℕ) → one_on_side n (side_in relation) l ≤ one_at p n)
 on_foot Broader walked l = (
@@ -157,7 +157,7 @@ module _ (source target : ℕ) where
   weight_source : (side : Side) (l : Link) → link_visits (AfterMerge source target) source side l ≡ 0
   weight_source side l = grind (arith, common_steps)
 
-  -- After a merge a link lies on the side of a hierarchical relation at no more than one node.
+  -- After a merge, a link still lies on the side of a hierarchical relation at no more than one node.
   merged_one : (n : ℕ) (side : Side) (l : Link) (p : ℕ) → ((m : ℕ) → one_on_side m side l ≤ one_at p m)
       → link_visits (AfterMerge source target) n side l ≤ one_at (node_after (AfterMerge source target) p) n
   merged_one n side l p at =

@@ -89,7 +89,7 @@ module _ (f : Link → Option ℕ) (row : List Link) where
   pub LeadsWithin-to : (from i j y : ℕ) → i - from ≤ j - from → Within from i y → Within from j y
   LeadsWithin-to from i j y in_range (k, l, low, high, at, leads) = (k, l, low, omega arith, at, leads)
 
-  -- Assumes the range of a side, whose links are exactly those on it.
+  -- Assumes that the range of the node's row has exactly the links on the side of the relation.
   module _ (edit : LinkEdit) (relation : Relation) (x : ℕ) (held : Links) (at : ℕ) (part : Part)
       (is_row : IsRow held at row) (is_part : IsPart row at (side_in relation) part)
       (same : (l : Link) → HasEnd at l → side_at at l ≡ side_in relation → f l ≡ step_after_edit edit relation x l)
@@ -160,7 +160,7 @@ module _ (held : Links) (relation : Relation) where
         (new, inr refl, Leads-from_step (direction_of relation new.kind) new.a new.b x y leads)
 
     module _ (source target : ℕ) where
-      -- A link that leads from x after a merge led before it from x, or from the source if x is the target.
+      -- A link that leads from x after a merge led from x before the merge, or from the source if x is the target.
       lead_back : (d : Direction) (a b x y : ℕ) → LinkLeads d (node_after (AfterMerge source target) a)
           (node_after (AfterMerge source target) b) x y
           → (at : ℕ) × (z : ℕ) × (node_after (AfterMerge source target) at ≡ x) × LinkLeads d a b at z
@@ -183,7 +183,7 @@ module _ (held : Links) (relation : Relation) where
           (back.0, back.1, back.2, (l, has, back.3))
 
       -- If no link leads from a node before a merge, and none from the source if the node is the target, then none
-      -- leads from the node after it.
+      -- leads from the node after the merge.
       pub Steps-merged_none : (x : ℕ) → ((z : ℕ) → Steps relation (Holds held) x z → ⊥)
           → (x ≡ target → (z : ℕ) → Steps relation (Holds held) source z → ⊥)
           → (y : ℕ) → Steps relation (HeldAfter (AfterMerge source target) held) x y → ⊥
@@ -199,7 +199,8 @@ module _ (held : Links) (relation : Relation) where
               ⊎ (node_after (AfterMerge source target) n ≡ n)
           at_cases n = grind arith
 
-      -- After a merge each step from a node is that of a held link at it, or at the source if it is the target.
+      -- After a merge, each step from a node is that of a link held at the node, or at the source if the node is the
+      -- target.
       pub Steps-merged : (x y : ℕ) → Steps relation (HeldAfter (AfterMerge source target) held) x y
           → (at : ℕ) × (node_after (AfterMerge source target) at ≡ x) × LeadsFrom (AfterMerge source target) held
           relation at x y

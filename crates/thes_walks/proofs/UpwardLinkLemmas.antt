@@ -1,5 +1,5 @@
 -- Two alternating searches, up from the high node and down from the low one, find what a link up would break. They make
--- at most four visits for each link near it.
+-- at most four visits for each link at a node that one of them can reach.
 use Rattle.std.proofs.Common.{◌≡◌, ◌+◌, ◌-◌, ◌*◌, ◌≤◌, inl, inr, ℕ, List, [], ◌∷◌, length, arith}
 use Rattle.std.proofs.Common.{Contains, Bool, true, false, Option, Some, None, ap, take, get_or}
 use Rattle.std.proofs.lemmas.List.{take_all}
@@ -114,7 +114,7 @@ module _ (edit : LinkEdit) (held : Links) where
   chain_down : (low high : ℕ) → IsBelow Would high low → Chain (Steps Narrower Would) low high
   chain_down low high = Chain-turn (IsNarrower Would) (Steps Narrower Would) (narrower_to Would low) high low
 
-  -- Assumes that the search up is done, and the search down is finished.
+  -- Assumes that the search up is done: the result of the search down then decides what the link breaks.
   module _ (low high : ℕ) (up down : SideSearch) (a : ℕ) (done : length up.nodes ≤ up.next)
       (is : IsSideSearch edit held Broader (low ∷ []) high up a) where
     off_up : IsBelow Would high low → ⊥
@@ -145,7 +145,7 @@ module _ (edit : LinkEdit) (held : Links) where
     )
     broken_up (Some _) h = absurd h
 
-  -- Assumes that the search down is done, and the search up is finished.
+  -- Assumes that the search down is done: the result of the search up then decides what the link breaks.
   module _ (low high : ℕ) (down : SideSearch) (b : ℕ) (done : length down.nodes ≤ down.next)
       (is : IsSideSearch edit held Narrower (high ∷ []) low down b) where
     off_down : IsBelow Would high low → ⊥

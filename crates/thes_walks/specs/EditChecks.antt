@@ -1,4 +1,4 @@
--- What the check of an edit needs, its answer, and the links near the edit, whose number bounds the visits.
+-- The premises of the check of an edit, its answer, and the links near the edit, whose number bounds the visits.
 use Rattle.std.specs.Prelude.{◌≡◌, ◌≢◌, ◌⊎◌, ◌+◌, ◌*◌, ◌≤◌, ℕ, Bool, List, Contains, Option, length}
 use Rattle.std.specs.FinSet.{insert}
 use Rattle.thes_base.specs.declared.data.Direction.TheVariants.{Never}
@@ -14,12 +14,13 @@ use Rattle.thes_links.specs.declared.edit.LinkEdit.TheVariants.{NoEdit, WithLink
 use Rattle.thes_links.specs.LinkEdit.{HeldAfter}
 use Rattle.thes_links.specs.Local.{AreSoundWith, BreakNone, CoversNear, IsFirstOfCycleAndS27, IsNearPivot}
 
--- The premise of the check of a link or a merge of two nodes: they differ, and the links held break no rule.
+-- The premise of the check of a new link between two nodes, or of their merge: the nodes differ, and the links held
+-- break no rule.
 pub record AreJoinable (held : Links) (a b : ℕ) : Type 0 where
   pub ends : a ≢ b
   pub unbroken : BreakNone (Holds held)
 
--- The links held and the new one are sound, and the new one is neither broader nor narrower.
+-- The premise of the check of a new link that leads neither up nor down: it and the links held are sound.
 pub record AreSoundWithLevel (held : Links) (new : Link) : Type 0 where
   pub sound : AreSoundWith held new
   pub level : broader_direction new.kind ≡ Never

@@ -1,4 +1,4 @@
--- Links that can break few rules or none, by their kinds and by their ends.
+-- Kinds of links that can break few rules or none, and nodes from which no link leads in a relation.
 use Rattle.std.specs.Prelude.{◌≡◌, ℕ}
 use Rattle.thes_base.specs.declared.data.Link.{Link}
 use Rattle.thes_base.specs.declared.data.LinkKind.{LinkKind}

@@ -34,7 +34,7 @@ ArePairedSearches held relation from to first second left before count =
     × IsSideSearch NoEdit held (converse relation) (from ∷ []) to second b
     × (b + left ≤ a) × (count ≤ before + a + b)
 
--- A chain leads from one node to the other, which was found within the bound on visits.
+-- A chain leads from one node to the other, and was found within the bound on visits.
 abbrev pub HasFoundChain : Links → Relation → (from to before after : ℕ) → Type 0
 HasFoundChain held relation from to before after =
     Chain (Steps relation (Holds held)) from to × AreVisitsBounded held relation from before after

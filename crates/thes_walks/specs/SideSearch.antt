@@ -147,7 +147,7 @@ abbrev pub LeadsTo : LinkEdit → Links → Relation → (goals : List ℕ) → 
 LeadsTo edit held relation goals start = (y : ℕ) × Contains goals y × Chain (Steps relation (HeldAfter edit held))
     start y
 
--- The number of visits is at most one for each link at a node that the start reaches in the relation.
+-- At most one visit is made for each link at a node that the start reaches in the relation.
 abbrev pub IsReadBounded : LinkEdit → Links → Relation → (start read : ℕ) → Type 0
 IsReadBounded edit held relation start read =
     (ns : List Link) → ((n : ℕ) → Reaches (Steps relation (HeldAfter edit held)) start n → CoversAt edit held n ns)
@@ -166,7 +166,7 @@ abbrev pub AreAmong : (nodes all : List ℕ) → Type 0
 AreAmong nodes all = (y : ℕ) → Contains nodes y → Contains all y
 
 -- The result of reading more nodes in `visits` visits: from each state that IsSideSearch describes with some of the
--- goals, the search comes to another one with these, or has found a goal.
+-- goals, the search comes to another such state with the same goals, or has found a goal.
 abbrev pub ContinuesSearch : LinkEdit → Links → Relation → (goals : List ℕ) → (old new : SideSearch) → (visits : ℕ)
     → (found : Bool) → Type 0
 ContinuesSearch edit held relation goals old new visits found =
@@ -180,7 +180,7 @@ pub record AdvancesByNode (edit : LinkEdit) (held : Links) (relation : Relation)
   pub continues : ContinuesSearch edit held relation goals old new visits found
 
 -- The rule that a link from `low` up to `high` would break: Cycle if a chain leads from `high` up to `low`, or else S27
--- if a concept at or below `low` is related to one at or above `high`.
+-- if a concept at or below `low` is related to one at or above `high`, or else none.
 abbrev pub IsBrokenBetween : (Link → Type 0) → (low high : ℕ) → Option Refusal → Type 0
 IsBrokenBetween Held low high None = (IsBelow Held high low → ⊥)
     × ((x y : ℕ) → ReachesUp Held x low → ReachesUp Held high y → IsRelated Held x y → ⊥)
@@ -203,13 +203,13 @@ AreAlternating edit held low high up down from count =
     × IsSideSearch edit held along.Narrower (high ∷ []) low down b
     × (count ≤ from + a + b)
 
--- A chain leads from `high` up to `low`, which was found within the bound on visits.
+-- A chain leads from `high` up to `low`, and was found within the bound on visits.
 abbrev pub HasFoundCycle : LinkEdit → Links → (low high : ℕ) → (from count : ℕ) → Type 0
 HasFoundCycle edit held low high from count = IsBelow (HeldAfter edit held) high low
     × ((ns : List Link) → CoversBetween edit held low high ns → count ≤ from + 4 * length ns)
 
 -- The result of turns of two searches, during which the count grows from `before` to `after`: from each state that
--- AreAlternating describes, they come to another one, or have met.
+-- AreAlternating describes, the searches come to another such state, or have met.
 abbrev pub ContinuesInTurn : LinkEdit → Links → (up down up_after down_after : SideSearch) → (before after : ℕ)
     → (found : Bool) → Type 0
 ContinuesInTurn edit held up down up_after down_after before after found =

@@ -26,8 +26,8 @@ fn relates(kind: LinkKind) -> bool
     matches!(kind, LinkKind::Related | LinkKind::RelMatch)
 }
 
-// Checks whether links of this kind are exact, broader, narrower or related matches, which rule S46
-// concerns.
+// Checks whether links of this kind are exact, broader, narrower or related matches, the only ones
+// that can break S46.
 fn matches_exactly_or_apart(kind: LinkKind) -> bool
     ensures { result ≡ false → (exact_direction kind ≡ Never) × (disjoint_direction kind ≡ Never) }
 {
@@ -37,8 +37,8 @@ fn matches_exactly_or_apart(kind: LinkKind) -> bool
     )
 }
 
-// Returns S27 if the new link, which is neither broader nor narrower, would break it, or else None;
-// such a link can't break Cycle.
+// Returns S27 if the new link, which leads neither up nor down, would break S27, or else None; such
+// a link can't break Cycle.
 fn check_level_link<L: Links>(
     alloc: Global,
     links: &mut L,

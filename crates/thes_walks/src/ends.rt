@@ -1,7 +1,7 @@
 //! Finds links that break no rule because of their kind, or because their narrower end has neither
 //! narrower nor related concepts, or their broader end neither broader nor related ones. Most links
-//! of a hierarchy that is built from its top or its bottom are such links. No function here makes a
-//! visit.
+//! of a hierarchy that is built from its top or its bottom are such links. No function of this
+//! module makes a visit.
 ghost use Rattle.std.specs.Prelude.{◌≡◌, true, MatchBool};
 ghost use Rattle.thes_base.specs.Links.{Holds};
 ghost use Rattle.thes_links.specs.declared.relation.Relation.TheVariants as relation;
@@ -55,7 +55,7 @@ pub fn is_end_after<L: Links>(links: &L, edit: &LinkEdit, x: ResNo, relation: Re
     }
 }
 
-// Returns true only if no held link makes a concept narrower than the node or related to it.
+// Returns true only if, by the held links, no concept is narrower than the node or related to it.
 fn is_lowest<L: Links>(links: &L, n: ResNo) -> bool
     ensures narrower { result ≡ true → IsEnd relation.Narrower (Holds (L.net links.now).links) n }
     ensures related { result ≡ true → IsEnd relation.Related (Holds (L.net links.now).links) n }
@@ -63,7 +63,7 @@ fn is_lowest<L: Links>(links: &L, n: ResNo) -> bool
     is_end(links, n, Relation::Narrower) && is_end(links, n, Relation::Related)
 }
 
-// Returns true only if no held link makes a concept broader than the node or related to it.
+// Returns true only if, by the held links, no concept is broader than the node or related to it.
 fn is_highest<L: Links>(links: &L, n: ResNo) -> bool
     ensures broader { result ≡ true → IsEnd relation.Broader (Holds (L.net links.now).links) n }
     ensures related { result ≡ true → IsEnd relation.Related (Holds (L.net links.now).links) n }
@@ -71,8 +71,8 @@ fn is_highest<L: Links>(links: &L, n: ResNo) -> bool
     is_end(links, n, Relation::Broader) && is_end(links, n, Relation::Related)
 }
 
-/// Checks whether links of this kind lead from their first end to a broader concept, and only Cycle
-/// and S27 concern them.
+/// Checks whether links of this kind lead from their first end to a broader concept, and can break
+/// only Cycle and S27.
 pub fn leads_up(kind: LinkKind) -> bool
     ensures { MatchBool result (LeadsUp kind) (Unit {0}) }
 {
@@ -85,8 +85,8 @@ pub fn leads_up(kind: LinkKind) -> bool
     }
 }
 
-// Checks whether none of Cycle, S27 and S46 concerns links of this kind, as of close matches and
-// memberships.
+// Checks whether links of this kind (close matches and memberships) can break none of Cycle, S27
+// and S46.
 fn is_loose(kind: LinkKind) -> bool
     ensures { MatchBool result (IsLoose kind) (Unit {0}) }
 {
@@ -111,7 +111,7 @@ fn is_outermost<L: Links>(links: &L, new: &Link) -> bool
     is_highest(links, new.b)
 }
 
-/// Returns true only if the link breaks no rule, because no rule concerns its kind, or its narrower
+/// Returns true only if the link breaks no rule, because its kind can break none, or its narrower
 /// end has neither narrower nor related concepts, or its broader end neither broader nor related
 /// ones; false decides nothing.
 pub fn is_harmless<L: Links>(links: &L, new: &Link) -> bool

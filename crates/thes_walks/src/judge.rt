@@ -25,7 +25,7 @@ use thes_links::edit::LinkEdit;
 use thes_links::links::Links;
 use thes_links::normal_form::normalize_ends;
 
-// Returns the normal form of the link, in which these links would hold it.
+// Returns the normal form of the link, in which it would be held.
 fn normal<L: Links>(links: &L, link: &Link) -> Link
     ensures normal { result ≡ normal_form (is_marked (L.net links.now)) link.now }
     ensures two_ends { HaveTwoEnds (Holds (L.net links.now).links) }
@@ -90,7 +90,8 @@ pub fn check_at<L: Links>(
 /// Checks a new link: returns LinkThere if it is held, or else the first rule that the links with
 /// it would break.
 ///
-/// Makes at most six visits for each link near the first end of the new one, which is among them.
+/// Makes at most six visits for each link near the first end of the new link, which counts as one
+/// of these links.
 pub fn judge_add<L: Links>(
     alloc: Global,
     links: &mut L,

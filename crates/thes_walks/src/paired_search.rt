@@ -30,7 +30,7 @@ fn converse_of(relation: Relation) -> Relation
 }
 
 // Two searches, one from each end of a link, and the number of links that the second may still
-// read: those that the first has read, less those that the second has.
+// read: the number that the first has read, less the number that the second has read.
 #[derive(Drop)]
 struct PairedSearch {
     first: SideSearch,
@@ -38,8 +38,9 @@ struct PairedSearch {
     allowance: u64,
 }
 
-// Advances the first search to this limit on its nodes and its next node's links. Returns whether
-// it met the second, and the number of links that it read in this turn.
+// Advances the first search until the number of its nodes and its next node's links exceeds the
+// limit. Returns whether it met the second search, and the number of links that it read in this
+// turn.
 fn advance_first<L: Links>(
     links: &mut L,
     relation: Relation,
@@ -65,7 +66,7 @@ fn advance_first<L: Links>(
 }
 
 // Advances the second search as long as its next node has at most `allowance` links to read, and
-// subtracts their number from `allowance`. Returns whether it met the first.
+// subtracts their number from `allowance`. Returns whether it met the first search.
 fn advance_second<L: Links>(
     links: &mut L,
     relation: Relation,
@@ -96,8 +97,8 @@ fn advance_second<L: Links>(
 }
 
 // Advances the second search within its allowance, and then the first to this limit, until one is
-// done or they meet, and returns whether they have met. The second comes first, so that no link is
-// read if it has none to read.
+// done or they meet, and returns whether they have met. The second takes its turn first, so that no
+// link is read if the second has none to read.
 fn take_paired_turns<L: Links>(
     links: &mut L,
     relation: Relation,

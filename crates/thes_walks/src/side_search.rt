@@ -61,7 +61,7 @@ pub struct SideSearch {
     pub next: usize,
 }
 
-// Returns the end of the link that isn't the node, which is one of its ends.
+// Returns the other end of a link that has the node as one of its ends.
 #[inline(always)]
 fn other_end(link: &Link, n: ResNo) -> ResNo
     ensures { result ≡ other_end n link.now }
@@ -106,8 +106,8 @@ fn step_at_place<L: Links>(
     far_node(edit, &link, at, x)
 }
 
-// Adds to the nodes met the node to which a link leads, if there is one, unless that node is a goal
-// of the search. Returns whether it is a goal.
+// Adds the node `next`, if there is one, to `nodes`, unless it is a goal of the search. Returns
+// whether it is a goal.
 #[inline(always)]
 fn take(nodes: &mut Nodes, next: Option<ResNo>, goals: &Nodes) -> Result<bool, AllocError>
     ensures { IfOk result
@@ -123,8 +123,8 @@ fn take(nodes: &mut Nodes, next: Option<ResNo>, goals: &Nodes) -> Result<bool, A
     Ok(false)
 }
 
-// Adds to the nodes met those to which this range of links leads after the edit. Stops before the
-// first one that is a goal of the search, and returns whether there is one.
+// Adds to `nodes` each node to which a link of this range leads after the edit. Stops at the first
+// goal of the search, without adding it, and returns whether there is one.
 #[inline(always)]
 fn follow_part<L: Links>(
     links: &mut L,
@@ -159,8 +159,8 @@ pub fn part_along<L: Links>(links: &L, relation: Relation, n: ResNo) -> Part
     links.part(n, side_for(relation))
 }
 
-// Adds to the nodes met those to which this range of links leads after the edit. Stops before the
-// first one that is a goal of the search, and returns whether there is one. If the range has the
+// Adds to `nodes` each node to which a link of this range leads after the edit. Stops at the first
+// goal of the search, without adding it, and returns whether there is one. If the range has the
 // links on the side of a relation, they lead to the nodes to which `range.x` leads in that
 // relation.
 #[inline(always)]
@@ -188,8 +188,8 @@ fn follow<L: Links>(
     Ok(found)
 }
 
-// Adds to the nodes met those to which the target of a merge leads in the relation after the merge.
-// Stops before the first one that is a goal of the search, and returns whether there is one. Reads
+// Adds to `nodes` each node to which the target of a merge leads in the relation after the merge.
+// Stops at the first goal of the search, without adding it, and returns whether there is one. Reads
 // the links held at the target in the range `merge.part`, and then those held at the source on the
 // side of the relation.
 #[inline(never)]
@@ -230,8 +230,8 @@ fn follow_merged<L: Links>(
     Ok(found)
 }
 
-/// Adds to the nodes met those to which `from.node` leads in the relation after the edit. Stops
-/// before the first one that is a goal, and returns whether there is one. The range `from.part` has
+/// Adds to `nodes` each node to which `from.node` leads in the relation after the edit. Stops at
+/// the first goal, without adding it, and returns whether there is one. The range `from.part` has
 /// the node's held links on the side of the relation.
 #[inline(always)]
 pub fn follow_after_edit<L: Links>(
@@ -308,8 +308,8 @@ impl SideSearch {
     }
 
     /// Reads the links that lead from the next node in the relation after the edit; `part` is the
-    /// range of those held at the node. Adds the nodes to which they lead to those met, stops
-    /// before the first one that is a goal, and returns whether there is one.
+    /// range of those held at the node. Adds each node to which they lead to those met, stops at
+    /// the first goal, without adding it, and returns whether there is one.
     #[inline(always)]
     pub fn advance<L: Links>(
         &mut self,
@@ -345,9 +345,9 @@ impl SideSearch {
         }
     }
 
-    /// Reads this range of the next node's held links, without an edit. Adds the nodes to which
-    /// they lead to those met, stops before the first one that is a goal, and returns whether there
-    /// is one.
+    /// Reads this range of the next node's held links, without an edit. Adds each node to which
+    /// they lead to those met, stops at the first goal, without adding it, and returns whether
+    /// there is one.
     #[inline(always)]
     pub fn advance_at<L: Links>(
         &mut self,
@@ -371,9 +371,9 @@ impl SideSearch {
         Ok(found)
     }
 
-    /// Advances the search until all nodes are read, one leads to a goal, or the nodes met and the
-    /// next one's links on the side of the relation are together more than `limit`. Returns whether
-    /// one leads to a goal.
+    /// Advances the search until all nodes are read, one leads to a goal, or the number of nodes
+    /// met and of the next node's links on the side of the relation exceeds `limit`. Returns
+    /// whether a goal is found.
     pub fn advance_to<L: Links>(
         &mut self,
         links: &mut L,
@@ -401,8 +401,8 @@ impl SideSearch {
         Ok(false)
     }
 
-    /// Advances the search until all nodes are read or one leads to a goal. Returns whether one
-    /// does.
+    /// Advances the search until all nodes are read or one leads to a goal. Returns whether a goal
+    /// is found.
     pub fn finish<L: Links>(
         &mut self,
         links: &mut L,

@@ -23,9 +23,9 @@ use thes_links::nodes::Nodes;
 use thes_links::relation::Relation;
 
 // Advances the upward search to this limit, and then the downward one, until one is done or they
-// meet, and returns whether they have met. The limit is on the nodes that a search has met and the
-// links of its next one, so that neither reads a node with many links while the other has few to
-// read.
+// meet, and returns whether they have met. The limit is on the number of nodes that a search has
+// met and of its next node's links, so that neither search reads a node with many links while the
+// other has few to read.
 fn take_turns<L: Links>(
     links: &mut L,
     edit: &LinkEdit,
@@ -129,8 +129,9 @@ fn are_tied<L: Links>(
     Ok(false)
 }
 
-// Returns which of Cycle and S27 would be broken, given `ended`, all nodes that the first search
-// could reach. Finishes the other search only if a related link may lead from one of these nodes.
+// Returns which of Cycle and S27 would be broken, if any; `ended` has all nodes that the first
+// search could reach. Finishes the other search only if a related link may lead from one of these
+// nodes.
 fn check_second_search<L: Links>(
     alloc: Global,
     links: &mut L,
@@ -170,7 +171,8 @@ fn check_second_search<L: Links>(
 }
 
 /// Returns the first of Cycle and S27 that a link from the low node up to the high one would break,
-/// together with the links after the edit.
+/// together with the links after the edit. If both are the same node, returns the first of these
+/// that the links break around that node.
 pub fn check_upward_link<L: Links>(
     alloc: Global,
     links: &mut L,

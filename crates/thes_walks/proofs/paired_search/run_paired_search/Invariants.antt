@@ -14,7 +14,7 @@ invariant-turns g l = record {
       before (g.L.Links.count l.links);
 }
 
--- Without a limit one of the searches ends in its turn.
+-- The limit rises to 2 ^ 64 - 1, which is no limit, and then one of the searches ends in its turn.
 abbrev pub decreases-turns : goal.decreases-turns
 decreases-turns g l = 3 * (2 ^ 64 - l.limit) + min 1 (length l.paired.first.nodes - l.paired.first.next)
     + min 1 (length l.paired.second.nodes - l.paired.second.next)

@@ -11,7 +11,8 @@ use Rattle.thes_walks.proofs.side_search.follow_merged.Given.{Over}
 use Rattle.thes_walks.proofs.side_search.follow_merged.Goals as goal
 use Rattle.thes_walks.proofs.side_search.follow_merged.Goals.{In_ok-follow, In_ok-found}
 
--- The target's links can be followed, and the source's, which are then the target's.
+-- The links held at the target can be followed, and so can those held at the source, which are the target's after the
+-- merge.
 at_target : (g : Over) (c : In_ok-follow g) → CanFollowAt (AfterMerge c.args.merge.source c.args.merge.target)
     (g.L.Links.net c.args.links.now).links (g.L.Links.links_of (g.L.Links.net c.args.links.now) c.args.merge.target)
     c.args.relation c.args.merge.target c.args.merge.target c.args.merge.part

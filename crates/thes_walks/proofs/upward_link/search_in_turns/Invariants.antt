@@ -11,6 +11,6 @@ invariant-turns g l = record {
       → AreAlternating l.edit (g.L.Links.net l.fn.links).links low high l.up l.down from (g.L.Links.count l.links);
 }
 
--- Without a limit the search up ends in its turn.
+-- The limit rises to 2 ^ 64 - 1, which is no limit, and then the search up ends in its turn.
 abbrev pub decreases-turns : goal.decreases-turns
 decreases-turns g l = 2 * (2 ^ 64 - l.limit) + min 1 (length l.up.nodes - l.up.next)

@@ -25,7 +25,7 @@ two : (c : In_ok-reserve_ends) → c.normal-new.result.a ≢ c.normal-new.result
 two c = subst (λ (l : Link). l.a ≢ l.b) (sym c.normal-new.ensures)
     (norm_two (is_marked c.args.self.now) c.args.link.now c.requires)
 
--- What is true is so after an error.
+-- What holds anyway also holds after an error.
 on_error : {T E P : Type 0} (r : Result T E) → P → OnErr r P
 on_error (Ok x) p = tt
 on_error (Err e) p = p

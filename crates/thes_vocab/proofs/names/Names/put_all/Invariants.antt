@@ -5,7 +5,7 @@ use Rattle.thes_vocab.specs.OwnLabels.{has_own}
 use Rattle.thes_vocab.specs.Vocabulary.{concept_scheme}
 use Rattle.thes_vocab.proofs.names.Names.put_all.Given as goal
 
--- The labels read so far have their entries, and none is lost.
+-- The labels read so far have their entries, and no entry is lost.
 abbrev pub invariant-loop-label : goal.invariant-loop-label
 invariant-loop-label l = record {
   keeps : KeepsNames l.fn.self l.self;

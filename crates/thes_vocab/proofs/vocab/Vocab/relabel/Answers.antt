@@ -8,7 +8,7 @@ use Rattle.thes_vocab.proofs.LabelCheckLemmas.{relabelled_is}
 use Rattle.thes_vocab.proofs.ConsistencyLemmas.{kept_more, seen_renamed, relabel_to_same_text}
 use Rattle.thes_vocab.proofs.vocab.Vocab.relabel.Goals as goal
 
--- A copy of the text of the owner's preferred label is the text of that label.
+-- If a text is a copy of the owner's preferred label, the owner has it as its preferred label.
 held : (labels : Labels) (owner : ℕ) (tag known old : List ℕ) → HasLabel labels owner Pref tag known → old ≡ known
     → HasLabel labels owner Pref tag old
 held labels owner tag known old has same = subst (HasLabel labels owner Pref tag) (sym same) has

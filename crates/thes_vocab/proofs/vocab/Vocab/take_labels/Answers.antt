@@ -17,7 +17,7 @@ missing : (c : In_ok-copies) → AreMissingLabels c.self.inside.labels c.args.so
 missing c = subst (λ (v : Vocabulary). AreMissingLabels v.labels c.args.source c.args.target
     c.in_ok-copies.copies.items) (sym c.self.view_is) c.in_ok-copies.ensures
 
--- The copies are the labels that the machine copies.
+-- The copied labels are those that the machine's definition of a merge copies.
 copied : (c : In_ok-copies) → labels_of_owner c.args.target c.in_ok-copies.copies.items
     ≡ copied_labels c.args.source c.args.target c.self.inside.labels
 copied c = missing_set c.self.inside.labels c.args.source c.args.target c.self.invariant.named.disjoint
