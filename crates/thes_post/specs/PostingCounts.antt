@@ -74,8 +74,7 @@ pub record CountsAfterWithdrawal (concept : Number) (old new : PostingCounts) : 
   pub withdrawn : new.withdrawn ≡ old.withdrawn + 1
   pub moves : new.moves ≡ old.moves
 
--- `moved` postings are subtracted from the count of the concept `from`, and added to that of `to` if it stays below 2 ^
--- 32.
+-- `moved` is subtracted from the count of the concept `from`, and added to that of `to` if the sum is below 2³².
 pub record ShiftsCounts (from to moved : ℕ) (old new : List ℕ) : Type 0 where
   pub at_source : slice_index old from ≡ slice_index new from + moved
   pub at_target : slice_index old to + moved < 2 ^ 32 → slice_index new to ≡ slice_index old to + moved
