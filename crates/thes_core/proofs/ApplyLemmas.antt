@@ -120,7 +120,7 @@ pub post_more : (t : Thesaurus) (hs : List History) (key rec : List ℕ) (concep
     → PartsAccept t hs (request.Post key rec concept) → length hs + 1 < 2 ^ 32
 post_more t hs key rec concept ok = grind (arith, common_steps, length-append, sound_after)
 
--- What holds after a posting with any key and record holds after this one.
+-- What holds after a Post with any key and record holds after this Post.
 pub remade_post : {A E : Type 0} (r : Result A E) (P : Command → Type 0) (command : Command) (key rec : List ℕ)
     (concept : ℕ) → command ≡ request.Post key rec concept → OnOk r ((k m : List ℕ) → P (request.Post k m concept))
     → OnOk r (P command)

@@ -1,5 +1,5 @@
--- What an accepted request takes from the state, or adds to it, without naming it, as far as taking the request back
--- needs it.
+-- What an accepted request removes from the state, or adds to it, without naming it in its arguments, as far as taking
+-- the request back needs it.
 use Rattle.std.specs.Prelude.{◌≡◌, ◌<◌, ◌^◌, ℕ, Bool, List, Some, if◌then◌else◌, length}
 use Rattle.std.specs.FinSet as set
 use Rattle.thes_base.specs.declared.data.History.{History}
