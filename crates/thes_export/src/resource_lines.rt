@@ -1,5 +1,5 @@
-//! Lines on a resource's class, its scheme or its top concepts, whether it is a top concept or
-//! deprecated, its replacement and its labels.
+//! Lines on a resource's class, scheme, top concepts, deprecation, replacement and labels, and on
+//! the scheme of which it is a top concept.
 ghost use Rattle.std.specs.Prelude.{◌≡◌, ◌&&◌, not, false, Some, IfOk, OnOk};
 ghost use Rattle.thes_base.specs.Resources.{entry_at, is_concept_kind};
 ghost use Rattle.thes_export.specs.Holdings.{AreHoldings, IsTopScheme};
