@@ -38,8 +38,8 @@ pub record IsCopy (raw : Raw) (limits : Limits) (copy : core.CoreView) : Type 0 
   pub holds : IsViewOf copy state
   pub shows : TablesOfState raw copy.setting.base state
 
--- No limit exceeds the greatest number. While the storage is up, its tables encode a state, which the copy holds unless
--- it is stale. The copy is stale only if it is unusable or the storage has failed.
+-- No limit exceeds 2³² - 1. While the storage is up, its tables encode a state, which the copy holds unless it is
+-- stale. The copy is stale only if it is unusable or the storage has failed.
 pub record IsConsistent {K : Type 0} (view : K → StorageView)
     (keeper : K) (copy : core.CoreView) (limits : Limits) (stale : Bool) : Type 0 where
   pub limits_fit : AreLimits limits

@@ -62,7 +62,8 @@ pub record PlanDecided (raw : Raw) (setting : Setting) (done : List PlanRequest)
   pub leads : AreChangesBetween setting.base changes state_before state_after
   pub same : AllByRecursion ChangesNothing answers → changes ≡ []
 
--- The requests of a plan are accepted, and their changes of postings are recorded.
+-- The requests of a plan so far are accepted, their changes of postings are recorded, and the steps of the log lead
+-- from the state before them to the state after them.
 pub record PlanDecidedSoFar (raw : Raw) (setting : Setting) (done : List PlanRequest) (progress : PlanProgress)
     (copy : CoreView) : Type 0 where
   pub decided : PlanDecided raw setting done progress.decided.answers.items progress.decided.delta copy
