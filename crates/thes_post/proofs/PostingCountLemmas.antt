@@ -112,7 +112,7 @@ module _ (hs : List History) (key rec : List ℕ) (first : ℕ) (way : List ℕ)
     moves = (let a = one.moves in let m = count_posted key rec first way hs in omega (arith, a, m));
   }
 
-  -- The counts after a new posting are those of the histories.
+  -- Once a new posting is counted, the counts are those of the histories with it.
   pub sums_posted : (old new : PostingCounts) → ArePostingCounts hs old → CountsAfterPost (path_end first way)
       (length way) old new → ArePostingCounts posted new
   sums_posted old new are one = counts_alike hs posted old new (alike_posted old new one) are
@@ -123,7 +123,7 @@ module _ (hs : List History) (key rec : List ℕ) (first : ℕ) (way : List ℕ)
   sums_before_post old new are one =
       counts_alike posted hs old new (taken_back hs posted new old (alike_posted new old one)) are
 
-  -- The count of a posting that was added last can be taken back.
+  -- The posting that was counted last can be taken back from the counts.
   pub post_counted : (old : PostingCounts) → ArePostingCounts posted old
       → HasPostToTakeBack (path_end first way) (length way) old
   post_counted old are = record {
@@ -196,7 +196,7 @@ module _ (hs : List History) (n : ℕ) (h : History) (at : entry_at hs n ≡ Som
     | Some g ↦ set_entry_at hs n (history_after_withdrawal g)
   ]) at
 
-  -- The counts after a withdrawal are those of the histories.
+  -- Once a withdrawal is counted, the counts are those of the histories after it.
   pub sums_withdrawn : (old new : PostingCounts) → ArePostingCounts hs old → CountsAfterWithdrawal (place h) old new
       → ArePostingCounts (histories_after_withdrawal n hs) new
   sums_withdrawn old new are one = subst (λ l. ArePostingCounts l new) (sym same_less)
@@ -209,7 +209,7 @@ module _ (hs : List History) (n : ℕ) (h : History) (at : entry_at hs n ≡ Som
       counts_alike less hs old new (taken_back hs less new old (alike_withdrawn new old one))
       (subst (λ l. ArePostingCounts l old) same_less counted)
 
-  -- The count of a withdrawal can be taken back.
+  -- A counted withdrawal can be taken back from the counts.
   pub withdrawal_counted : (old : PostingCounts) → ArePostingCounts (histories_after_withdrawal n hs) old
       → length hs < 2 ^ 32 → HasWithdrawalToTakeBack (place h) old
   withdrawal_counted old counted few =
@@ -358,7 +358,7 @@ module _ (passes : History → Bool) (source target : ℕ) (apart : source ≢ t
       moves = (let a = some.moves in let m = count_moved passes target number hs in omega (arith, a, m, is));
     }
 
-    -- The counts after the moves are those of the histories.
+    -- Once the moves are counted, the counts are those of the histories after them.
     pub sums_moved : (count : ℕ) → count ≡ count_by passes hs → (old new : PostingCounts) → ArePostingCounts hs old
         → CountsAfterMoves source target count old new → ArePostingCounts after_moves new
     sums_moved count is old new are some = counts_alike hs after_moves old new (alike_moved count is old new some) are
@@ -369,7 +369,7 @@ module _ (passes : History → Bool) (source target : ℕ) (apart : source ≢ t
     sums_before_moves count is old new are some =
         counts_alike after_moves hs old new (taken_back hs after_moves new old (alike_moved count is new old some)) are
 
-    -- The counts of the moves can be taken back.
+    -- Counted moves can be taken back from the counts.
     pub moves_counted : (count : ℕ) → count ≡ count_by passes hs → (old : PostingCounts)
         → ArePostingCounts after_moves old → length hs < 2 ^ 32 → HasMovesToTakeBack source target count old
     moves_counted count is old are few = record {
