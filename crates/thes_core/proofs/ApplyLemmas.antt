@@ -139,7 +139,7 @@ module _ (t : Thesaurus) (kept : AreLegal t []) where
       (record t { vocab = v; graph = g })
   made_outside new v g n e is number marked = grind (arith, common_steps, knows_marked, parts_become_state)
 
--- A new resource leaves the histories unchanged.
+-- The counts of postings are still right after a resource is created.
 pub made_counts : (t : Thesaurus) (hs : List History) (new : NewResource) → {book : PostingCounts}
     → ArePostingCounts hs book
     → ArePostingCounts (next_state (creation_request new) (parts_state t hs)).histories book

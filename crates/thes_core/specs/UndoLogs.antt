@@ -20,8 +20,8 @@ use Rattle.thes_core.specs.declared.thesaurus.Thesaurus.{Thesaurus}
 use Rattle.thes_core.specs.declared.losses.Lost.{Lost}
 use Rattle.thes_core.specs.declared.undo_log.UndoStep.{UndoStep}
 
--- The request passes its checks; of a Split only the source is checked to be a concept, of a Post or a Withdraw
--- nothing.
+-- The request passes these of its checks: for a Split, that its source is a concept; for a Post or a Withdraw, none;
+-- for any other request, all.
 abbrev pub IsAcceptedOnParts : Setting → State → Command → Type 0
 IsAcceptedOnParts setting s (request.Split source tag text postings) = IsConcept s.resources source
 IsAcceptedOnParts setting s (request.Post key rec concept) = Unit {0}
