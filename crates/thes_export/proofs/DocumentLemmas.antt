@@ -16,7 +16,8 @@ no_line_end : (text : List ℕ) (c : ℕ) (x rest : List ℕ) → text ≡ c ∷
     → IsLineEnd text rest → rest ≡ c ∷ x
 no_line_end text c x rest e blank hash at_line_end = grind (arith, common_steps, heads_differ, no_gap_before)
 
--- An end of line is one line feed if the byte after it is neither a line feed nor a carriage return.
+-- An end of line that begins with a line feed is this byte alone, if the byte after it is neither a line feed nor a
+-- carriage return.
 one_eol : (eol rest text x : List ℕ) → IsEol eol → text ≡ eol ++ rest → text ≡ 10 ∷ x
     → ((c : ℕ) (z : List ℕ) → x ≡ c ∷ z → ¬ IsEolByte c) → rest ≡ x
 one_eol [] rest text x has_form text_is e stops = absurd (let l = has_form.0 in omega arith)

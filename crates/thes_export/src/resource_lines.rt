@@ -96,8 +96,8 @@ pub(crate) fn push_belonging(
     }
 }
 
-/// Returns the scheme of which the resource is a top concept; None if it isn't a live concept
-/// without broader ones.
+/// Returns the scheme of which the resource is a top concept; None unless the resource is a live
+/// concept without broader concepts.
 pub(crate) fn top_scheme_of(
     alloc: Global,
     core: &Core,
