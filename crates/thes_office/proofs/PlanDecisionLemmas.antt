@@ -1,5 +1,5 @@
--- Proves that the requests of a plan, decided one after another, are the plan, and what a commit of their changes or a
--- refusal makes of the tables.
+-- Proves that deciding the requests of a plan one after another decides the plan, and what the tables are after a
+-- commit or a refusal.
 use Rattle.std.proofs.lemmas.Grind.{common_steps}
 use Rattle.std.proofs.Common.{◌≡◌, ◌<◌, ◌≤◌, ◌+◌, ◌++◌, ◌∷◌, [], ◌∙◌, ℕ, suc, List, false, refl, sym, ap}
 use Rattle.std.proofs.Common.{subst, take, drop, length, length-append, arith, inl}

@@ -18,7 +18,7 @@ IsCopyOfFound finds limits copy = (raw : Raw) × finds raw × IsCopy raw limits 
 abbrev pub FindsLegalState : (Raw → Type 0) → Type 0
 FindsLegalState finds = (raw : Raw) × finds raw × ((base : List ℕ) × (s : State) × TablesOfState raw base s)
 
--- The fault is OutOfMemory or Store, or the verdict on rows that a load finds.
+-- The fault is OutOfMemory or Store, or the verdict on rows that a load may find.
 abbrev pub IsFaultOfFound : (Raw → Type 0) → Fault → Type 0
 IsFaultOfFound finds fault =
     (fault ≡ OutOfMemory) ⊎ ((fault ≡ Store) ⊎ ((raw : Raw) × finds raw × HasVerdict raw (Err fault)))

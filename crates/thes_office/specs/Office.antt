@@ -68,7 +68,7 @@ abbrev pub SameTables : {K : Type 0} → (K → StorageView) → OfficeView K �
 SameTables view old new = (view new.keeper).is_up → (view new.keeper).rows ≡ (view old.keeper).rows
 
 -- The effect of every query of an office: its faults are those of every call, the tables are unchanged if the storage
--- is still up, and after a result the copy isn't stale.
+-- is still up, and after a query that succeeds the copy isn't stale.
 pub record OfficeQueryFrame {K T : Type 0} (view : K → StorageView)
     (old new : OfficeView K) (result : Result T Fault) : Type 0 where
   pub fault_behaviour : FaultBehaviour view old new result

@@ -94,7 +94,7 @@ abbrev pub IsUsableAfter : CoreView → CoreView → PlanDecision → Type 0
 IsUsableAfter old new (plan.Accepted answers changes) = (new.spent ≡ false) × (new.setting ≡ old.setting)
 IsUsableAfter old new (plan.Refused place refusal) = new.spent ≡ false → new.setting ≡ old.setting
 
--- An accepted plan has one answer for each request; a refusal is that of a request of the plan.
+-- An accepted plan has one answer for each request; the place of a refusal is that of a request of the plan.
 abbrev pub HasEachDecision : List PlanRequest → PlanDecision → Type 0
 HasEachDecision asked (plan.Accepted answers changes) = length answers.items ≡ length asked
 HasEachDecision asked (plan.Refused place refusal) = (0 < place) × (place ≤ length asked)
