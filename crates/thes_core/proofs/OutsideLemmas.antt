@@ -52,7 +52,7 @@ module _ (t : Thesaurus) (knows : MarksOutside t.vocab.resources t.graph) where
   abbrev rs : List Resource
   rs = t.vocab.resources
 
-  -- The marks are correct after a resource of another kind is added.
+  -- The marks are correct after a resource that isn't an outside concept is added.
   pub knows_pushed : (r : Resource) → is_outside_kind r.kind ≡ false → (n : ℕ) → set.contains t.graph.outside n
       ≡ is_outside (rs ++ r ∷ []) n
   knows_pushed r kind n = knows n ∙ same_outside rs (rs ++ r ∷ []) n (passes_push rs r is_out n)

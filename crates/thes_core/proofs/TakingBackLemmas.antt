@@ -194,7 +194,7 @@ module _ (t : Thesaurus) (kind : LinkKind) (a b : ℕ) (s : State)
         histories = [];
       }) refl is.outside
 
--- A new resource of another kind doesn't change which numbers are those of outside concepts.
+-- A new resource that isn't an outside concept doesn't change which numbers are those of outside concepts.
 outside_before : (rs : List Resource) (r : Resource) → is_outside_kind r.kind ≡ false → (n : ℕ)
     → is_outside (rs ++ r ∷ []) n ≡ is_outside rs n
 outside_before rs r kind n = sym (same_outside rs (rs ++ r ∷ []) n (passes_push rs r (λ x. is_outside_kind x.kind) n)

@@ -33,7 +33,7 @@ pub record IsMergeLoss (source target : ℕ) (s : State) (loss : MergeLoss) : Ty
   pub copies : AreMissingLabels s.labels source target loss.copies.items
 
 -- The loss is what the request changes in the labels and links: for a Relabel the former preferred label, for a
--- Deprecate the links of its concept, for a Merge what it takes and adds; any loss for another request.
+-- Deprecate the links of its concept, for a Merge what it removes and adds; any loss for another request.
 abbrev pub IsLostFromParts : Command → State → Lost → Type 0
 IsLostFromParts (request.Relabel owner tag text keep) s (Preferred old) =
     preferred_label_in s.labels owner tag ≡ Some old
