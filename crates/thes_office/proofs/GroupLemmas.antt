@@ -1,5 +1,5 @@
--- Proves that the changes of the posts of a group, one after another, lead from the rows of the state before the group
--- to those of the state after it, and that the facts about each of them are those of the tables.
+-- Proves that a group's changes of rows lead from the state before the group to the state after it, and that the facts
+-- about each of its posts are those in the tables.
 use Rattle.std.proofs.lemmas.Grind.{common_steps}
 use Rattle.std.proofs.Common.{◌≡◌, ◌++◌, ◌∷◌, [], ◌<◌, ◌+◌, ◌∙◌, ℕ, suc, List, refl, sym, ap, subst, take, length}
 use Rattle.std.proofs.Common.{arith, inl, inr, append-nil, Bool, true, false, slice_index_or}

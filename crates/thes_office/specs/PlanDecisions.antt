@@ -88,8 +88,8 @@ IsPlanDecision raw setting asked (plan.Accepted answers changes) copy =
     PlanDecided raw setting asked answers.items changes copy
 IsPlanDecision raw setting asked (plan.Refused place refusal) copy = PlanIsRefused raw setting asked place refusal copy
 
--- The core is usable after a decision on a plan, or may be unusable if the plan is refused; if it is usable, it has the
--- same base and limits.
+-- After an accepted plan the core is usable; after a refused one it may be unusable. A usable core has the same base
+-- and limits as before.
 abbrev pub IsUsableAfter : CoreView → CoreView → PlanDecision → Type 0
 IsUsableAfter old new (plan.Accepted answers changes) = (new.spent ≡ false) × (new.setting ≡ old.setting)
 IsUsableAfter old new (plan.Refused place refusal) = new.spent ≡ false → new.setting ≡ old.setting

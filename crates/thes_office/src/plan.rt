@@ -143,9 +143,9 @@ fn decide_and_record<K: Keeper>(
     }
 }
 
-// Decides one more request of a plan, with its references replaced by numbers, and, if it is
-// accepted, applies it to the core and records the postings that it changes. Returns its refusal,
-// if it is refused.
+// Decides one more request of a plan, with its references replaced by numbers. If the request is
+// accepted, applies it to the core and records the postings that it changes; if it is refused,
+// returns the refusal.
 fn decide_request<K: Keeper>(
     alloc: Global,
     keeper: &mut K,
