@@ -183,9 +183,9 @@ impl Book {
         Ok(())
     }
 
-    /// Undoes `move_listed`: counts `count` postings of the target as the source's again, and
-    /// `count` moves fewer. Changes nothing if the target has fewer postings, or if fewer moves are
-    /// counted.
+    /// Undoes `move_all` or `move_listed`: counts `count` postings of the target as the source's
+    /// again, and `count` moves fewer. Changes nothing if the target has fewer postings, or if
+    /// fewer moves are counted.
     pub fn take_back_moves(
         &mut self,
         source: ResNo,
