@@ -120,7 +120,7 @@ pub post_more : (t : Thesaurus) (hs : List History) (key rec : List ℕ) (concep
     → PartsAccept t hs (request.Post key rec concept) → length hs + 1 < 2 ^ 32
 post_more t hs key rec concept ok = grind (arith, common_steps, length-append, sound_after)
 
--- What holds after a posting with any key and record holds after this one.
+-- What holds after a Post with any key and record holds after this Post.
 pub remade_post : {A E : Type 0} (r : Result A E) (P : Command → Type 0) (command : Command) (key rec : List ℕ)
     (concept : ℕ) → command ≡ request.Post key rec concept → OnOk r ((k m : List ℕ) → P (request.Post k m concept))
     → OnOk r (P command)
@@ -139,7 +139,7 @@ module _ (t : Thesaurus) (kept : AreLegal t []) where
       (record t { vocab = v; graph = g })
   made_outside new v g n e is number marked = grind (arith, common_steps, knows_marked, parts_become_state)
 
--- A new resource leaves the histories unchanged.
+-- The counts of postings are still right after a resource is created.
 pub made_counts : (t : Thesaurus) (hs : List History) (new : NewResource) → {book : PostingCounts}
     → ArePostingCounts hs book
     → ArePostingCounts (next_state (creation_request new) (parts_state t hs)).histories book

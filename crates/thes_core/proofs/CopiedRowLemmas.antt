@@ -32,7 +32,8 @@ unfolding IsStrictlySortedBy
 once_ordered [] up = tt
 once_ordered (l ∷ ls) up = (not_later l ls up.0, once_ordered ls up.1)
 
--- The copies are different, because the source has no text of a language under two kinds (SKOS S13).
+-- The copied labels are all different, because no text in a language is a label of the source under two kinds (SKOS
+-- S13).
 module _ (labels : Labels) (source target : ℕ) (disjoint : S13 labels) (own : List LabelData)
     (are : AreLabelsOf labels source own) where
   abbrev labels_after_copy : Labels

@@ -1,4 +1,4 @@
--- The parts of a thesaurus are those of the state before a concept died once its death is taken back.
+-- Once a concept's death is taken back, the parts of the thesaurus are those of the state before it.
 use Rattle.std.proofs.Common.{◌≡◌, ◌∙◌, ℕ, List, [], Bool, refl, ap}
 use Rattle.std.specs.Prelude.{Option, None}
 use Rattle.thes_base.specs.declared.data.Link.{Link}
@@ -56,7 +56,7 @@ module _ (t : Thesaurus) (concept : ℕ) (s : State) (is : ArePartsAfter (reques
     };
   }
 
-  -- Assumes the links that it had.
+  -- Assumes the links that the concept had.
   module _ (row : List Link) (had : IsRow s.links concept row) where
     pub links_may_return : AreNew t.graph row
     links_may_return = addable_again concept s.links row had t.graph (ap (λ (x : State). x.links) is.state)

@@ -57,7 +57,7 @@ module _ (t : Thesaurus) (facts : Facts) {command shown : Command} (is : command
       (changes_of_request_lead (setting_of t) (parts_state t hs) shown ok.kept.legal ok.accepts.fresh ok.accepts.row))
       are)
 
--- The changes of a posting lead to the machine's next state.
+-- The changes of rows that a Post makes lead to the machine's next state.
 pub posted_changes : (t : Thesaurus) (hs : List History) (key rec : List ℕ) (concept number place_is first : ℕ)
     (way : List ℕ) → way ≡ replacements t.vocab.resources concept → number ≡ length hs + 1 → place_is
     ≡ path_end concept (replacements t.vocab.resources concept) → first ≡ move_count hs + 1
@@ -81,7 +81,7 @@ posted_changes t hs key rec concept number place_is first way is_way is_number i
     })
     ∷ map change.AddMove (map (move_row (is_number i)) (moves_along (is_first i) concept (is_way i))))
 
--- The changes of a split lead to the machine's next state.
+-- The changes of rows that a split makes lead to the machine's next state.
 module _ (t : Thesaurus) (hs : List History) (source : ℕ) (tag text postings : List ℕ)
     (ok : PartsAccept t hs (request.Split source tag text postings)) (moving : List ℕ)
     (same : IsPermutation postings moving) (up : IsNonDecreasing moving) where
@@ -125,7 +125,7 @@ in_contains {A} (y ∷ xs) x (inl same) = let Q : A → Type 0 = Contains (y ∷
     subst Q (sym same) (Contains-head y xs)
 in_contains (y ∷ xs) x (inr later) = Contains-later y xs x (in_contains xs x later)
 
--- The prefix up to and including the item at index `i` ends with that item.
+-- The first i + 1 items are the first i, followed by the item at index `i`.
 pub take_got : {A : Type 0} (xs : List A) (i : ℕ) (x : A) → slice_get xs i ≡ Some x → take (i + 1) xs ≡ take i xs
     ++ x ∷ []
 take_got {A} xs i x e = take_more xs i x (slice_get_within xs i x e)

@@ -18,7 +18,7 @@ use Rattle.thes_tables.specs.Tables.{posting_row}
 use Rattle.thes_core.specs.Facts.{posting_row_at}
 use Rattle.thes_core.specs.NamedPostings.{first_named_posting}
 
--- The postings listed for a split are assigned to its source.
+-- The postings that a split lists are assigned to its source.
 pub listed_stand : (target : ℕ) {source : ℕ} (apart : source ≢ target) (hs : List History) (postings : List ℕ)
     → ((i : ℕ) (h : History) → slice_get hs i ≡ Some h → h.number ≡ suc i) → unless_split_postings hs source postings
     accepted None → AllAssigned (is_listed postings) source target apart hs

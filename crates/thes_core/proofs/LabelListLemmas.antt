@@ -1,4 +1,5 @@
--- The labels of one kind, filtered from an owner's sorted list, are all of that kind, sorted by language and text.
+-- The labels of one kind, filtered from an owner's sorted list, are exactly the owner's labels of that kind, sorted by
+-- language and text.
 use Rattle.std.proofs.lemmas.Grind.{common_steps}
 use Rattle.std.proofs.Common.{◌≡◌, ◌∙◌, refl, sym, ap, subst, ℕ, List, [], ◌∷◌, map, filter, true, false, cond, arith}
 use Rattle.std.proofs.Common.{◌==◌, eqb-true, Contains}

@@ -116,7 +116,7 @@ module _ (t : Thesaurus) (hs : List History) (source target : ℕ) (ok : PartsAc
       ++ change.MoveAll source target ∷ map change.AddMove ms)) move_rows_of_merge law in
       subst Merges (sym grouped) told
 
--- The number of moves is the number of postings assigned to the source.
+-- The number of postings assigned to the source is the length of the list of their numbers.
 pub standing_length : (source : ℕ) (hs : List History) → length (assigned_posting_numbers source hs) ≡ assigned_count
     source hs
 standing_length source hs = length-map (filter (is_assigned_to source) hs) (λ (h : History). h.number)

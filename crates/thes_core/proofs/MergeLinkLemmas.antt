@@ -1,4 +1,4 @@
--- A merge removes the links at its source, and adds those that are held after it alone.
+-- A merge removes the links at its source, and adds those that are held only after it.
 use Rattle.std.proofs.Common.{◌≡◌, ◌≢◌, inl, inr, ℕ, List, sym, ap, ◌∙◌, subst}
 use Rattle.thes_base.specs.declared.data.Link.{Link}
 use Rattle.thes_base.specs.Links.{Holds, normal_form, redirect_link, links_after_merge, HasEnd, Links}

@@ -1,4 +1,4 @@
--- The parts of a thesaurus are those of the state before a merge once it is taken back.
+-- Once a merge is taken back, the parts of the thesaurus are those of the state before it.
 use Rattle.std.proofs.Common.{◌≡◌, ◌≢◌, ◌⊎◌, ◌∙◌, ℕ, List, [], Bool, Contains, inl, inr, refl, sym, ap, subst}
 use Rattle.std.specs.Prelude.{Some}
 use Rattle.std.specs.FinSet as set
@@ -96,7 +96,7 @@ module _ (t : Thesaurus) (source target : ℕ) (s : State) (is : ArePartsAfter (
   merged_net : t.graph.links ≡ links_after_merge (is_marked net_then) source target s.links
   merged_net = merged_then ∙ ap (λ (f : ℕ → Bool). links_after_merge f source target s.links) (λ i m. sym (marks m) i)
 
-  -- Assumes what the merge took and added.
+  -- Assumes the links that the merge removed and added, and the labels that it copied.
   module _ (loss : MergeLoss) (lost : IsMergeLoss source target s loss) where
     abbrev copies : Labels
     copies = labels_of_owner target loss.copies.items

@@ -11,8 +11,8 @@ use Rattle.thes_tables.specs.declared.rows.PostingRow.{PostingRow}
 use Rattle.thes_core.specs.Facts.{posting_row_at}
 use Rattle.thes_core.proofs.FactLemmas.{named_at, row_found}
 
--- The first i postings are known. A flag that is set makes the whole list fail its check; one that isn't set means that
--- the first i pass it.
+-- The first i postings are known. If a flag is set, the whole list fails the flag's check; if not, the first i postings
+-- pass it.
 pub record AreCheckedTo (i : ℕ) (hs : List History) (source : ℕ) (ns : List ℕ) (withdrawn elsewhere : Bool)
     : Type 0 where
   pub known : EachListed (IsKnownPosting hs) (take i ns)
@@ -28,7 +28,7 @@ module _ (hs : List History) (source : ℕ) (ns : List ℕ) (rows : List (Option
     (item : Option PostingRow) (row : PostingRow) (withdrawn elsewhere : Bool) (is : rows ≡ map (posting_row_at hs) ns)
     (within : i < length rows) (at : item ≡ get_or rows i item) (found : item ≡ Some row)
     (was : AreCheckedTo i hs source ns withdrawn elsewhere) where
-  -- One more posting is checked.
+  -- Once the row at index `i` is checked, the same holds for the first i + 1 postings and the new flags.
   pub checked_more : AreCheckedTo (i + 1) hs source ns (withdrawn || row.withdrawn)
       (elsewhere || not (eqb row.place source))
   checked_more =

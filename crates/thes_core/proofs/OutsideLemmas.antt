@@ -28,7 +28,7 @@ test_of o = option_map_or is_out o false
 test_passed : (rs : List Resource) (n : ℕ) → is_outside rs n ≡ true → IsOutside rs n
 test_passed rs n e = grind (arith, common_steps)
 
--- A concept isn't an outside concept.
+-- A resource of kind Concept isn't an outside concept.
 pub concept_inside : (rs : List Resource) (n : ℕ) → IsConcept rs n → is_outside rs n ≡ false
 concept_inside rs n (r, at, concept) = grind (arith, common_steps)
 
@@ -52,7 +52,7 @@ module _ (t : Thesaurus) (knows : MarksOutside t.vocab.resources t.graph) where
   abbrev rs : List Resource
   rs = t.vocab.resources
 
-  -- The marks are correct after a resource of another kind is added.
+  -- The marks are correct after a resource that isn't an outside concept is added.
   pub knows_pushed : (r : Resource) → is_outside_kind r.kind ≡ false → (n : ℕ) → set.contains t.graph.outside n
       ≡ is_outside (rs ++ r ∷ []) n
   knows_pushed r kind n = knows n ∙ same_outside rs (rs ++ r ∷ []) n (passes_push rs r is_out n)
@@ -85,7 +85,7 @@ module _ (before : List Resource) (marks : FinSet nat_cmp)
   outside_apart : (n : ℕ) → IsOutside before n → n ≢ length before + 1
   outside_apart n out same = let bound = numbered_bound before n out.0 out.1 in omega (arith, bound.1, same)
 
-  -- The marks are correct after it is taken back and unmarked.
+  -- The marks are correct after the outside concept is taken back and unmarked.
   pub knows_unmarked : (n : ℕ) → set.contains (set.remove marks (length before + 1)) n ≡ is_outside before n
   knows_unmarked n = both_ways _ _ there (λ e. back (test_passed before n e))
     where

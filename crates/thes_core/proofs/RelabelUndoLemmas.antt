@@ -1,4 +1,4 @@
--- The labels are those of the state before a preferred label was replaced once the replacement is taken back.
+-- Once the replacement of a preferred label is taken back, the labels are those of the state before it.
 use Rattle.std.proofs.Common.{◌≡◌, ◌∙◌, ℕ, List, [], Bool, true, false, inl, inr, refl, sym, ap, subst}
 use Rattle.std.specs.Prelude.{None, Some, Option}
 use Rattle.std.specs.FinSet as set

@@ -76,7 +76,7 @@ module _ (t : Thesaurus) (hs : List History) {after : State} {growth : Growth} {
       → unless_within_limits (setting_of t) (parts_state t hs) after answer
   room_bare postings moves = row_of_room (room_unposted t hs postings moves)
 
--- The first rule that the links break gives the refusal of the three checks.
+-- The checks for Cycle, S27 and S46 refuse by the first of these rules that the links break.
 first_row : (Held : Link → Type 0) (first : Option Refusal) → IsFirstBroken Held first → unless_links_consistent Held
     accepted first
 first_row Held None broken = row_of_first Held accepted None None broken refl

@@ -96,7 +96,8 @@ module _ (passes : History → Bool) where
   passing_from (h ∷ hs) n e =
       grind (arith, common_steps, cases_Bool, eqb-true, or_cases, passing_no, passing_yes, passing_from hs n)
 
-  -- The moves of the histories that pass are those from the source to the target, if all are assigned to the source.
+  -- If all histories that pass are assigned to the source, their new moves are the rows of moves from the source to the
+  -- target.
   pub moves_passing : (source target : ℕ) (apart : source ≢ target) (number : ℕ) (hs : List History)
       → AllAssigned passes source target apart hs → new_moves passes target number hs ≡ move_rows number source target
       (passing_numbers hs)
@@ -112,7 +113,7 @@ module _ (passes : History → Bool) where
     moves_passing source target apart number hs all.1,
   )
 
--- The listed postings, sorted, are the numbers of the histories that are listed.
+-- Sorted, the numbers that a split lists are those of the listed histories, in the order of the histories.
 pub listed_sorted : (hs : List History) (source : ℕ) (postings ordered : List ℕ)
     → ((i : ℕ) (h : History) → slice_get hs i ≡ Some h → h.number ≡ suc i) → unless_split_postings hs source postings
     accepted None → IsPermutation postings ordered → IsNonDecreasing ordered → passing_numbers (is_listed postings) hs
@@ -136,7 +137,8 @@ listed_sorted hs source postings ordered numbers row same up =
     back : (n : ℕ) → has_number postings n ≡ true → has_number (passing_numbers (is_listed postings) hs) n ≡ true
     back n e = grind (arith, common_steps, has_of_each, known, passing_has)
 
--- The changes of place read off the rows of moves are those made for their postings.
+-- If each row of moves sets its posting's place, the changes are those that set the places of all these postings to the
+-- target.
 pub places_of_moves : (number source target : ℕ) (ps : List ℕ)
     → map (λ (m : MoveRow). change.SetPlace m.posting m.target) (move_rows number source target ps)
     ≡ map (place_change target) ps

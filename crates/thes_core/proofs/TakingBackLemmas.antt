@@ -1,4 +1,4 @@
--- The parts of a thesaurus are those of the state before a request once the request is taken back.
+-- Once a request is taken back, the parts of the thesaurus are those of the state before it.
 use Rattle.std.proofs.Common.{◌≡◌, ◌≢◌, ◌+◌, ℕ, length, List, [], ◌∷◌, ◌++◌, refl, sym, ap, ◌∙◌, subst, inl, inr, arith}
 use Rattle.std.proofs.Common.{Bool, true, false, length-append}
 use Rattle.std.specs.Prelude.{None, Some}
@@ -194,7 +194,7 @@ module _ (t : Thesaurus) (kind : LinkKind) (a b : ℕ) (s : State)
         histories = [];
       }) refl is.outside
 
--- A resource of another kind isn't an outside concept.
+-- A new resource that isn't an outside concept doesn't change which numbers are those of outside concepts.
 outside_before : (rs : List Resource) (r : Resource) → is_outside_kind r.kind ≡ false → (n : ℕ)
     → is_outside (rs ++ r ∷ []) n ≡ is_outside rs n
 outside_before rs r kind n = sym (same_outside rs (rs ++ r ∷ []) n (passes_push rs r (λ x. is_outside_kind x.kind) n)

@@ -1,4 +1,4 @@
--- A core is again a view of the state before the requests of a log once they are taken back.
+-- Once the requests of a log are taken back, the core is again a view of the state before them.
 use Rattle.std.proofs.Common.{◌≡◌, ◌≢◌, ◌<◌, ◌≤◌, ◌^◌, ◌+◌, ◌-◌, ◌++◌, ◌∷◌, [], ℕ, suc, List, Bool, false, refl, sym, ap}
 use Rattle.std.proofs.Common.{◌∙◌, subst, rules, arith, get_or, length, take}
 use Rattle.std.proofs.lemmas.List.{take_more}
@@ -48,14 +48,14 @@ use Rattle.thes_core.proofs.MergeDeltaLemmas.{standing_length}
 use Rattle.thes_core.proofs.PartLemmas.{legal_without}
 
 module _ (Leads : State → UndoStep → State → Type 0) where
-  -- One more step leads on.
+  -- Steps that lead to a state, and a step that leads from it, lead together to the state after that step.
   pub steps_push : (s mid t : State) (steps : List UndoStep) (step : UndoStep) → StepsLead Leads s steps mid
       → Leads mid step t → StepsLead Leads s (steps ++ step ∷ []) t
   steps_push s mid t [] step same leads = (t, subst (λ (x : State). Leads x step t) same leads, refl)
   steps_push s mid t (x ∷ steps) step lead leads =
       (lead.0, lead.1, steps_push lead.0 mid t steps step lead.2 leads)
 
-  -- The last step led from the state to which those before it lead.
+  -- If the steps lead from `s` to `t`, those before the last lead to a state from which the last leads to `t`.
   pub steps_pop : (s t : State) (steps : List UndoStep) (step : UndoStep) → StepsLead Leads s (steps ++ step ∷ []) t
       → (mid : State) × StepsLead Leads s steps mid × Leads mid step t
   steps_pop s t [] step lead = (s, refl, subst (λ (x : State). Leads s step x) (sym lead.2) lead.1)
@@ -74,7 +74,7 @@ module _ (k : CoreView) (steps rest : List UndoStep) (step : UndoStep) (is : ste
   pub last_applied : (s : State) × LeadsWithoutPostings k.setting s step (with_histories [] k)
   last_applied = (last_of_log.0, last_of_log.2)
 
-  -- Once it is taken back, the rest of the log is one of the core.
+  -- Once the last request is taken back, the rest of the log is a log of the core.
   pub log_of_rest : (now : CoreView) → now.setting ≡ k.setting
       → ((s : State) → LeadsWithoutPostings k.setting s step (with_histories [] k)
       → with_histories [] now ≡ without_postings s)
@@ -143,13 +143,13 @@ module _ (t : Thesaurus) (spent : Bool) (k : CoreView) (is : parts_view t spent 
         outside = fit.outside;
       }
 
-  -- Parts that are taken back satisfy their invariant.
+  -- Once the request is taken back, the parts satisfy their invariant.
   pub fit_before : (new : Thesaurus) → ArePartsAfter command s t → PartsOfState t (without_postings s) new
       → AreLegal new []
   fit_before new after made = kept_after t new (without_postings s) fit.fit (legal_without t.vocab.base s after.legal)
       made
 
-  -- A core that is taken back is a view of the state before.
+  -- Once the request is taken back, the core is a view of the state before it.
   pub view_before : (new : Thesaurus) (now : CoreView) (after : State) → parts_view new false ≡ now
       → ArePartsAfter command s t → PartsOfState t (without_postings s) new
       → ArePostingCounts s.histories new.book → IsViewOf now s
@@ -162,12 +162,12 @@ module _ (t : Thesaurus) (spent : Bool) (k : CoreView) (is : parts_view t spent 
       subst (λ (x : CoreView). IsViewOf x s) shows
       (held_of new false s whole.state (kept_after t new s fit.fit then.legal whole) counts)
 
--- What holds after a call that succeeds implies what follows from it.
+-- If a successful call guarantees `P`, and `P` implies `Q`, the call guarantees `Q`.
 pub follows_if_ok : {A E : Type 0} (r : Result A E) (P Q : Type 0) → (P → Q) → OnOk r P → OnOk r Q
 follows_if_ok (Ok x) P Q to p = to p
 follows_if_ok (Err e) P Q to p = tt
 
--- The counts before a withdrawal.
+-- Once a withdrawal is taken back, the counts are those of the state before it.
 pub counts_unwithdrawn : (setting : Setting) (s : State) (posting concept : ℕ) (old new : PostingCounts)
     → IsLegalState setting.base s → IsAccepted setting s (request.Withdraw posting)
     → IsLostFromPostings (request.Withdraw posting) s (Place concept)
@@ -183,7 +183,7 @@ counts_unwithdrawn setting s posting concept old new legal accepts lost counts b
     sums_before_withdrawal s.histories posting lost.0 lost.1 stays old new counts
     (subst (λ (n : ℕ). CountsAfterWithdrawal n new old) lost.2 one)
 
--- The counts before a split.
+-- Once a split is taken back, the counts are those of the state before it.
 pub counts_unsplit : (setting : Setting) (s : State) (source : ℕ) (tag text postings : List ℕ) (n k : ℕ)
     (old new : PostingCounts) → IsLegalState setting.base s
     → IsAccepted setting s (request.Split source tag text postings) → n ≡ next_number s
@@ -223,7 +223,7 @@ counts_unsplit setting s source tag text postings n k old new legal accepts numb
     counted : ArePostingCounts (histories_after_split postings n s.histories) old
     counted = subst (λ m. ArePostingCounts (histories_after_split postings m s.histories) old) (sym number) counts
 
--- The counts before a merge.
+-- Once a merge is taken back, the counts are those of the state before it.
 pub counts_unmerged : (setting : Setting) (s : State) (source target moves : ℕ) (old new : PostingCounts)
     → IsLegalState setting.base s → source ≢ target
     → (length s.histories < 2 ^ 32 → moves ≡ assigned_count source s.histories)
@@ -238,7 +238,7 @@ counts_unmerged setting s source target moves old new legal apart moved counts b
     (back (moves_counted (is_assigned_to source) source target apart (move_count s.histories + 1) s.histories all
     moves (moved few) old counts few))
 
--- The number of postings that a merge moves is that of the postings in its facts.
+-- The number of postings in the facts of a merge is that of the postings assigned to its source.
 pub moves_lost : (source target : ℕ) (s : State) (facts : Facts) (standing : List ℕ) (moved : ℕ)
     → AreFacts (request.Merge source target) s.histories facts → standing ≡ facts.standing.items
     → (length standing < 2 ^ 32 → moved ≡ length standing) → length s.histories < 2 ^ 32
@@ -267,7 +267,7 @@ place_known setting posting s facts accepts are first =
     let bad = sym none ∙ stood.1 in
     cc
 
--- What a request takes from the parts of a core it takes from each state of which the core is a view.
+-- What a request removes or adds in the parts of a core, it removes or adds in each state of which the core is a view.
 pub lost_from_view : (k : CoreView) (s : State) (command : Command) (lost : Lost) → IsViewOf k s
     → IsLostFromParts command (with_histories [] k) lost → IsLostFromParts command s lost
 lost_from_view k s command lost holds is = subst (λ (x : State). IsLostFromParts command x lost) holds.state
@@ -281,7 +281,7 @@ lost_from_view k s command lost holds is = subst (λ (x : State). IsLostFromPart
         record { links = x.links; additions = x.additions; copies = x.copies }
     bare _ _ x = x
 
--- A request that is applied and appended to a log keeps it a log of the core.
+-- A log of a core stays a log of it when a request is applied to the core and appended to the log.
 pub log_grows : (k now : CoreView) (steps : List UndoStep) (step : UndoStep) → IsLogOf steps k → now.setting
     ≡ k.setting → LeadsWithoutPostings k.setting (with_histories [] k) step (with_histories [] now)
     → IsLogOf (steps ++ step ∷ []) now
@@ -292,7 +292,7 @@ log_grows k now steps step log set applied = (
       step log.1 applied),
 )
 
--- A prefix of a log, apart from its last step.
+-- The first n steps of a log are the first n - 1, followed by the step at index n - 1.
 pub take_last : (xs : List UndoStep) (n : ℕ) (x : UndoStep) → 0 < n → n ≤ length xs → x ≡ get_or xs (n - 1) x
     → take n xs ≡ take (n - 1) xs ++ x ∷ []
 take_last xs n x some within is =

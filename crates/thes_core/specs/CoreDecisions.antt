@@ -63,12 +63,12 @@ pub record IsAppliedWithoutPostings (setting : Setting) (s : State) (command : C
   pub may : IsAcceptedWithoutPostings setting s command
   pub after : t ≡ without_postings (next_state command s)
 
--- If the verdict accepts the request, it may be applied.
+-- If the verdict accepts the request, the request may be applied to the core.
 abbrev pub VerdictMayApply : CoreView → Command → Verdict → Type 0
 VerdictMayApply core command (Settled answer) = Unit {0}
 VerdictMayApply core command (Accepted answer changes) = MayApply core command
 
--- What an application leaves: a usable core with the same base and limits; or, after OutOfMemory, an unusable core.
+-- The core after a request is applied: usable, with the same base and limits; or, after OutOfMemory, unusable.
 abbrev pub ApplyFrame : {A : Type 0} → CoreView → Result A Fault → CoreView → Type 0
 ApplyFrame old (Ok applied) new = (new.spent ≡ false) × (new.setting ≡ old.setting)
 ApplyFrame old (Err fault) new = (fault ≡ OutOfMemory) × (new.spent ≡ true)

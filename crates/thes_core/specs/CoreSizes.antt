@@ -1,4 +1,4 @@
--- The numbers of what a core holds.
+-- The sizes of a core's state, and the totals of its postings.
 use Rattle.std.specs.Prelude.{◌≡◌, ◌-◌, length}
 use Rattle.std.specs.FinSet as set
 use Rattle.thes_base.specs.declared.data.Totals.{Totals}

@@ -1,4 +1,4 @@
--- The labels of one kind, as a view lists them.
+-- The labels of one kind, as the answer to a query of a concept lists them.
 use Rattle.std.specs.Prelude.{◌==◌, Bool}
 use Rattle.thes_base.specs.declared.data.LabelKind.{LabelKind}
 use Rattle.thes_base.specs.Data.{LabelData}
@@ -9,6 +9,6 @@ use Rattle.thes_base.specs.Views.{TaggedText}
 abbrev pub tagged_text : LabelData → TaggedText
 tagged_text l = record { tag = l.tag; text = l.text }
 
--- The test of whether the label is of the kind.
+-- Whether the label is of the kind.
 abbrev pub is_of_kind : LabelKind → LabelData → Bool
 is_of_kind kind l = label_kind_no l.kind == label_kind_no kind

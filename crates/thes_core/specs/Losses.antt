@@ -1,5 +1,5 @@
--- What an accepted request takes from the state, or adds to it, without naming it, as far as taking the request back
--- needs it.
+-- What an accepted request removes from the state, or adds to it, without naming it in its arguments, as far as taking
+-- the request back needs it.
 use Rattle.std.specs.Prelude.{◌≡◌, ◌<◌, ◌^◌, ℕ, Bool, List, Some, if◌then◌else◌, length}
 use Rattle.std.specs.FinSet as set
 use Rattle.thes_base.specs.declared.data.History.{History}
@@ -33,7 +33,7 @@ pub record IsMergeLoss (source target : ℕ) (s : State) (loss : MergeLoss) : Ty
   pub copies : AreMissingLabels s.labels source target loss.copies.items
 
 -- The loss is what the request changes in the labels and links: for a Relabel the former preferred label, for a
--- Deprecate the links of its concept, for a Merge what it takes and adds; any loss for another request.
+-- Deprecate the links of its concept, for a Merge what it removes and adds; any loss for another request.
 abbrev pub IsLostFromParts : Command → State → Lost → Type 0
 IsLostFromParts (request.Relabel owner tag text keep) s (Preferred old) =
     preferred_label_in s.labels owner tag ≡ Some old

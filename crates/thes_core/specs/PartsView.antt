@@ -36,8 +36,8 @@ parts_view t spent =
       spent = spent;
     }
 
--- The invariant of the parts: base and limits are valid, the parts are a legal state with these histories, and the
--- graph marks exactly the outside concepts.
+-- The invariant of the parts: the base and the limits are valid, the parts and these histories are a legal state, and
+-- the graph marks exactly the outside concepts.
 pub record AreLegal (t : Thesaurus) (histories : List History) : Type 0 where
   pub fit : IsSetting (setting_of t)
   pub legal : IsLegalState t.vocab.base (parts_state t histories)

@@ -22,13 +22,13 @@ use Rattle.thes_core.specs.Facts.{AreFacts}
 use Rattle.thes_core.specs.CoreView.{without_postings}
 use Rattle.thes_core.specs.PartsView.{parts_state, setting_of, parts_view, AreLegal}
 
--- The rule that refuses a request in the state that has the parts and these histories.
+-- The rule that says which refusal a request gets, if any, in the state that has the parts and these histories.
 abbrev pub RefusalByParts : Thesaurus → List History → Command → RefusalRule
 RefusalByParts t histories command =
     let s = parts_state t histories in refusal_rule_of (setting_of t) s (next_state command s) command
 
--- The checks of a new link in normal form: LinkThere if it is held, or else the first rule that the links with it
--- break. `outside` is the test for outside concepts, on which the form depends.
+-- The checks of a new link, in its normal form: LinkThere if the link is held, or else the first rule that this link
+-- and the held ones break together. `outside` is the test for outside concepts, on which the normal form depends.
 abbrev pub unless_linkable : (ℕ → Bool) → Links → Link → RefusalRule
 unless_linkable outside links l =
     let kept = normal_form outside l in
@@ -80,7 +80,7 @@ creation_request (Concept scheme tag text) = request.Concept scheme tag text
 creation_request (Collection scheme tag text) = request.Collection scheme tag text
 creation_request (Outside iri) = request.Outside iri
 
--- The test of whether the new resource is an outside concept.
+-- Whether the new resource is an outside concept.
 abbrev pub is_foreign : NewResource → Bool
 is_foreign (Outside iri) = true
 is_foreign _ = false

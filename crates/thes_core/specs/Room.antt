@@ -15,7 +15,7 @@ pub record Amounts : Type 0 where
   pub postings : ℕ
   pub moves : ℕ
 
--- The numbers of resources, labels, links, postings and moves in a state.
+-- The amounts in a state, with the numbers of postings and moves taken from its histories.
 abbrev pub amounts_of_state : State → Amounts
 amounts_of_state s =
     record {
@@ -26,7 +26,7 @@ amounts_of_state s =
       moves = move_count s.histories;
     }
 
--- The numbers of resources, labels, links, postings and moves, as the parts count them.
+-- The amounts in the parts of a thesaurus, with the numbers of postings and moves taken from its counts.
 abbrev pub amounts_of_parts : Thesaurus → Amounts
 amounts_of_parts t =
     record {

@@ -20,16 +20,16 @@ use Rattle.thes_core.specs.declared.thesaurus.Thesaurus.{Thesaurus}
 use Rattle.thes_core.specs.declared.losses.Lost.{Lost}
 use Rattle.thes_core.specs.declared.undo_log.UndoStep.{UndoStep}
 
--- The request passes its checks; of a Split only the source is checked to be a concept, of a Post or a Withdraw
--- nothing.
+-- The request passes these of its checks: for a Split, that its source is a concept; for a Post or a Withdraw, none;
+-- for any other request, all.
 abbrev pub IsAcceptedOnParts : Setting → State → Command → Type 0
 IsAcceptedOnParts setting s (request.Split source tag text postings) = IsConcept s.resources source
 IsAcceptedOnParts setting s (request.Post key rec concept) = Unit {0}
 IsAcceptedOnParts setting s (request.Withdraw posting) = Unit {0}
 IsAcceptedOnParts setting s command = IsAccepted setting s command
 
--- Postings aside, the parts are those of the state after the request, which passes these checks in the legal state `s`;
--- the graph marks exactly the outside concepts.
+-- Postings aside, the parts are those of the state after the request, which passes the checks of `IsAcceptedOnParts` in
+-- the legal state `s`; the graph marks exactly the outside concepts.
 pub record ArePartsAfter (command : Command) (s : State) (t : Thesaurus) : Type 0 where
   pub legal : IsLegalState t.vocab.base s
   pub accepts : IsAcceptedOnParts (setting_of t) s command
@@ -44,20 +44,21 @@ pub record ArePartsAfterCreation (tag text : List ℕ) (s : State) (t : Thesauru
   pub state : parts_state t [] ≡ without_postings (state_after_creation resource tag text s)
   pub outside : MarksOutside t.vocab.resources t.graph
 
--- Postings aside: if the old parts are those after the request, and `lost` is what the request takes or adds without
--- naming it, the new parts are those of the state `s` before the request.
+-- Postings aside: if the old parts are those after the request, and `lost` is what the request removes or adds without
+-- naming it in its arguments, the new parts are those of the state `s` before the request.
 abbrev pub ArePartsTakenBack : Command → State → Lost → Thesaurus → Thesaurus → Type 0
 ArePartsTakenBack command s lost old new = ArePartsAfter command s old → IsLostFromParts command s lost
     → PartsOfState old (without_postings s) new
 
 -- If the old parts count the postings of the state after the accepted request, and `lost` is what the request changes
--- in the postings without naming it, the new parts count the postings of the state `s` before the request.
+-- in the postings without naming it in its arguments, the new parts count the postings of the state `s` before the
+-- request.
 abbrev pub AreCountsTakenBack : Command → State → Lost → Thesaurus → Thesaurus → Type 0
 AreCountsTakenBack command s lost old new = IsAccepted (setting_of old) s command → IsLostFromPostings command s lost
     → ArePostingCounts (next_state command s).histories old.book → ArePostingCounts s.histories new.book
 
 -- The step leads from the legal state `s` to the state `t`: its request is accepted in `s`, and its `lost` is what the
--- request takes from `s`, or adds to it, without naming it.
+-- request removes from `s`, or adds to it, without naming it in its arguments.
 pub record IsUndoStep (setting : Setting) (s : State) (step : UndoStep) (t : State) : Type 0 where
   pub legal : IsLegalState setting.base s
   pub accepts : IsAccepted setting s step.command
@@ -65,18 +66,18 @@ pub record IsUndoStep (setting : Setting) (s : State) (step : UndoStep) (t : Sta
   pub lost_postings : IsLostFromPostings step.command s step.lost
   pub after : t ≡ next_state step.command s
 
--- The steps lead, each as `Leads` states, one after another from the state `s` to the state `t`.
+-- The steps lead from the state `s` to the state `t`, one after another, each as `Leads` states.
 abbrev pub StepsLead : (State → UndoStep → State → Type 0) → State → List UndoStep → State → Type 0
 StepsLead Leads s [] t = t ≡ s
 StepsLead Leads s (step ∷ steps) t = (mid : State) × Leads s step mid × StepsLead Leads mid steps t
 
--- The step leads from one state without postings to another, and its `lost` is what its request takes from the first,
--- or adds to it, without naming it.
+-- The step leads from one state without postings to another, and its `lost` is what its request removes from the first,
+-- or adds to it, without naming it in its arguments.
 pub record LeadsWithoutPostings (setting : Setting) (before : State) (step : UndoStep) (after : State) : Type 0 where
   pub application : IsAppliedWithoutPostings setting before step.command after
   pub lost : IsLostFromParts step.command before step.lost
 
--- The steps of the log lead from some state without postings to that of the core.
+-- The steps of the log lead from some state without postings to the core's state without its postings.
 abbrev pub IsLogOf : List UndoStep → CoreView → Type 0
 IsLogOf steps core =
     (s : State) × StepsLead (LeadsWithoutPostings core.setting) s steps (with_histories [] core)

@@ -1,4 +1,5 @@
-//! Look-ups of labels that views need. The core must be usable (not `is_spent`).
+//! Look-ups of labels by kind, which the answer to a query of a concept needs. The core must be
+//! usable (not `is_spent`).
 ghost use Rattle.std.specs.Prelude.{◌≡◌, false, [], filter, map, IfOk};
 ghost use Rattle.thes_base.specs.Views.{AreLabels};
 ghost use Rattle.thes_core.specs.CoreView.{with_histories};

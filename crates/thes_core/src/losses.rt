@@ -1,4 +1,5 @@
-//! What an accepted request takes from the state, or adds to it, without naming it.
+//! What an accepted request removes from the state, or adds to it, without naming it in its
+//! arguments: what is needed to take the request back.
 ghost use Rattle.std.specs.Prelude.{◌≡◌, ◌<◌, ◌^◌, ℕ, [], IfOk, length};
 ghost use Rattle.thes_base.specs.declared.request.Command.TheVariants as request;
 ghost use Rattle.thes_base.specs.State.{State};
@@ -19,7 +20,7 @@ use thes_base::number::ResNo;
 use thes_base::request::Command;
 use thes_base::text::Text;
 
-/// What a merge takes from the state, and what it adds to it.
+/// What a merge removes from the state, or adds to it, without naming it in its arguments.
 #[derive(Debug, Drop)]
 pub struct MergeLoss {
     /// The links of the source.
@@ -32,8 +33,8 @@ pub struct MergeLoss {
     pub moves: u32,
 }
 
-/// What an accepted request takes from the state, or adds to it, without naming it, as far as
-/// taking the request back needs it.
+/// What an accepted request removes from the state, or adds to it, without naming it in its
+/// arguments, as far as taking the request back needs it.
 #[derive(Debug, Drop)]
 pub enum Lost {
     /// Nothing, since the request names all that it changes.
@@ -63,7 +64,8 @@ fn lost_place(facts: &Facts) -> Lost
 }
 
 impl Thesaurus {
-    // Returns what a merge takes from the state, and what it adds to it.
+    // Returns the links and labels that a merge removes or adds, and the number of postings that it
+    // moves.
     fn lost_by_merge(
         &self,
         source: ResNo,
@@ -87,7 +89,8 @@ impl Thesaurus {
         })
     }
 
-    // Returns what an accepted request takes from the state, or adds to it, without naming it.
+    // Returns what an accepted request removes from the state, or adds to it, without naming it in
+    // its arguments.
     pub(crate) fn lost_by(&self, command: &Command, facts: &Facts) -> Result<Lost, AllocError>
         requires { MayChange self.now command.now }
         ensures parts { IfOk result (IsLostFromParts command.now (parts_state self.now [])) }

@@ -100,7 +100,8 @@ impl Core {
     {
         // No effect; states the form of each text for the proof.
         command.learn_forms();
-        // Half a change can't be undone without memory (DECISIONS.md, The core).
+        // The core stays unusable unless the whole change succeeds: half a change can't be undone
+        // without memory (DECISIONS.md, The core).
         self.spent = true;
         self.thesaurus.change(command, facts)?;
         self.spent = false;

@@ -14,8 +14,8 @@ use thes_post::book::Book;
 use thes_vocab::Vocab;
 
 impl Core {
-    /// Creates a core from a vocabulary, its links and the counts of its postings, which must be
-    /// those of a legal state.
+    /// Creates a core from the vocabulary, the links and the counts of postings of a legal state,
+    /// with these limits.
     #[tactic(auto, using(crate::proofs::PartLemmas::legal_without))]
     pub fn of_parts(alloc: Global, vocab: Vocab, graph: Graph, book: Book, limits: Limits) -> Core
         requires marks { MarksOutside vocab.resources graph }

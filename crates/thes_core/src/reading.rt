@@ -73,8 +73,8 @@ impl Core {
         self.thesaurus.book.totals()
     }
 
-    /// Returns the number of postings assigned to a concept, from the core's counts; 0 for other
-    /// numbers.
+    /// Returns the number of postings assigned to a concept, from the core's counts; 0 for a number
+    /// that isn't a concept's.
     pub fn count(&self, concept: ResNo) -> u64
         requires { self.now.spent ≡ false }
         ensures { result ≡ count_of self.now.posting_counts concept }
@@ -202,8 +202,8 @@ impl Core {
         self.thesaurus.graph.collections_of(alloc, n)
     }
 
-    /// Returns the mappings of the concept among the core's links, as seen from it, sorted by the
-    /// names of their kinds and then by number.
+    /// Returns the mappings of the concept among the core's links: for each the kind, as seen from
+    /// the concept, and the other end; sorted by the name of the kind and then by number.
     pub fn mappings(&self, alloc: Global, n: ResNo) -> Result<Vec<(LinkKind, ResNo)>, AllocError>
         requires { self.now.spent ≡ false }
         ensures { let is_mapping = IsMapping self.now.links n in
@@ -212,8 +212,9 @@ impl Core {
         self.thesaurus.graph.mappings(alloc, n)
     }
 
-    /// Returns the typed hierarchical links of the concept among the core's links, as seen from it,
-    /// sorted by the names of their types and then by number.
+    /// Returns the typed hierarchical links of the concept among the core's links: for each the
+    /// type, as seen from the concept, and the other end; sorted by the name of the type and then
+    /// by number.
     pub fn typed_of(&self, alloc: Global, n: ResNo) -> Result<Vec<(TypedKind, ResNo)>, AllocError>
         requires { self.now.spent ≡ false }
         ensures { let is_typed = IsTypedLink self.now.links n in

@@ -28,7 +28,7 @@ use thes_tables::change::Change;
 use thes_tables::delta::Delta;
 use thes_tables::rows::{HierRow, HierType, LabelRow};
 
-// Returns the list of changes of rows that has this change alone.
+// Returns a `Delta` that has this change alone.
 fn one(alloc: Global, change: Change) -> Result<Delta, AllocError>
     ensures { IfOk result (λ delta. delta ≡ change ∷ []) }
 {
@@ -247,7 +247,7 @@ impl Thesaurus {
         Ok(delta)
     }
 
-    // Returns the normal form of a link, in which the tables have it.
+    // Returns a link's normal form, the form in which the tables have it.
     fn normal(&self, kind: LinkKind, a: ResNo, b: ResNo) -> Link
         requires { AreLegal self.now [] }
         ensures { result ≡ normal_form (is_outside self.now.vocab.resources) (link kind a b) }

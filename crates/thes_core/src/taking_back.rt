@@ -38,7 +38,8 @@ fn alternative_label(alloc: Global, tag: &Tag, text: &Text) -> Result<Label, All
 }
 
 impl Thesaurus {
-    // Takes back the request that was applied last; `lost` is what it changed without naming it.
+    // Takes back the request that was applied last; `lost` is what the request removed or added
+    // without naming it in its arguments.
     pub(crate) fn take_back(&mut self, command: &Command, lost: &Lost) -> Result<(), AllocError>
         requires { (s : State) × ArePartsAfter command.now s self.old
             × IsLostFromParts command.now s lost.now }
@@ -212,7 +213,8 @@ impl Thesaurus {
         self.book.take_back_post(way.place, way.steps);
     }
 
-    // Takes back the count of a withdrawal; changes nothing if `lost` has no place of its posting.
+    // Takes back the count of a withdrawal; changes nothing if `lost` isn't the place of the
+    // posting.
     fn take_back_withdrawal(&mut self, lost: &Lost) -> Result<(), AllocError>
         ensures same { OnOk result (self.new ≡ record self.old { book = self.new.book }) }
         ensures counts { OnOk result ((posting : ℕ) (s : State)
@@ -251,7 +253,7 @@ impl Thesaurus {
         Ok(())
     }
 
-    // Removes the alternative label with the old text, which a Relabel has added if `keep` is true.
+    // If `keep` is true, removes the alternative label with the old text, which the Relabel added.
     fn drop_kept(
         &mut self,
         owner: ResNo,
@@ -275,7 +277,8 @@ impl Thesaurus {
         Ok(())
     }
 
-    // Takes back a split: removes the new concept, and counts the listed postings at the source.
+    // Takes back a split: removes the new concept, and counts the listed postings at the source
+    // again.
     fn take_back_split(
         &mut self,
         source: ResNo,

@@ -1,5 +1,5 @@
 //! `Thesaurus`, the parts of a core as one struct without an invariant, so that a request may
-//! change one after another.
+//! change the parts one after another.
 use std::alloc::Global;
 use thes_base::data::Limits;
 use thes_graph::graph::Graph;

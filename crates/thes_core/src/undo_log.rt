@@ -17,7 +17,8 @@ use std::marker::Model;
 use thes_base::fault::Fault;
 use thes_base::request::Command;
 
-/// A request that was applied to a core, with what it changed without naming it.
+/// A request that was applied to a core, with what it removed or added without naming it in its
+/// arguments.
 #[derive(Debug, Drop)]
 pub struct UndoStep {
     pub(crate) command: Command,
@@ -51,7 +52,8 @@ impl UndoLog {
 }
 
 impl Core {
-    // Returns what an accepted request takes from the state, or adds to it, without naming it.
+    // Returns what an accepted request removes from the state, or adds to it, without naming it in
+    // its arguments.
     fn lost_by_request(&self, command: &Command, facts: &Facts) -> Result<Lost, Fault>
         requires unspent { self.now.spent ≡ false }
         requires may { MayApply self.now command.now }
@@ -120,8 +122,8 @@ impl Core {
         }
     }
 
-    /// Takes back the requests of a log, so that the core is a view of the state before them. If
-    /// memory runs out, the core is unusable (`is_spent`).
+    /// Takes back the requests of a log, the last one first, so that the core has the state before
+    /// them again. If memory runs out, the core is unusable (`is_spent`).
     pub fn take_back(&mut self, log: &UndoLog)
         requires unspent { self.old.spent ≡ false }
         requires logged { IsLogOf log.now self.old }

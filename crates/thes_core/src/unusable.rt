@@ -4,8 +4,8 @@ ghost use Rattle.std.specs.Prelude.{◌≡◌, true};
 use crate::machine::Core;
 
 impl Core {
-    /// Marks the core, whose state isn't that of the tables, as unusable until it is loaded again
-    /// (`is_spent`).
+    /// Marks the core as unusable until it is loaded again (`is_spent`), because its state may
+    /// differ from that of the tables, as after a failed commit.
     pub fn mark_spent(&mut self)
         ensures { self.new ≡ record self.old { spent = true } }
     {

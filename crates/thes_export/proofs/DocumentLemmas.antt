@@ -10,12 +10,14 @@ use Rattle.thes_export.proofs.TerminalLemmas.{head_of, tail_of, heads_differ, no
 use Rattle.thes_export.proofs.WritableLemmas.{IsWritable}
 use Rattle.thes_export.proofs.LineReadingLemmas.{line_then, not_blank, line_same}
 
--- If a text begins with neither white space nor `#`, nothing comes before the end of its line.
+-- A text that begins with neither white space nor `#` has no white space or comment at its beginning, so all of it
+-- remains.
 no_line_end : (text : List ℕ) (c : ℕ) (x rest : List ℕ) → text ≡ c ∷ x → ¬ IsBlankByte c → (c ≡ 35 → ⊥)
     → IsLineEnd text rest → rest ≡ c ∷ x
 no_line_end text c x rest e blank hash at_line_end = grind (arith, common_steps, heads_differ, no_gap_before)
 
--- An end of line is one byte if the next byte belongs to no line end.
+-- An end of line that begins with a line feed is this byte alone, if the byte after it is neither a line feed nor a
+-- carriage return.
 one_eol : (eol rest text x : List ℕ) → IsEol eol → text ≡ eol ++ rest → text ≡ 10 ∷ x
     → ((c : ℕ) (z : List ℕ) → x ≡ c ∷ z → ¬ IsEolByte c) → rest ≡ x
 one_eol [] rest text x has_form text_is e stops = absurd (let l = has_form.0 in omega arith)
@@ -91,7 +93,7 @@ tail_same (t ∷ ts) (content ∷ others) text fine e tail =
     let more = tail_same ts others tail.more.more.rest fine.1 one.1 tail.more.more.more in
     (λ i. one.0 i ∷ more i)
 
--- A document of these lines has exactly their triples.
+-- A document that consists of the lines of writable triples can only be read as these triples.
 pub document_same : (ts : List Triple) (others : List Statement) (text : List ℕ) → AllWritable ts → text
     ≡ lines_text ts → IsDocument text others → others ≡ map statement_of ts
 document_same [] [] text fine e document = refl

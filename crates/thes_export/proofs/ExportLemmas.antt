@@ -46,7 +46,7 @@ module _ (base : List ℕ) (s : State) (legal : IsLegalState base s) where
         ];
       }
 
-  -- The only reading of an export of a legal state is exactly its triples.
+  -- The only reading of an export of a legal state is exactly the state's triples.
   pub export_read : (text : List ℕ) → IsExport base s text → IsReadAs base s text
   export_read text export =
       let of = triples_found export.lines export.listed.sound in

@@ -35,7 +35,7 @@ use Rattle.thes_export.proofs.ResourceTripleLemmas.{written_from, written_to}
 pub parts_first : (core : CoreView) → AreParts core 0 []
 parts_first core = grind (arith, common_steps, Contains-none)
 
--- The part about the next resource is appended.
+-- Once the part about the next resource is appended, the parts are complete up to that resource.
 pub parts_next : (core : CoreView) (i : ℕ) (text : List ℕ) (old new : List (List ℕ)) → IsPartOf core (i + 1) text
     → new ≡ old ++ text ∷ [] → AreParts core i old → AreParts core (i + 1) new
 parts_next core i text old new part e are = subst (AreParts core (i + 1)) (sym e) (record {
@@ -66,7 +66,7 @@ parts_next core i text old new part e are = subst (AreParts core (i + 1)) (sym e
         let w = are.complete n least (omega arith) in
         (w.0, Contains-append_left old (text ∷ []) w.0 w.1, w.2)
 
--- Sorted lines about a resource are its part.
+-- The lines about a resource, sorted and each once, are its part.
 pub part_is : (core : CoreView) (n : ℕ) (gathered lines : List (List ℕ)) (text : List ℕ)
     → Adds (IsLineOf (IsResourceTriple core n)) [] gathered → IsListing (slice_cmp nat_cmp) (Contains gathered) lines
     → text ≡ concat lines → IsPartOf core n text
@@ -96,12 +96,13 @@ sorted_listing xs ys zs moved sorted filtered =
           (Contains-permutation xs ys l moved c));
     }
 
--- One more part is appended to the text.
+-- After the part at index `i` is appended, the text is that of the first i + 1 parts.
 pub joined_more : (xs : List (List ℕ)) (i : ℕ) (x old new : List ℕ) → i < length xs → x ≡ get_or xs i x → old
     ≡ concat (take i xs) → new ≡ old ++ x → new ≡ concat (take (i + 1) xs)
 joined_more xs i x old new below at so_far more = grind (arith, common_steps, append-nil, concat-append, take_more)
 
--- The bytes of one more part are counted.
+-- After the bytes of the part at index `i` are counted, the count is that of the first i + 1 parts, or the greatest
+-- `usize`.
 pub counted_more : (xs : List (List ℕ)) (i : ℕ) (x : List ℕ) (count more : ℕ) → i < length xs → x ≡ get_or xs i x
     → count ≡ min (length (concat (take i xs))) (2 ^ 64 - 1) → more ≡ min (count + length x) (2 ^ 64 - 1)
     → more ≡ min (length (concat (take (i + 1) xs))) (2 ^ 64 - 1)

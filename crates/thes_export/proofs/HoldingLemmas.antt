@@ -20,7 +20,7 @@ use Rattle.thes_lists.proofs.ListingLemmas.{listing_none, listings_same, listing
 use Rattle.thes_export.specs.Holdings.{AreMembersUpTo, AreTopsUpTo, IsTopIn, IsTopScheme, IsTopUpTo, IsMemberUpTo}
 use Rattle.thes_export.specs.Holdings.{IsUpTo}
 
--- Of no resources, none has the property.
+-- Empty lists are listings of the numbers up to 0.
 none_listed : (Is : ℕ → ℕ → Type 0) (lists : Lists ℕ) → ((n : ℕ) → listed_at lists n ≡ [])
     → AreListings nat_cmp (λ m. IsUpTo 0 (Is m)) lists
 none_listed Is lists none n = subst (IsListing nat_cmp (IsUpTo 0 (Is n))) (sym (none n))
@@ -42,19 +42,20 @@ pub members_all : (core : CoreView) (i n : ℕ) (lists : Lists ℕ) → i ≤ n 
 members_all core i n lists least most are =
     subst (λ k. AreMembersUpTo core k lists) (let e : i ≡ n = omega arith in e) are
 
--- A number up to `i + 1` is one up to `i`, or `i + 1`.
+-- A number up to `i + 1` with a property is a number up to `i` with it, or is `i + 1`.
 pub one_more : (Is : ℕ → Type 0) (i n : ℕ) → IsUpTo (i + 1) Is n → IsUpTo i Is n ⊎ ((n ≡ i + 1) × Is (i + 1))
 one_more Is i n (least, most, is) = grind (arith, common_steps, eqb-false, eqb-true)
 
 pub still_up : (Is : ℕ → Type 0) (i n : ℕ) → IsUpTo i Is n → IsUpTo (i + 1) Is n
 still_up Is i n (least, most, is) = (least, omega arith, is)
 
--- The members up to `i`, and resource `n` in each of these collections.
+-- Resource `x` is a member of the collection `k` with a number up to `i`; or it is `n`, and `k` is among the
+-- collections `ks`.
 abbrev pub IsMemberBefore : CoreView → ℕ → ℕ → List ℕ → ℕ → ℕ → Type 0
 IsMemberBefore core i n ks k x = IsMemberUpTo core i k x ⊎ ((x ≡ n) × Contains ks k)
 
 module _ (core : CoreView) (i n : ℕ) (next : n ≡ i + 1) where
-  -- The next resource is no top concept.
+  -- If the next resource isn't a top concept, the same lists are complete up to it.
   pub tops_same : (lists : Lists ℕ) → IsTopScheme core n None → AreTopsUpTo core i lists
       → AreTopsUpTo core (i + 1) lists
   tops_same lists none are = record {
@@ -65,7 +66,7 @@ module _ (core : CoreView) (i n : ℕ) (next : n ≡ i + 1) where
         (one_more (λ y. IsTopIn core y m) i x is)) are.listings;
   }
 
-  -- The next resource is a top concept of the scheme.
+  -- If the next resource is a top concept, the lists are complete up to it once it is in its scheme's list.
   pub tops_more : (old new : Lists ℕ) (scheme : ℕ) → IsTopIn core n scheme
       → ChangesOnlyAt old new scheme (insert_key nat_cmp (listed_at old scheme) n)
       → AreTopsUpTo core i old → AreTopsUpTo core (i + 1) new
@@ -103,7 +104,7 @@ module _ (core : CoreView) (i n : ℕ) (next : n ≡ i + 1) where
       (λ c. inr (⊎_elim sym (λ none. absurd (Contains-none m none)) (Contains-cons_cases k [] m c), one.0))
       (Contains-append_cases (take j ks) (k ∷ []) m one.1)) is))
 
-  -- These are all collections of the next resource.
+  -- Once the next resource is in the lists of all its collections, the lists are complete up to it.
   pub members_done : (ks xs : List ℕ) (lists : Lists ℕ) → xs ≡ ks
       → IsListing nat_cmp (λ k. HasLink core.links kind.Member k n) ks
       → AreListings nat_cmp (IsMemberBefore core i n xs) lists → AreMembersUpTo core (i + 1) lists

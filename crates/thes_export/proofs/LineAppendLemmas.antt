@@ -9,7 +9,7 @@ use Rattle.thes_base.proofs.ListMemberLemmas.{Contains-none, Contains-head, Cont
 use Rattle.thes_export.specs.Spelling.{line_of}
 use Rattle.thes_export.specs.Topics.{Adds, IsLineOf}
 
--- A step for a property that no line has appends none.
+-- A step for a property that no line has appends no line.
 pub added_none : (Is : List ℕ → Type 0) (xs : List (List ℕ)) → ((l : List ℕ) → Is l → ⊥) → Adds Is xs xs
 added_none Is xs none = record { each = λ l. (inl, ⊎_elim (λ c. c) (λ is. absurd (none l is))) }
 

@@ -9,7 +9,7 @@ put_together : (s p o : List ℕ) → (line_start s p ++ o) ++ codes " .\n" ≡ 
     ++ (32 ∷ (iri_spelling p ++ (32 ∷ (o ++ (32 ∷ 46 ∷ 10 ∷ [])))))
 put_together s p o = simp append_assoc
 
--- The beginning of a line, its object and its end are the line of the triple.
+-- The beginning of a line, the object and the end of the line are together the line of the triple.
 pub made_line : (t : Triple) (front text line : List ℕ) → front ≡ line_start t.subject (property_iri t.property)
     → text ≡ front ++ object_text t.object → line ≡ text ++ codes " .\n" → line ≡ line_of t
 unfolding line_of

@@ -146,7 +146,7 @@ line_then t x =
 opening : ¬ IsBlankByte 60
 opening = not_blank 60 (λ q. omega arith) (λ q. omega arith)
 
--- An object begins with a byte other than a space.
+-- An object begins with neither a space nor a tab.
 pub object_opens : (o : Object) (y : List ℕ) → (c : ℕ) × (z : List ℕ) × (object_then o y ≡ c ∷ z) × ¬ IsBlankByte c
 object_opens (Node iri) y = (60, _, refl, opening)
 object_opens (Class kind) y = (60, _, refl, opening)

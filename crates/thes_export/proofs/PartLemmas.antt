@@ -82,7 +82,7 @@ line_begins : (t : Triple) → Begins t.subject (line_of t)
 unfolding line_of
 line_begins t = (_, ap (λ x. 60 ∷ x) (append_assoc t.subject (62 ∷ []) _))
 
--- Sorted lists of which one is below the other are sorted together.
+-- If each element of one sorted list is below each element of another, the two lists appended are sorted.
 
 sorted_append : {X : Type 0} (cmp : X → X → Ordering) (xs ys : List X) → IsStrictlySortedBy cmp xs
     → IsStrictlySortedBy cmp ys → ((x y : X) → Contains xs x → Contains ys y → cmp x y ≡ Less)
@@ -101,7 +101,7 @@ module _ (core : CoreView) (hs : List History) (legal : IsLegalState core.settin
   abbrev k : State
   k = with_histories hs core
 
-  -- Each triple about a resource has it as the subject.
+  -- Each triple about a resource has the resource as its subject.
   subject_is : (topic : Topic) (n : ℕ) (t : Triple) → IsTopicTriple core topic n t → t.subject ≡ number_iri core n
   subject_is topic n t h = grind (arith, common_steps)
 
@@ -117,7 +117,7 @@ module _ (core : CoreView) (hs : List History) (legal : IsLegalState core.settin
   about_bytes n line (t, is, spelled) = subst (All IsIriByte) (subject_is is.0 n t is.1)
       (asserted_writable base k legal t (written_to core hs legal n t is)).subject
 
-  -- A part with a line about the resource begins with its IRI.
+  -- The part about a resource, if it has any line, begins with the resource's IRI.
   part_begins : (n : ℕ) (text line : List ℕ) → IsPartOf core n text → IsAbout n line → Begins (number_iri core n) text
   part_begins n text line (lines, listed, is) about = go lines listed is (listed.complete line about)
     where
@@ -130,7 +130,7 @@ module _ (core : CoreView) (hs : List History) (legal : IsLegalState core.settin
   same_part : (n : ℕ) (x y : List ℕ) → IsPartOf core n x → IsPartOf core n y → x ≡ y
   same_part n x y a b = a.2 ∙ ap concat (one_listing nat_list_cmp_total a.0 b.0 a.1 b.1) ∙ sym b.2
 
-  -- A text with a line is the part about one resource only.
+  -- A part that has any line is the part about one resource only.
   one_resource : (n m : ℕ) (text line : List ℕ) → Exists core.resources n → Exists core.resources m
       → IsPartOf core n text → IsAbout n line → IsPartOf core m text → n ≡ m
   one_resource n m text line there also one about (lines, listed, is) = go lines listed is
@@ -147,7 +147,7 @@ module _ (core : CoreView) (hs : List History) (legal : IsLegalState core.settin
           (same_iri (number_iri core n) (number_iri core m) (about_bytes n line about) (about_bytes m l own) first.0
           other.0 (tail_of _ _ _ _ (sym first.1 ∙ e ∙ other.1)))
 
-  -- If a part is below another, so are its lines below those of the other.
+  -- If one part is below another, its lines are below those of the other.
   lines_below : (n m : ℕ) (x y l d : List ℕ) → Exists core.resources n → Exists core.resources m → IsPartOf core n x
       → IsPartOf core m y → IsAbout n l → IsAbout m d → slice_cmp nat_cmp x y ≡ Less → slice_cmp nat_cmp l d ≡ Less
   lines_below n m x y l d there also one two about other below = go (eqb n m) refl
@@ -175,7 +175,7 @@ module _ (core : CoreView) (hs : List History) (legal : IsLegalState core.settin
   abbrev pub IsPart : List ℕ → Type 0
   IsPart text = (n : ℕ) × Exists core.resources n × IsPartOf core n text
 
-  -- The lines are those of the parts, in order.
+  -- The parts, one after another, are sorted lines: exactly the lines about the resources of these parts.
   pub record AreLinesOf (texts : List (List ℕ)) : Type 0 where
     pub lines : List (List ℕ)
     pub text_is : concat texts ≡ concat lines

@@ -57,7 +57,7 @@ module _ (core : CoreView) (hs : List History) (legal : IsLegalState core.settin
       → triple x p (Node y) ≡ node_triple core m p n
   nodes p m n x y d e = λ i. triple (d i) p (Node (e i))
 
-  -- A link of the same kind and ends as one held is held.
+  -- A link that has the kind and the ends of a held link is held.
 
   as_link : (l : Link) (j : LinkKind) (a b : ℕ) → Holds core.links l → l.kind ≡ j → l.a ≡ a → l.b ≡ b
       → HasLink core.links j a b

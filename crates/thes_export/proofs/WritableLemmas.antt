@@ -34,7 +34,7 @@ pub record IsWritable (t : Triple) : Type 0 where
   pub subject : All IsIriByte t.subject
   pub object : IsWritableObject t.object
 
--- The test of whether a byte may be in an IRI.
+-- Whether a byte may be in an IRI.
 abbrev is_iri_byte : ℕ → Bool
 is_iri_byte b = nat_lt 32 b && not (list_any (λ c. c == b) (codes "<>\"{}|^`\\"))
 

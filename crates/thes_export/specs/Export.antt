@@ -20,7 +20,7 @@ pub record IsExport (base : List ℕ) (s : State) (text : List ℕ) : Type 0 whe
   pub listed : IsListing (slice_cmp nat_cmp) (IsTripleLine base s) lines
   pub is : text ≡ concat lines
 
--- The RDF triple is that of a triple of the state.
+-- The RDF triple is that for some triple of the state.
 abbrev pub IsStated : List ℕ → State → Statement → Type 0
 IsStated base s content = (t : Triple) × IsAsserted base s t × (content ≡ statement_of t)
 

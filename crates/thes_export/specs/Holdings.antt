@@ -9,7 +9,7 @@ use Rattle.thes_lists.specs.declared.lists.Lists.{Lists}
 use Rattle.thes_lists.specs.Lists.{AreListings}
 use Rattle.thes_export.specs.declared.holdings.Holdings.{Holdings}
 
--- The number is one from 1 to `most` with the property.
+-- The number is between 1 and `most`, and has the property.
 abbrev pub IsUpTo : ℕ → (ℕ → Type 0) → ℕ → Type 0
 IsUpTo most Is n = (1 ≤ n) × (n ≤ most) × Is n
 
@@ -33,15 +33,16 @@ module _ (core : CoreView) where
   abbrev pub IsMemberUpTo : ℕ → ℕ → ℕ → Type 0
   IsMemberUpTo most k = IsUpTo most (HasLink core.links kind.Member k)
 
-  -- Under the number of each scheme are those of its top concepts whose numbers are at most `most`.
+  -- The list at each scheme's number has the scheme's top concepts with numbers up to `most`.
   pub record AreTopsUpTo (most : ℕ) (lists : Lists ℕ) : Type 0 where
     pub listings : AreListings nat_cmp (IsTopUpTo most) lists
 
-  -- Under the number of each collection are those of its members whose numbers are at most `most`.
+  -- The list at each collection's number has the collection's members with numbers up to `most`.
   pub record AreMembersUpTo (most : ℕ) (lists : Lists ℕ) : Type 0 where
     pub listings : AreListings nat_cmp (IsMemberUpTo most) lists
 
-  -- Under the number of each scheme are its top concepts, under that of each collection its members.
+  -- The list at each scheme's number has the scheme's top concepts, and the list at each collection's number has the
+  -- collection's members.
   pub record AreHoldings (h : Holdings) : Type 0 where
     pub tops : AreListings nat_cmp (IsTopUpTo (length core.resources)) h.tops
     pub members : AreListings nat_cmp (IsMemberUpTo (length core.resources)) h.members

@@ -75,7 +75,7 @@ module _ (core : CoreView) where
   abbrev pub IsMatch : LinkKind → ℕ → Property → ℕ → Triple → Type 0
   IsMatch k n p m t = HasLink core.links k n m × IsNode n p m t
 
-  -- The triple is one that states this mapping from the end `n`.
+  -- The triple states this mapping, with `n` as its subject.
   abbrev pub MapsOne : ℕ → LinkKind × ℕ → Triple → Type 0
   MapsOne n (kind.Exact, m) t = IsNode n property.ExactMatch m t
   MapsOne n (kind.Close, m) t = IsNode n property.CloseMatch m t

@@ -38,8 +38,8 @@ pub(crate) fn resource_count(core: &Core) -> usize
     core.resources().len()
 }
 
-// Adds the resource with this index, counted from 0, to the top concepts of its scheme, if it is
-// one.
+// If the resource with this index, counted from 0, is a top concept, adds it to those of its
+// scheme.
 fn add_top(alloc: Global, core: &Core, tops: &mut Lists<ResNo>, i: usize) -> Result<(), AllocError>
     requires unspent { core.now.spent ≡ false }
     requires within { i < length core.now.resources }

@@ -8,7 +8,7 @@ use thes_base::data::Resource;
 use thes_base::number::ResNo;
 use thes_core::Core;
 
-/// A resource about which lines are written, with the core that has it.
+/// A resource about which lines are written, with its core and the core's `Holdings`.
 #[derive(Clone, Copy)]
 pub struct LineSource<'a> {
     pub alloc: Global,

@@ -51,7 +51,7 @@ pub(crate) fn push_related(
 }
 
 // Appends the line of a broader or a narrower match, if the link leads from the concept to the
-// object; a link in the other direction has no line here.
+// object; a link in the other direction makes no line about the concept.
 fn push_match(
     about: &LineSource,
     lines: &mut Vec<ExportPart>,

@@ -1,5 +1,5 @@
-//! Lines on a resource's class, its scheme or its top concepts, whether it is a top concept or
-//! deprecated, its replacement and its labels.
+//! Lines on a resource's class, scheme, top concepts, deprecation, replacement and labels, and on
+//! the scheme of which it is a top concept.
 ghost use Rattle.std.specs.Prelude.{◌≡◌, ◌&&◌, not, false, Some, IfOk, OnOk};
 ghost use Rattle.thes_base.specs.Resources.{entry_at, is_concept_kind};
 ghost use Rattle.thes_export.specs.Holdings.{AreHoldings, IsTopScheme};
@@ -96,8 +96,8 @@ pub(crate) fn push_belonging(
     }
 }
 
-/// Returns the scheme of which the resource is a top concept; None if it isn't a live concept
-/// without broader ones.
+/// Returns the scheme of which the resource is a top concept; None unless the resource is a live
+/// concept without broader concepts.
 pub(crate) fn top_scheme_of(
     alloc: Global,
     core: &Core,

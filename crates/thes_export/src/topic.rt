@@ -25,7 +25,7 @@ pub enum Topic {
     TopConcepts,
     /// The fact that the concept is deprecated.
     Death,
-    /// The concept that replaces this one, if it was merged.
+    /// The concept that replaces the resource, if the resource was merged into it.
     Replacement,
     /// The labels and scope notes.
     Labels,

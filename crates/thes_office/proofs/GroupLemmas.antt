@@ -1,5 +1,5 @@
--- Proves that the changes of the posts of a group, one after another, lead from the rows of the state before the group
--- to those of the state after it, and that the facts about each of them are those of the tables.
+-- Proves that a group's changes of rows lead from the state before the group to the state after it, and that the facts
+-- about each of its posts are those in the tables.
 use Rattle.std.proofs.lemmas.Grind.{common_steps}
 use Rattle.std.proofs.Common.{◌≡◌, ◌++◌, ◌∷◌, [], ◌<◌, ◌+◌, ◌∙◌, ℕ, suc, List, refl, sym, ap, subst, take, length}
 use Rattle.std.proofs.Common.{arith, inl, inr, append-nil, Bool, true, false, slice_index_or}
@@ -48,7 +48,7 @@ use Rattle.thes_office.proofs.OfficeViewLemmas.{all_parts, run_push}
 use Rattle.thes_office.proofs.StateTableLemmas.{state_after_changes}
 use Rattle.thes_office.proofs.StepLemmas.{accepted_changes}
 
--- No requests are a group.
+-- The empty list of requests is a group.
 pub group_empty : (commands : List Command) → IsGroup (take 0 commands)
 group_empty commands i command at = absurd (cc)
 
@@ -64,11 +64,11 @@ still_marked marks i j l e = elim (cases_eq j i) [
   | inr other ↦ get_or-set_other marks i j true false other ∙ e
 ]
 
--- No requests are marked.
+-- An empty list of requests needs no marks.
 pub marked_none : (marks : List Bool) (commands : List Command) → AreKeysMarked marks (take 0 commands)
 marked_none marks commands = record { each = λ k d l. absurd (omega (arith, l)) }
 
--- A post whose key has a place without a mark is new.
+-- A post is new if the place of its key isn't marked.
 pub unmarked_is_new : (marks : List Bool) (earlier : List Command) (key rec : List ℕ) (concept : ℕ)
     → AreKeysMarked marks earlier → (IsMarked marks key → ⊥) → IsNewPost earlier (request.Post key rec concept)
 unmarked_is_new marks earlier key rec concept marked none = record {
@@ -79,7 +79,7 @@ unmarked_is_new marks earlier key rec concept marked none = record {
   fresh = λ k d l p. none (marked.each k d l key p);
 }
 
--- Requests stay marked when another key is marked, and so is the next one.
+-- Once the key of the next post is marked, the keys of the earlier requests and of this post are marked.
 pub marked_more : (old new : List Bool) (earlier : List Command) (key rec : List ℕ) (concept : ℕ)
     → AreKeysMarked old earlier → ((other : List ℕ) → IsMarked old other → IsMarked new other) → IsMarked new key
     → AreKeysMarked new (earlier ++ request.Post key rec concept ∷ [])
@@ -88,7 +88,7 @@ marked_more old new earlier key rec concept marked keeps here = record {
       (λ k d l other p. keeps other (marked.each k d l other p)) (λ k p. subst (IsMarked new) p here);
 }
 
--- A group and one more new post are a group.
+-- A group followed by a new post is a group.
 group_push : (xs : List Command) (c : Command) → IsGroup xs → IsNewPost xs c → IsGroup (xs ++ c ∷ [])
 group_push xs c group new i command at = elim (push_cases xs c command (suc i) at) [
   | inl here ↦
@@ -101,22 +101,22 @@ group_push xs c group new i command at = elim (push_cases xs c command (suc i) a
       subst (λ (ys : List Command). IsNewPost ys command) (sym front) (subst (IsNewPost xs) (sym last.1) new)
 ]
 
--- A prefix that is a group, and the next request, which is a new post, are a group.
+-- A prefix that is a group is still a group with the next request, if that is a new post.
 pub group_grows : (commands : List Command) (n : ℕ) (command : Command) → slice_get commands n ≡ Some command
     → IsGroup (take n commands) → IsNewPost (take n commands) command → IsGroup (take (n + 1) commands)
 group_grows commands n command at group new =
     subst IsGroup (sym (take_got commands n command at)) (group_push (take n commands) command group new)
 
--- The changes to a state, and those from it to another, lead to the other.
+-- Changes from `s` to `t`, followed by changes from `t` to `u`, lead from `s` to `u`.
 pub changes_then : (base : List ℕ) (s t u : State) (xs ys : List Change) → AreChangesBetween base xs s t
     → AreChangesBetween base ys t u → AreChangesBetween base (xs ++ ys) s u
 changes_then base s t u xs ys a b = grind (arith, common_steps, all_append, fit_append)
 
--- No changes lead from a state to itself.
+-- The empty list of changes leads from a state to itself.
 pub no_changes : (base : List ℕ) (s : State) → AreChangesBetween base [] s s
 no_changes base s = record { rows = λ tables is. is; fit = λ tables is. tt }
 
--- A new posting with another key leaves the posting of a key as it is.
+-- The row found for a key stays the same when a posting with another key is added.
 row_stays : (key : List ℕ) (hs : List History) (new : History) (found : Option PostingRow) → (new.key ≡ key → ⊥)
     → IsRowOfKey key hs found → IsRowOfKey key (hs ++ new ∷ []) found
 row_stays key hs new found other is = grind (arith, common_steps, push_cases, push_old)
@@ -185,7 +185,7 @@ group_starts raw limits copy done answers changes is none unanswered unchanged =
       same = λ all. refl;
     }
 
--- One more decided post of a group.
+-- A decided group followed by one more decided post is decided.
 pub group_continues : (raw : Raw) (setting : Setting) (done more : List Command) (command : Command)
     (answers told : List Answer) (answer : Answer) (before after : List Change) (copy copy' : CoreView)
     → (g : GroupDecided raw setting done answers before copy) → IsNewPost done command
@@ -225,7 +225,7 @@ group_continues raw setting done more command answers told answer before after c
         newer.concept facts step other (subst (λ (x : Command). AreFacts x g.state_after.histories facts) newer.is
         here))
 
--- One more post of a group, decided in the state after those before it.
+-- A decided group followed by a new post is decided, if the post is decided on the facts in the tables.
 pub decides_one_more : (raw mid : Raw) (setting : Setting) (done more : List Command) (command : Command)
     (answers told : List Answer) (answer : Answer) (before after : List Change) (copy copy' : CoreView)
     → GroupDecided raw setting done answers before copy → copy.setting ≡ setting → mid ≡ raw → IsNewPost done command
@@ -239,7 +239,7 @@ decides_one_more raw mid setting done more command answers told answer before af
     (decides g.state_after g.holds
     (subst (λ (r : Raw). HasFactsOf r command g.state_after) (sym same) (g.facts command new)))) pushed grown
 
--- A decided group whose changes are committed.
+-- Assumes that a group is decided and that its changes are committed.
 module _ (old new : Raw) (setting : Setting) (group : List Command) (answers : List Answer) (changes : List Change)
     (copy : CoreView) (g : GroupDecided old setting group answers changes copy) (is : copy.setting ≡ setting)
     (made : (t : Tables) → old ≡ cells_of_tables t → new ≡ cells_of_tables (tables_after_delta changes t)) where
@@ -272,7 +272,7 @@ module _ (old new : Raw) (setting : Setting) (group : List Command) (answers : L
   }
 
 module _ {K : Type 0} (view : K → StorageView) where
-  -- A reload before a group changes nothing that its result states.
+  -- The result of a group after a reload of the copy is also its result from before the reload.
   pub group_after_reload : (old mid new : OfficeView K) (group : List Command) (before last : List Answer)
       (result : Result (Unit {0}) Fault) → mid.limits ≡ old.limits → SameTables view old mid
       → ((view new.keeper).is_up → (view mid.keeper).is_up) → GroupResult view mid group before last result new

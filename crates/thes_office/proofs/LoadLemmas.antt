@@ -1,5 +1,5 @@
--- Proves that a core built from all rows of the storage is a copy of its tables, and that a fault
--- other than OutOfMemory and Store is their verdict.
+-- Proves that a core built from all rows of the storage is a copy of its tables, and that a fault other than
+-- OutOfMemory and Store is the verdict on these rows.
 use Rattle.std.proofs.lemmas.Grind.{common_steps}
 use Rattle.std.proofs.Common.{◌≡◌, ◌≢◌, ◌⊎◌, sym, subst, ◌∙◌, inl, inr, arith}
 use Rattle.std.specs.Prelude.{Err}

@@ -129,7 +129,7 @@ module _ {K : Type 0} (view : K → StorageView) where
       only up (inr (inr faulty)) = let x = kept.shows (read.was up) in
           absurd (faulty_has_no_state (view old).rows fault faulty x.0 x.1 x.2)
 
-  -- A call without a fault has the same effects, whatever value it returns.
+  -- The fault behaviour of a call that succeeds doesn't depend on the value that the call returns.
   pub behaviour_with_value : {A B : Type 0} (old new : OfficeView K) (a : A) (b : B) → FaultBehaviour view old new
       (let x : Result A Fault = Ok a in x) → FaultBehaviour view old new (let x : Result B Fault = Ok b in x)
   behaviour_with_value old new a b fault_behaviour = grind (arith, common_steps)

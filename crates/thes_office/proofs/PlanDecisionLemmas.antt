@@ -1,5 +1,5 @@
--- Proves that the requests of a plan, decided one after another, are the plan, and what a commit of their changes or a
--- refusal makes of the tables.
+-- Proves that deciding the requests of a plan one after another decides the plan, and what the tables are after a
+-- commit or a refusal.
 use Rattle.std.proofs.lemmas.Grind.{common_steps}
 use Rattle.std.proofs.Common.{◌≡◌, ◌<◌, ◌≤◌, ◌+◌, ◌++◌, ◌∷◌, [], ◌∙◌, ℕ, suc, List, false, refl, sym, ap}
 use Rattle.std.proofs.Common.{subst, take, drop, length, length-append, arith, inl}
@@ -45,7 +45,7 @@ use Rattle.thes_office.proofs.OfficeViewLemmas.{all_parts, run_push}
 use Rattle.thes_office.proofs.PlanFactLemmas.{rows_numbered}
 use Rattle.thes_office.proofs.StateTableLemmas.{same_tables_same_state, state_after_changes}
 
--- What follows a prefix of a list.
+-- Dropping as many items as the prefix `xs` has leaves what follows this prefix.
 pub drop_front : {A : Type 0} (xs ys zs : List A) (n : ℕ) → zs ≡ xs ++ ys → n ≡ length xs → drop n zs ≡ ys
 drop_front {A} xs ys zs n is count = ap (λ (l : List A). drop n l) is ∙ ap (λ k. drop k (xs ++ ys)) count ∙ go xs
   where
@@ -53,14 +53,14 @@ drop_front {A} xs ys zs n is count = ap (λ (l : List A). drop n l) is ∙ ap (�
     go [] = refl
     go (x ∷ l) = go l
 
--- An answer without a refusal is none.
+-- An answer in which no refusal is found isn't a refusal.
 pub no_refusal : (answer : Answer) → refusal_in answer ≡ None → IsNoRefusal answer
 no_refusal answer e = grind (arith, common_steps)
 
 pub is_refusal : (answer : Answer) (r : Refusal) → refusal_in answer ≡ Some r → answer ≡ reply.No r
 is_refusal answer r e = grind (arith, common_steps)
 
--- An empty log is one of any core.
+-- An empty log is a log of any core.
 pub log_starts : (log : List UndoStep) (copy : CoreView) → log ≡ [] → IsLogOf log copy
 log_starts log copy none = subst (λ (l : List UndoStep). IsLogOf l copy) (sym none)
     (with_histories [] copy, refl)
@@ -108,7 +108,7 @@ plan_decides raw mid setting done progress next command answer copy copy' g set 
     (subst (λ (q : Setting). IsRowsOf q.base g.decided.state_after now) (sym set)
     (g.decided.leads.rows t g.decided.shows.holds)) g.decided.holds g.postings_are)
 
--- One more accepted request of a plan.
+-- Assumes that one more request of a plan is decided, after requests that were accepted.
 module _ (raw : Raw) (setting : Setting) (done : List PlanRequest) (asked : PlanRequest) (progress next : PlanProgress)
     (answer : Answer) (copy copy' : CoreView) (g : PlanDecidedSoFar raw setting done progress copy)
     (d : IsDecidedInPlan setting g.decided.shows.tables
@@ -159,7 +159,7 @@ module _ (raw : Raw) (setting : Setting) (done : List PlanRequest) (asked : Plan
         ∙ all_append progress.decided.delta d.decision.decided.changes g.decided.shows.tables)) d.postings_are;
   }
 
-  -- A request of a plan is refused, and those before it are taken back.
+  -- If the request is refused, and those before it are taken back, the plan is refused at this request.
   pub plan_refuses : (plan : List PlanRequest) (i place : ℕ) (refusal : Refusal) (back : CoreView)
       → done ≡ take i plan → i ≡ length answers → slice_get plan i ≡ Some asked
       → place ≡ length next.decided.answers.items
@@ -199,7 +199,7 @@ abbrev pub PlanAnswers : PlanOutcome → List Answer → Type 0
 PlanAnswers (Done given) expected = given.items ≡ expected
 PlanAnswers (Refused place refusal) expected = ⊥
 
--- An accepted plan whose changes are committed.
+-- Assumes that a plan is accepted and that its changes are committed.
 module _ (old new : Raw) (setting : Setting) (plan : List PlanRequest) (answers : List Answer) (changes : List Change)
     (copy : CoreView) (g : PlanDecided old setting plan answers changes copy) (is : copy.setting ≡ setting)
     (made : (t : Tables) → old ≡ cells_of_tables t → new ≡ cells_of_tables (tables_after_delta changes t)) where
@@ -233,7 +233,7 @@ module _ (old new : Raw) (setting : Setting) (plan : List PlanRequest) (answers 
     shows = subst (λ (q : Setting). TablesOfState new q.base g.state_after) (sym is) shows_after;
   }
 
--- A plan that is refused.
+-- Assumes that a plan is refused, and that the tables are unchanged.
 module _ (old new : Raw) (setting : Setting) (plan : List PlanRequest) (place : ℕ) (refusal : Refusal)
     (copy : CoreView) (g : PlanIsRefused old setting plan place refusal copy) (same : new ≡ old) where
   pub plan_is_refused : TablesAfterPlan setting.limits old plan (Refused place refusal) new
@@ -257,7 +257,7 @@ module _ (old new : Raw) (setting : Setting) (plan : List PlanRequest) (place : 
         (same_tables_same_state old new setting.base g.state_before same g.shows);
   }
 
--- A plan's answers are counted.
+-- The place of a request in its plan, counted from 1, is at least 1 and at most the length of the plan.
 pub place_counts : (place n i : ℕ) → place ≡ n + 1 → n ≡ i → (plan : List PlanRequest) → i < length plan
     → (0 < place) × (place ≤ length plan)
 place_counts place n i is count plan within = (omega arith, omega arith)

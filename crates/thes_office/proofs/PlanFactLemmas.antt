@@ -17,13 +17,13 @@ use Rattle.thes_plan_postings.specs.declared.plan_postings.PlanPostings.{PlanPos
 use Rattle.thes_plan_postings.specs.PlanPostings.{AreNumbered, InPlanRows}
 use Rattle.thes_plan_postings.proofs.PlanPostingLemmas.{numbered_map}
 
--- The rows of histories are the rows at their numbers.
+-- The rows looked up by number in the posting table are those of the histories with these numbers.
 pub rows_of_histories : (hs : List History) (ns : List ℕ) → map (entry_at (map posting_row hs)) ns
     ≡ map (posting_row_at hs) ns
 rows_of_histories hs [] = refl
 rows_of_histories hs (n ∷ ns) = λ i. numbered_map posting_row hs n i ∷ rows_of_histories hs ns i
 
--- The rows of a legal state have the numbers of their places.
+-- The posting rows of a legal state are numbered by their places in the table.
 pub rows_numbered : (base : List ℕ) (s : State) → IsLegalState base s → AreNumbered (map posting_row s.histories)
 rows_numbered base s legal n row at =
     let h = row_found (entry_at s.histories n) row (sym (numbered_map posting_row s.histories n) ∙ at) in
@@ -35,7 +35,7 @@ pub record PlanRowsRead (old now : StorageView) (postings : PlanPostings) (ns : 
   pub keeps : KeepsStorage old now
   pub rows_are_read : now.is_up → InPlanRows old.rows postings (λ rows. found ≡ map (entry_at rows) ns)
 
--- One more row is looked up.
+-- A look-up of one more posting appends its row to the rows found.
 pub plan_rows_more : (old mid new : StorageView) (postings : PlanPostings) (ns more : List ℕ)
     (found last : List (Option PostingRow)) (n : ℕ) (row : Option PostingRow) → PlanRowsRead old mid postings ns found
     → QueryFrame mid new (let x : Result (Option PostingRow) Fault = Ok row in x)

@@ -30,7 +30,7 @@ use Rattle.thes_plan_postings.proofs.PlanPostingLemmas.{numbered_map}
 use Rattle.thes_office.proofs.FactLemmas.{assigned_rows}
 use Rattle.thes_office.proofs.StateTableLemmas.{state_is_unique}
 
--- The row of a posting with its moves determines its history.
+-- A posting's row and its moves determine the posting's history.
 pub history_of_posting : (raw : Raw) (base : List ℕ) (s : State) (x : TablesOfState raw base s) (n : ℕ)
     (told : PostingWithMoves) → IsPostingOfNumber n x.tables (Some told)
     → Some (record {

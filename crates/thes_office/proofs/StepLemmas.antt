@@ -1,5 +1,5 @@
--- Proves that a performed request leads from tables that encode a state, and a copy of them, to
--- tables and a copy of the machine's next state.
+-- Proves that a performed request changes tables that encode a state, and a copy of them, into those of the machine's
+-- next state.
 use Rattle.std.proofs.lemmas.Grind.{common_steps}
 use Rattle.std.proofs.Common.{◌≡◌, List, false, refl, sym, ap, subst, ◌∙◌, arith}
 use Rattle.std.specs.Prelude.{Result, Ok, Err, OnOk}

@@ -1,5 +1,4 @@
--- Proves that a loader that has accepted all rows of a store, table by table, has received exactly
--- these.
+-- Proves that a loader that has accepted all rows of a store, table by table, has received exactly these rows.
 use Rattle.std.proofs.lemmas.Grind.{common_steps}
 use Rattle.std.proofs.Common.{◌≡◌, ◌≤◌, ◌∙◌, ℕ, List, [], ◌∷◌, ◌++◌, refl, sym, subst, arith}
 use Rattle.std.specs.Prelude.{Result, Some}
@@ -51,7 +50,7 @@ tables_taken (name ∷ names) raw rest n old new (follows, none, come) turn know
     in
     (more.0, more.1 ∙ one.same)
 
--- A loader that has accepted all rows of a store has received exactly these.
+-- A loader that has accepted all rows of a store has received exactly these rows.
 pub loader_reads_all : LoaderReadsStore
 loader_reads_all limits raw old new begun takes =
     let come : ComeInOrder 0 table_order raw raw_without_rows = (

@@ -48,7 +48,7 @@ module _ {K : Type 0} (view : K → StorageView) (keeper : K) (copy : core.CoreV
   right : (up : (view keeper).is_up) → IsVerdict copy.setting (current_copy up).state command verdict
   right up = decides (current_copy up).state (current_copy up).holds (right_facts up)
 
-  -- A step from these tables is one from the tables before a call that left them unchanged.
+  -- A step from the tables is also a step from the tables before a call that left them unchanged.
   step_since : (old : OfficeView K) (answer : Answer) (new : Raw) → office.limits ≡ old.limits
       → SameTables view old office → (view keeper).is_up → TablesAfterStep limits (view keeper).rows command answer new
       → TablesAfterStep old.limits (view old.keeper).rows command answer new

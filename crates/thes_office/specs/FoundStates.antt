@@ -1,4 +1,4 @@
--- An office over storage whose tables may have anything.
+-- The results of loading storage whose tables may contain any rows.
 use Rattle.std.specs.Prelude.{◌≡◌, ◌⊎◌, ℕ, List, Err}
 use Rattle.thes_base.specs.declared.data.Limits.{Limits}
 use Rattle.thes_base.specs.declared.fault.Fault.{Fault}
@@ -14,11 +14,11 @@ use Rattle.thes_office.specs.TablesOfState.{TablesOfState}
 abbrev pub IsCopyOfFound : (Raw → Type 0) → Limits → CoreView → Type 0
 IsCopyOfFound finds limits copy = (raw : Raw) × finds raw × IsCopy raw limits copy
 
--- A load finds rows that encode a legal state.
+-- Some rows that a load may find encode a legal state.
 abbrev pub FindsLegalState : (Raw → Type 0) → Type 0
 FindsLegalState finds = (raw : Raw) × finds raw × ((base : List ℕ) × (s : State) × TablesOfState raw base s)
 
--- The fault is OutOfMemory or Store, or the verdict on rows that a load finds.
+-- The fault is OutOfMemory or Store, or the verdict on rows that a load may find.
 abbrev pub IsFaultOfFound : (Raw → Type 0) → Fault → Type 0
 IsFaultOfFound finds fault =
     (fault ≡ OutOfMemory) ⊎ ((fault ≡ Store) ⊎ ((raw : Raw) × finds raw × HasVerdict raw (Err fault)))

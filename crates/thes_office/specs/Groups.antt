@@ -49,7 +49,7 @@ place_of_key key = digest_of key % 1024
 abbrev pub IsMarked : List Bool → List ℕ → Type 0
 IsMarked marks key = slice_index_or marks (place_of_key key) false ≡ true
 
--- The places of the keys of all these posts are marked.
+-- For each of these posts, the place of its key is marked.
 pub record AreKeysMarked (marks : List Bool) (commands : List Command) : Type 0 where
   pub each : All (λ command. (key : Key) → IsPostOf key command → IsMarked marks key) commands
 

@@ -38,8 +38,8 @@ pub record IsCopy (raw : Raw) (limits : Limits) (copy : core.CoreView) : Type 0 
   pub holds : IsViewOf copy state
   pub shows : TablesOfState raw copy.setting.base state
 
--- No limit exceeds the greatest number. While the storage is up, its tables encode a state, which the copy holds unless
--- it is stale. The copy is stale only if it is unusable or the storage has failed.
+-- No limit exceeds 2³² - 1. While the storage is up, its tables encode a state, which the copy holds unless it is
+-- stale. The copy is stale only if it is unusable or the storage has failed.
 pub record IsConsistent {K : Type 0} (view : K → StorageView)
     (keeper : K) (copy : core.CoreView) (limits : Limits) (stale : Bool) : Type 0 where
   pub limits_fit : AreLimits limits
@@ -68,7 +68,7 @@ abbrev pub SameTables : {K : Type 0} → (K → StorageView) → OfficeView K �
 SameTables view old new = (view new.keeper).is_up → (view new.keeper).rows ≡ (view old.keeper).rows
 
 -- The effect of every query of an office: its faults are those of every call, the tables are unchanged if the storage
--- is still up, and after a result the copy isn't stale.
+-- is still up, and after a query that succeeds the copy isn't stale.
 pub record OfficeQueryFrame {K T : Type 0} (view : K → StorageView)
     (old new : OfficeView K) (result : Result T Fault) : Type 0 where
   pub fault_behaviour : FaultBehaviour view old new result

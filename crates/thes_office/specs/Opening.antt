@@ -13,8 +13,8 @@ use Rattle.thes_office.specs.Office.{IsCopy, OfficeView}
 use Rattle.thes_office.specs.QueryFrames.{LoadFrame}
 use Rattle.thes_office.specs.TablesOfState.{TablesOfState}
 
--- A load of the tables of a storage, which is `keeper` before it and `back` after it; `finds keeper` holds of the rows
--- that the load may find.
+-- A load of a storage's tables. The storage is `keeper` before the load and `back` after it; `finds keeper` holds for
+-- the rows that the load may find.
 module _ {K : Type 0} (view : K → StorageView) (is_open : K → Type 0) (finds : K → Raw → Type 0) (keeper back : K) where
   -- The load built a usable core with these limits. If the storage is still up, the core holds the state of its tables;
   -- if it is still open, that of rows that the load may find.

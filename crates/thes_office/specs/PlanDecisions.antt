@@ -62,7 +62,8 @@ pub record PlanDecided (raw : Raw) (setting : Setting) (done : List PlanRequest)
   pub leads : AreChangesBetween setting.base changes state_before state_after
   pub same : AllByRecursion ChangesNothing answers → changes ≡ []
 
--- The requests of a plan are accepted, and their changes of postings are recorded.
+-- The requests of a plan so far are accepted, their changes of postings are recorded, and the steps of the log lead
+-- from the state before them to the state after them.
 pub record PlanDecidedSoFar (raw : Raw) (setting : Setting) (done : List PlanRequest) (progress : PlanProgress)
     (copy : CoreView) : Type 0 where
   pub decided : PlanDecided raw setting done progress.decided.answers.items progress.decided.delta copy
@@ -87,13 +88,13 @@ IsPlanDecision raw setting asked (plan.Accepted answers changes) copy =
     PlanDecided raw setting asked answers.items changes copy
 IsPlanDecision raw setting asked (plan.Refused place refusal) copy = PlanIsRefused raw setting asked place refusal copy
 
--- The core is usable after a decision on a plan, or may be unusable if the plan is refused; if it is usable, it has the
--- same base and limits.
+-- After an accepted plan the core is usable; after a refused one it may be unusable. A usable core has the same base
+-- and limits as before.
 abbrev pub IsUsableAfter : CoreView → CoreView → PlanDecision → Type 0
 IsUsableAfter old new (plan.Accepted answers changes) = (new.spent ≡ false) × (new.setting ≡ old.setting)
 IsUsableAfter old new (plan.Refused place refusal) = new.spent ≡ false → new.setting ≡ old.setting
 
--- An accepted plan has one answer for each request; a refusal is that of a request of the plan.
+-- An accepted plan has one answer for each request; the place of a refusal is that of a request of the plan.
 abbrev pub HasEachDecision : List PlanRequest → PlanDecision → Type 0
 HasEachDecision asked (plan.Accepted answers changes) = length answers.items ≡ length asked
 HasEachDecision asked (plan.Refused place refusal) = (0 < place) × (place ≤ length asked)

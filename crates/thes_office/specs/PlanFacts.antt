@@ -1,4 +1,4 @@
--- The facts about postings on which the check of a request of a plan depends.
+-- The facts about postings that the check of a plan's request needs.
 use Rattle.std.specs.Prelude.{◌≡◌, ℕ, List, map}
 use Rattle.thes_base.specs.Legal.{IsLegalState}
 use Rattle.thes_base.specs.State.{State}

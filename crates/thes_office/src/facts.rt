@@ -1,4 +1,4 @@
-//! Queries of the storage for the facts about postings on which the check of a request depends.
+//! Queries of the storage for the facts about postings that the check of a request needs.
 ghost use Rattle.std.specs.Prelude.{◌≡◌, [], None, IfOk};
 ghost use Rattle.thes_store.specs.Storage.{QueryFrame};
 ghost use Rattle.thes_office.specs.QueryFrames.{FactsInTables, KeyInTables, RowInTables, RowsInTables, AssignedInTables};

@@ -1,6 +1,6 @@
-//! Groups of posts with different keys: each is decided on the state that those before it make, and
-//! the changes of all are committed in one transaction. `Decided`, the answers and changes so far,
-//! also serves plans.
+//! Groups of posts with different keys: each is decided in the state after those before it, and the
+//! changes of all are committed in one transaction. `Decided`, the answers and changes so far, also
+//! serves plans.
 ghost use Rattle.std.specs.Prelude.{◌≡◌, ◌⊎◌, ◌≤◌, ◌<◌, ◌↔◌, ◌++◌, ◌+◌, ◌∷◌, [], ℕ, List, false, true};
 ghost use Rattle.std.specs.Prelude.{IsTrue, IfOk, IfErr, OnOk, OnErr, take, length};
 ghost use Rattle.thes_base.specs.declared.request.Answer.{Answer};
@@ -24,7 +24,7 @@ use thes_tables::delta::Delta;
 // The greatest number of posts in a group.
 const GROUP_LIMIT: usize = 128;
 
-// The number of places at which the keys of a group's posts are marked.
+// The number of marks for keys: each key of a group's posts has one of these places.
 const PLACES: usize = 1_024;
 
 /// The answers to the requests of a group or a plan that are decided so far, and their changes of
@@ -150,9 +150,9 @@ fn append_changes(delta: &mut Delta, more: Delta) -> Result<(), AllocError>
     Ok(())
 }
 
-// Decides one more request on the facts that it needs, and applies it, if it is accepted, to the
-// core, which holds the state after the requests before it. If memory runs out, the core may be
-// ahead of the tables.
+// Decides one more request on its facts, in the state after those before it, which the core holds.
+// If the request is accepted, applies it to the core. If memory runs out, the core may be ahead of
+// the tables.
 fn decide_with_facts(
     core: &mut Core,
     command: &Command,

@@ -110,7 +110,8 @@ impl Loader {
 impl RowSink for Loader {
     ghost gives = { FeedResult };
 
-    // A row that comes late is a fault of its table (DECISIONS.md, Loading).
+    // A row that comes after rows of a later table is a fault of its own table (DECISIONS.md,
+    // Loading).
     fn row(&mut self, table: Table, row: &[Cell]) -> Result<(), Fault> {
         if add_row(&mut self.stage, self.alloc, table, row).is_err() {
             run_out(&mut self.stage);

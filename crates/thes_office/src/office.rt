@@ -237,7 +237,7 @@ impl<K: Keeper> Office<K> {
     }
 
     /// Returns the copy of the tables, reloaded first if it was stale. While the copy is in use,
-    /// the office can't be called; the clause says what the office is once it can be called again.
+    /// the office can't be called; the contract states what holds of the office afterwards.
     pub fn ready(&mut self) -> Result<&Core, Fault>
         ensures* after { sem 𝓛 (Rests (the_row K.row K.Keeper) self.entry
             (λ office. ReadyResult K.view self.old result office)) }

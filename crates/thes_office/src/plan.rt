@@ -1,6 +1,5 @@
-//! Plans: each request is decided on the state that those before it make, and the changes of all
-//! are committed in one transaction.
-//! A request is moved from its plan into the log, and never copied.
+//! Plans: each request is decided in the state after those before it, and the changes of all are
+//! committed in one transaction. A request is moved from its plan into the log, and never copied.
 ghost use Rattle.std.specs.Prelude.{◌≡◌, ◌≤◌, ◌++◌, ◌∷◌, [], List, drop, length, false, true, IfOk, IfErr, OnOk, OnErr};
 ghost use Rattle.thes_base.specs.declared.request.Answer.{Answer};
 ghost use Rattle.thes_plans.specs.Plans.{HasEachAnswer};
@@ -48,7 +47,7 @@ pub enum PlanDecision {
     Refused(usize, Refusal),
 }
 
-// Returns the refusal that the last answer is; None if that answer isn't a refusal.
+// Returns the refusal that is the last answer; None if the last answer isn't a refusal.
 fn last_refusal(answers: &[Answer]) -> Option<Refusal>
     ensures { (before : List Answer) (last : Answer) → answers.now ≡ before ++ last ∷ []
         → result ≡ refusal_in last }
@@ -59,7 +58,7 @@ fn last_refusal(answers: &[Answer]) -> Option<Refusal>
     }
 }
 
-// Returns the number of changes of rows that the requests of a plan make so far.
+// Returns the number of changes of rows that the requests of a plan have made so far.
 fn change_count(delta: &Delta) -> usize
     ensures { result ≡ length delta.now }
 {
@@ -144,9 +143,9 @@ fn decide_and_record<K: Keeper>(
     }
 }
 
-// Decides one more request of a plan, with its references replaced by numbers, and, if it is
-// accepted, applies it to the core and records the postings that it changes. Returns its refusal,
-// if it is refused.
+// Decides one more request of a plan, with its references replaced by numbers. If the request is
+// accepted, applies it to the core and records the postings that it changes; if it is refused,
+// returns the refusal.
 fn decide_request<K: Keeper>(
     alloc: Global,
     keeper: &mut K,

@@ -1,5 +1,5 @@
-//! The facts about postings on which the check of a request of a plan depends: those of the state
-//! after the requests before it, which aren't committed yet.
+//! The facts about postings that the check of a plan's request needs: those of the state after the
+//! plan's earlier requests, which aren't committed yet.
 ghost use Rattle.std.specs.Prelude.{◌≡◌, IfOk, map};
 ghost use Rattle.thes_base.specs.Resources.{entry_at};
 ghost use Rattle.thes_store.specs.Storage.{QueryFrame};

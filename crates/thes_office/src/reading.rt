@@ -92,8 +92,8 @@ impl<K: Keeper> Office<K> {
         Ok(self.core.totals())
     }
 
-    /// Looks up the history of a posting in the tables: first concept, moves and withdrawal; None
-    /// if no posting has the number.
+    /// Looks up the history of a posting in the tables: key, record, first concept, moves and
+    /// withdrawal; None if no posting has the number.
     pub fn posting(&mut self, number: PostNo) -> Result<Option<History>, Fault>
         ensures frame { OfficeQueryFrame K.view self.old self.new result }
         ensures in_tables { IfOk result (λ told. (K.view self.new.keeper).is_up

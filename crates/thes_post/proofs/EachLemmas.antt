@@ -1,4 +1,4 @@
--- The consequences of a property that each number of a list has.
+-- What follows if each number of a list, or of a prefix of it, has a property.
 use Rattle.std.proofs.Common.{◌≡◌, ◌<◌, ℕ, zero, suc, ◌+◌, length, List, [], ◌∷◌, sym, ap, ◌∙◌, subst, arith, ⊎_elim}
 use Rattle.std.proofs.Common.{true, false, ◌||◌, eqb, eqb-true, get_or, take}
 use Rattle.std.proofs.lemmas.Bool.{cases_Bool}

@@ -14,7 +14,7 @@ use Rattle.thes_post.specs.Rising.{RisesFrom}
 abbrev pub as_number : Bool → ℕ
 as_number b = cond b 1 0
 
--- Tests whether the list has the number.
+-- Whether the list contains the number.
 abbrev pub has_number : List ℕ → ℕ → Bool
 has_number ns n = list_any (λ m. eqb m n) ns
 

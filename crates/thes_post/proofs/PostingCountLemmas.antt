@@ -34,8 +34,8 @@ pub stands_parts : (c : ℕ) (h : History) → is_assigned_to c h ≡ true → (
 stands_parts c h s = let parts = and_parts (not h.withdrawn) (eqb (place h) c) s in
     (not-true h.withdrawn parts.0, eqb-true (place h) c parts.1)
 
--- If a history is replaced, the number of histories that pass a test falls by one if the old one passes, and rises by
--- one if the new one does.
+-- If a history is replaced, the number of histories that pass a test falls by one if the old history passes, and rises
+-- by one if the new one does.
 count_set : (test : History → Bool) (hs : List History) (i : ℕ) (h new : History) → slice_get hs i ≡ Some h
     → count_by test (slice_set hs i new) + cond (test h) 1 0 ≡ count_by test hs + cond (test new) 1 0
 count_set test [] i h new e = absurd (cc)
@@ -50,14 +50,14 @@ count_set test (x ∷ hs) (suc i) h new e =
     let ih = count_set test hs i h new e in
     omega (arith, a, b, ih)
 
--- From some histories and counts to others, each count changes by as much as the histories do.
+-- From `x` to `y`, each count changes by as much as the number that it counts does from the histories `gs` to `hs`.
 record ChangeAlike (gs hs : List History) (x y : PostingCounts) : Type 0 where
   standing : (c : ℕ) → count_of y c + assigned_count c gs ≡ count_of x c + assigned_count c hs
   accepted : y.accepted + length gs ≡ x.accepted + length hs
   withdrawn : y.withdrawn + withdrawn_count gs ≡ x.withdrawn + withdrawn_count hs
   moves : y.moves + move_count gs ≡ x.moves + move_count hs
 
--- If the counts before such a change are those of the histories before it, so are those after it.
+-- If `x` are the counts of `gs`, then after such a change `y` are the counts of `hs`.
 counts_alike : (gs hs : List History) (x y : PostingCounts) → ChangeAlike gs hs x y → ArePostingCounts gs x
     → ArePostingCounts hs y
 counts_alike gs hs x y alike are = record {
@@ -112,18 +112,18 @@ module _ (hs : List History) (key rec : List ℕ) (first : ℕ) (way : List ℕ)
     moves = (let a = one.moves in let m = count_posted key rec first way hs in omega (arith, a, m));
   }
 
-  -- The counts after a new posting are those of the histories.
+  -- Once a new posting is counted, the counts are those of the histories with it.
   pub sums_posted : (old new : PostingCounts) → ArePostingCounts hs old → CountsAfterPost (path_end first way)
       (length way) old new → ArePostingCounts posted new
   sums_posted old new are one = counts_alike hs posted old new (alike_posted old new one) are
 
-  -- The counts before a new posting, which is taken back, are those of the histories before it.
+  -- Once a new posting is taken back, the counts are again those of the histories without it.
   pub sums_before_post : (old new : PostingCounts) → ArePostingCounts posted old → CountsAfterPost (path_end first way)
       (length way) new old → ArePostingCounts hs new
   sums_before_post old new are one =
       counts_alike posted hs old new (taken_back hs posted new old (alike_posted new old one)) are
 
-  -- The count of a posting that was added last can be taken back.
+  -- The posting that was counted last can be taken back from the counts.
   pub post_counted : (old : PostingCounts) → ArePostingCounts posted old
       → HasPostToTakeBack (path_end first way) (length way) old
   post_counted old are = record {
@@ -151,7 +151,7 @@ module _ (hs : List History) (n : ℕ) (h : History) (at : entry_at hs n ≡ Som
           ≡ count_by test hs + cond (test (history_after_withdrawal h)) 1 0) (let q : m ≡ suc m - 1 = omega arith in
           q) (count_set test hs m h (history_after_withdrawal h) e)
 
-  -- At least one posting is assigned to the posting's place.
+  -- At least one posting is assigned to the place of posting n: posting n itself.
   pub one_stands : 0 < assigned_count (place h) hs
   one_stands =
       let c = set_count (is_assigned_to (place h)) in
@@ -196,20 +196,20 @@ module _ (hs : List History) (n : ℕ) (h : History) (at : entry_at hs n ≡ Som
     | Some g ↦ set_entry_at hs n (history_after_withdrawal g)
   ]) at
 
-  -- The counts after a withdrawal are those of the histories.
+  -- Once a withdrawal is counted, the counts are those of the histories after it.
   pub sums_withdrawn : (old new : PostingCounts) → ArePostingCounts hs old → CountsAfterWithdrawal (place h) old new
       → ArePostingCounts (histories_after_withdrawal n hs) new
   sums_withdrawn old new are one = subst (λ l. ArePostingCounts l new) (sym same_less)
       (counts_alike hs less old new (alike_withdrawn old new one) are)
 
-  -- The counts before a withdrawal, which is taken back, are those of the histories before it.
+  -- Once a withdrawal is taken back, the counts are again those of the histories before it.
   pub sums_before_withdrawal : (old new : PostingCounts) → ArePostingCounts (histories_after_withdrawal n hs) old
       → CountsAfterWithdrawal (place h) new old → ArePostingCounts hs new
   sums_before_withdrawal old new counted one =
       counts_alike less hs old new (taken_back hs less new old (alike_withdrawn new old one))
       (subst (λ l. ArePostingCounts l old) same_less counted)
 
-  -- The count of a withdrawal can be taken back.
+  -- A counted withdrawal can be taken back from the counts.
   pub withdrawal_counted : (old : PostingCounts) → ArePostingCounts (histories_after_withdrawal n hs) old
       → length hs < 2 ^ 32 → HasWithdrawalToTakeBack (place h) old
   withdrawal_counted old counted few =
@@ -237,8 +237,8 @@ module _ (passes : History → Bool) (source target : ℕ) (apart : source ≢ t
   one_more true k = refl
   one_more false k = refl
 
-  -- If a test gives `before` for each posting of the source, and `after` once it has moved, the moves change the number
-  -- of histories that pass it by the number of postings moved, or not at all.
+  -- If a test gives `before` for each posting of the source, and `after` once the posting has moved, the moves change
+  -- the number of histories that pass the test by the number of postings moved, or not at all.
   turned : (test : History → Bool) (before after : Bool) → ((h : History) → is_assigned_to source h ≡ true
       → Turns test before after h) → (number : ℕ) (hs : List History) → AllAssigned hs
       → count_by test (histories_after_moves passes target number hs) + cond before (count_by passes hs) 0
@@ -358,18 +358,18 @@ module _ (passes : History → Bool) (source target : ℕ) (apart : source ≢ t
       moves = (let a = some.moves in let m = count_moved passes target number hs in omega (arith, a, m, is));
     }
 
-    -- The counts after the moves are those of the histories.
+    -- Once the moves are counted, the counts are those of the histories after them.
     pub sums_moved : (count : ℕ) → count ≡ count_by passes hs → (old new : PostingCounts) → ArePostingCounts hs old
         → CountsAfterMoves source target count old new → ArePostingCounts after_moves new
     sums_moved count is old new are some = counts_alike hs after_moves old new (alike_moved count is old new some) are
 
-    -- The counts before the moves, which are taken back, are those of the histories before them.
+    -- Once the moves are taken back, the counts are again those of the histories before them.
     pub sums_before_moves : (count : ℕ) → count ≡ count_by passes hs → (old new : PostingCounts)
         → ArePostingCounts after_moves old → CountsAfterMoves source target count new old → ArePostingCounts hs new
     sums_before_moves count is old new are some =
         counts_alike after_moves hs old new (taken_back hs after_moves new old (alike_moved count is new old some)) are
 
-    -- The counts of the moves can be taken back.
+    -- Counted moves can be taken back from the counts.
     pub moves_counted : (count : ℕ) → count ≡ count_by passes hs → (old : PostingCounts)
         → ArePostingCounts after_moves old → length hs < 2 ^ 32 → HasMovesToTakeBack source target count old
     moves_counted count is old are few = record {

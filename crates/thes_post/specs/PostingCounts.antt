@@ -33,13 +33,15 @@ pub record HasPostingToWithdraw (concept : Number) (posting_counts : PostingCoun
   pub here : 0 < count_of posting_counts concept
   pub accepted : posting_counts.withdrawn < posting_counts.accepted
 
--- There is a posting to the concept, with `steps` moves, whose count can be taken back.
+-- A posting to the concept, with `steps` moves, can be taken back from the counts: a posting is assigned to the
+-- concept, and that many moves are counted.
 pub record HasPostToTakeBack (concept : Number) (steps : ℕ) (posting_counts : PostingCounts) : Type 0 where
   pub here : 0 < count_of posting_counts concept
   pub accepted : posting_counts.withdrawn < posting_counts.accepted
   pub moves : steps ≤ posting_counts.moves
 
--- There is a withdrawal whose count can be taken back, with room for one more posting assigned to the concept.
+-- A withdrawal at the concept can be taken back from the counts: one is counted, and there is room for one more posting
+-- assigned to the concept.
 pub record HasWithdrawalToTakeBack (concept : Number) (posting_counts : PostingCounts) : Type 0 where
   pub here : count_of posting_counts concept + 1 < 2 ^ 32
   pub withdrawn : 0 < posting_counts.withdrawn
@@ -74,8 +76,7 @@ pub record CountsAfterWithdrawal (concept : Number) (old new : PostingCounts) : 
   pub withdrawn : new.withdrawn ≡ old.withdrawn + 1
   pub moves : new.moves ≡ old.moves
 
--- `moved` postings are subtracted from the count of the concept `from`, and added to that of `to` if it stays below 2 ^
--- 32.
+-- `moved` is subtracted from the count of the concept `from`, and added to that of `to` if the sum is below 2³².
 pub record ShiftsCounts (from to moved : ℕ) (old new : List ℕ) : Type 0 where
   pub at_source : slice_index old from ≡ slice_index new from + moved
   pub at_target : slice_index old to + moved < 2 ^ 32 → slice_index new to ≡ slice_index old to + moved

@@ -82,8 +82,8 @@ impl Book {
         }
     }
 
-    /// Counts a new posting, assigned to the concept after `moves` moves, and returns the posting's
-    /// number. Counts saturate at 2³² - 1.
+    /// Counts a new posting, which came to the concept by `moves` moves along replacements, and
+    /// returns its number. Counts saturate at 2³² - 1; after an error they are as before.
     pub fn post(&mut self, concept: ResNo, moves: u64) -> Result<PostNo, AllocError>
         ensures number { IfOk result (λ n.
             HasRoomForPost concept moves self.old → n ≡ self.old.accepted + 1) }
@@ -114,8 +114,8 @@ impl Book {
         }
     }
 
-    /// Takes back the count of a posting that is assigned to the concept after `moves` moves;
-    /// changes nothing if there can't be one.
+    /// Undoes `post` for a posting that came to the concept by `moves` moves; changes nothing if
+    /// the counts show that there is none.
     pub fn take_back_post(&mut self, concept: ResNo, moves: u64)
         ensures counted { HasPostToTakeBack concept moves self.old
             → CountsAfterPost concept moves self.new self.old }
@@ -130,7 +130,8 @@ impl Book {
         }
     }
 
-    /// Takes back the count of a withdrawal of a posting that was assigned to the concept.
+    /// Undoes `withdraw`: counts the posting as assigned to the concept again. After an error the
+    /// counts are as before.
     pub fn take_back_withdrawal(&mut self, concept: ResNo) -> Result<(), AllocError>
         ensures ok { OnOk result (HasWithdrawalToTakeBack concept self.old
             → CountsAfterWithdrawal concept self.new self.old) }
@@ -182,8 +183,9 @@ impl Book {
         Ok(())
     }
 
-    /// Takes back the count of `count` postings of the source that moved to the target, with one
-    /// move each; changes nothing if the target has fewer.
+    /// Undoes `move_all` or `move_listed`: counts `count` postings of the target as the source's
+    /// again, and `count` moves fewer. Changes nothing if the target has fewer postings, or if
+    /// fewer moves are counted.
     pub fn take_back_moves(
         &mut self,
         source: ResNo,

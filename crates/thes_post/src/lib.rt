@@ -1,4 +1,4 @@
-//! The counts of postings that a core has, and lists of their numbers.
+//! The counts of postings that a core has, and lists of posting numbers.
 #![tactic(auto)]
 
 pub mod book;

@@ -47,7 +47,7 @@ impl LoadedCounts {
         Ok(())
     }
 
-    /// Returns the counts as a book, with `moves` as the number of moves.
+    /// Returns the counts as a `Book`, with `moves` as the number of moves.
     pub fn close(self, moves: u64) -> Book
         requires { moves < 2 ^ 32 }
         ensures { result ≡ record self { moves = moves } }

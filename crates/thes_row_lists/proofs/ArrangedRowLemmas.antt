@@ -111,7 +111,7 @@ arranged_of_sorted raw sorted s = record {
     plain : (raw sorted : RawTable) → sorted ≡ raw → IsArranged sorted raw
     plain raw sorted is = subst (λ x. IsArranged x raw) (sym is) (arranged_itself raw)
 
--- Once they are sorted, the rows of a legal state load, and encode that state.
+-- The rows of a legal state load once they are sorted, and encode that state.
 legal_loaded : (base : List ℕ) (s : State) (raw sorted : Raw) → AreRowsOfState base s raw → AreSorted raw sorted
     → (u : Tables) × HasVerdict sorted (Ok u) × (state_of u ≡ s) × (u.base ≡ base)
 legal_loaded base s raw sorted are in_order =

@@ -104,7 +104,7 @@ numbered_over cells_of Rule rising (Some cells) (Some others) (p, up, there) row
   rule,
 )
 
--- A rearranged table without numbers has its typed rows rearranged in the same way.
+-- If a table without numbers is rearranged, its typed rows are rearranged in the same way.
 rows_over : {A : Type 0} (cells_of : A → List Cell) (Rule Other : List A → Type 0)
     → ((xs ys : List A) → IsPermutation xs ys → Rule xs → Other ys)
     → (here there : RawTable) → IsArranged here there → (xs : List A) → IsTable (map cells_of) Rule here xs

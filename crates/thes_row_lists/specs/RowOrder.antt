@@ -13,13 +13,13 @@ use Rattle.thes_core.specs.CoreView.{CoreView, IsViewOf}
 use Rattle.thes_office.specs.LoadedCore.{IsLoaded}
 use Rattle.thes_row_lists.specs.SortedRows.{AreSorted}
 
--- The tables have the same rows in any order, or neither can be queried.
+-- The two tables have the same rows, perhaps in different orders, or neither can be queried.
 abbrev pub IsArranged : RawTable → RawTable → Type 0
 IsArranged None other = other ≡ None
 IsArranged (Some rows) None = ⊥
 IsArranged (Some rows) (Some other) = IsPermutation rows other
 
--- Each table has the same rows in both stores, in any order.
+-- Each table has the same rows in both stores, perhaps in different orders.
 pub record AreArranged (raw other : Raw) : Type 0 where
   pub meta : IsArranged raw.meta other.meta
   pub resource : IsArranged raw.resource other.resource

@@ -1,4 +1,4 @@
-//! The law of the order of rows.
+//! The law that the verdict doesn't depend on the order of rows within a table.
 ghost use Rattle.thes_row_lists.specs.RowOrder.{AnyOrder};
 
 /// No effect; states for the proof that the verdict doesn't depend on the order of rows within a

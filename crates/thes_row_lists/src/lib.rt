@@ -1,4 +1,4 @@
-//! For the library: builds a core from lists of rows, in any order.
+//! For the library: builds a core from lists of rows, in any order within each table.
 #![tactic(auto)]
 
 pub mod laws;

@@ -66,7 +66,7 @@ impl AsCells for CellRow {
 }
 
 /// The rows of the eight tables of a store, in any order within a table; None for a table that
-/// can't be queried. Table move is `steps`.
+/// can't be queried. `steps` has the rows of table move, whose name is a keyword.
 #[derive(Debug, Drop)]
 pub struct CellRows {
     pub meta: Option<Vec<CellRow>>,
@@ -169,8 +169,9 @@ fn read_rows(alloc: Global, rows: &CellRows, limits: Limits) -> Result<Loader, F
     Ok(loader)
 }
 
-/// Builds a core from lists of rows; any fault but OutOfMemory is the verdict on them. Sorts
-/// numbered tables first, so the result doesn't depend on the order of rows within a list.
+/// Builds a core from lists of rows; any fault but OutOfMemory is the verdict on the rows. Sorts
+/// the numbered tables (resource, outside, posting and move) first, so the result doesn't depend on
+/// the order of rows within a list.
 pub fn from_rows(alloc: Global, rows: CellRows, limits: Limits) -> Result<Core, Fault>
     ensures ok { IfOk result (IsCoreOfRows (raw_of rows) limits) }
     ensures err { IfErr result (λ fault. (fault ≡ faults.OutOfMemory)

@@ -20,8 +20,8 @@ use thes_base::number::{PostNo, ResNo};
 use thes_base::text::{Tag, Text};
 
 impl Thesaurus {
-    // Checks a Split request: its concept, the postings that it lists, its preferred label, and the
-    // limits.
+    // Checks a Split request: its source, the postings that it lists, the new concept's preferred
+    // label, and the limits.
     pub(super) fn check_split(
         &self,
         source: ResNo,

@@ -17,7 +17,7 @@ parts c =
       limits = c.args.limits;
     }
 
--- Its base and limits are valid.
+-- The base and the limits of the new core are valid.
 setting : (c : After-new-3) → IsSetting (record { base = c.args.base; limits = c.args.limits })
 setting c = record {
   base_form = subst IsBase c.as_str.ensures.text c.as_str.ensures.form;
