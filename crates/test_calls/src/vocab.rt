@@ -29,8 +29,8 @@ enum Call {
     Collection(u32, &'static str),
     Outside(&'static str),
     LabelChange(Change, u32, LabelKind, &'static str, &'static str),
-    // The owner, the language and the text of its new preferred label, and whether the old one stays
-    // as an alternative label.
+    // The owner, the language and text of the new preferred label, and whether the old one stays as
+    // an alternative label.
     Relabel(u32, &'static str, &'static str, bool),
     TakeLabels(u32, u32),
     Deprecate(u32),
