@@ -17,8 +17,8 @@ fn perform_read<K: Keeper>(
     Ok(answer?)
 }
 
-// Makes a scheme with two concepts, posts a record to one, merges it into the other, and appends
-// the view of the other.
+// Makes a scheme with two concepts, posts a record to the first, merges the first concept into the
+// second, and appends the view of the second.
 fn make_post_merge_show<K: Keeper>(
     alloc: Global,
     office: &mut Office<K>,
