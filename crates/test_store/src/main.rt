@@ -2,8 +2,8 @@
 //! what to do:
 //!
 //! - `tests FILE`: runs all tests, which are what the next two points name
-//! - `calls`: prints the results of the calls of a storage in memory and, for each kind of call, the
-//!   results when one such call fails
+//! - `calls`: prints the results of the calls of a storage in memory and, for each kind of call,
+//!   the results when one such call fails
 //! - `make FILE`: creates a store in the file, makes changes of each kind in it, and prints its
 //!   rows
 //! - `show FILE ..`: prints the rows of the stores in these files

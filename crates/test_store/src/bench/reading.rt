@@ -16,7 +16,7 @@ fn is_found<K: Keeper>(alloc: Global, keeper: &mut K, number: u32) -> Result<boo
     Ok(keeper.find(&key)?.is_some())
 }
 
-/// Looks up `count` keys, spread over those of `posts` postings, and returns how many were found.
+/// Looks up keys of the first `posts` postings, `count` times, and returns how often one was found.
 pub fn find_all<K: Keeper>(
     alloc: Global,
     keeper: &mut K,
@@ -41,7 +41,8 @@ fn count_moves<K: Keeper>(keeper: &mut K, number: PostNo) -> Result<usize, Failu
     }
 }
 
-/// Looks up `count` postings by number, spread over `posts`, and returns how many moves they have.
+/// Looks up the first `posts` postings by number, `count` times, and returns how many moves they
+/// have in all.
 pub fn count_all_moves<K: Keeper>(
     keeper: &mut K,
     posts: u32,
