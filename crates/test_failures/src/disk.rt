@@ -163,8 +163,8 @@ fn close<D: Disk + Drop>(conn: Store<D>) -> (Files<D>, bool) {
     }
 }
 
-/// Closes a store if its work is done, or else abandons it. Returns the files, and whether the store
-/// was closed and each call succeeded.
+/// Closes a store if its work is done, or else abandons it. Returns the files, and whether the
+/// store was closed and each call succeeded.
 pub fn end<D: Disk + Drop>(conn: Store<D>, is_done: bool) -> (Files<D>, bool) {
     if is_done {
         close(conn)

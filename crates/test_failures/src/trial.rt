@@ -172,7 +172,7 @@ fn try_memory(
     try_keepers(alloc, name, stored, wanted.listing.text.as_str(), page)
 }
 
-// Runs an example over stores in files, one of which stops working.
+// Runs an example over a store in files, one of which stops working.
 fn try_requests(
     alloc: Global,
     name: &str,
@@ -183,7 +183,7 @@ fn try_requests(
     try_files(alloc, name, &requests, page)
 }
 
-// Runs a migration over stores in files, one of which stops working, after a check that the store
+// Runs a migration over a store in files, one of which stops working, after a check that the store
 // is of version 1.
 fn try_older(
     alloc: Global,

@@ -6,7 +6,7 @@ use std::alloc::{AllocError, Global};
 use std::io;
 use test_office::{Store, store_after};
 
-// A number of allocations greater than that of any run before the one that fails.
+// More allocations than any run can make before one fails.
 const MOST: u32 = 10_000;
 
 // The query with which each run ends.
