@@ -274,8 +274,8 @@ fn merge(graph: &mut Graph, source: u32, target: u32) -> Result<(), AllocError> 
     Ok(())
 }
 
-// Checks that a merge moves the source's links to the target, drops links that would join the
-// target to itself, and makes equal links one.
+// Checks that a merge moves the source's links to the target, except those that would join the
+// target to itself, and keeps only one of links that become equal.
 fn expect_merge(rt: &impl Abort, alloc: Global, graph: &mut Graph) -> Result<(), Fail> {
     mark(graph, 5)?;
     run(rt, alloc, graph, &BEFORE_THE_MERGE)?;

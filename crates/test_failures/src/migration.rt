@@ -38,7 +38,8 @@ impl Migration {
         Ok(migration)
     }
 
-    // Performs the example without failures, and records the rows before and after the migration.
+    // Performs the example without failures in a store of version 2, and records its rows and those
+    // that a store of version 1 has in their place.
     fn run_reference(&mut self, alloc: Global, example: Example) -> Result<(), TrialStop> {
         report_wanted(alloc, example, &mut self.newer)?;
         self.add_older()?;
@@ -58,7 +59,7 @@ impl Migration {
         Ok(())
     }
 
-    /// Checks whether the store has the rows of version 1.
+    /// Checks whether the store has the rows that were computed for version 1.
     pub fn is_older(&self, alloc: Global) -> Result<bool, TrialStop> {
         let mut showing = StoreListing::new(alloc);
         self.show(alloc, &mut showing)?;

@@ -30,7 +30,7 @@ pub struct Requests<'a> {
 }
 
 impl<'a> Requests<'a> {
-    /// Returns the trial of an example.
+    /// Returns the trial of an example, after reading the listing of an empty store.
     pub fn new(alloc: Global, example: Example<'a>) -> Result<Requests<'a>, TrialStop> {
         let mut requests = Requests {
             example,

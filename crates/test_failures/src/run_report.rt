@@ -151,7 +151,7 @@ pub fn close<K: Keeper>(handler: OfficeHandler<K, WithPlans>) -> K {
 }
 
 /// Performs an example over a storage, and returns the storage. If the `Office` can't be opened,
-/// for whatever fault, the report says that it failed.
+/// whatever the fault, the report says that it failed.
 pub fn perform<K: Keeper>(
     alloc: Global,
     keeper: K,
@@ -175,7 +175,7 @@ fn list<K: Keeper>(keeper: &mut K, rows: &mut Rows) -> Result<(), Fault> {
     keeper.load(rows)
 }
 
-// Opens an `Office` over a storage, and returns "loads" or the name of the fault.
+// Opens an `Office` over a storage, and returns the storage, with "loads" or the name of the fault.
 fn verdict<K: Keeper>(alloc: Global, keeper: K) -> (K, &'static str) {
     match open(alloc, keeper) {
         Ok(handler) => (close(handler), "loads"),
@@ -223,7 +223,7 @@ pub fn new_keeper(alloc: Global) -> Result<MemKeeper, TrialStop> {
 }
 
 /// Performs an example in memory without failures, and reports the answers and rows, which other
-/// runs are expected to give, too.
+/// runs must also give.
 pub fn report_wanted(
     alloc: Global,
     example: Example,

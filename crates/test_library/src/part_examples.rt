@@ -17,7 +17,7 @@ fn vocab_with_scheme(alloc: Global) -> Result<Vocab, ReadStop> {
     Ok(vocab)
 }
 
-// Checks whether the number is a live scheme's.
+// Checks whether the number is that of a live scheme.
 fn is_live_scheme(vocab: &Vocab, number: ResNo) -> bool {
     let resource: Option<Resource> = vocab.resource(number).copied();
     match resource {

@@ -1,4 +1,4 @@
-//! The postings of an office: their histories, and those at a concept.
+//! The histories of an office's postings, and the postings at a concept.
 use crate::failure::{Failure, on_success};
 use crate::report::{push, view_line};
 use std::alloc::{AllocError, Global};

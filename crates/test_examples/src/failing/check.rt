@@ -46,7 +46,7 @@ pub fn outcome_of(alloc: Global, before: u32, example: &Example) -> ExampleOutco
     }
 }
 
-// Returns whether the copy of the tables in memory may differ from them.
+// Returns whether the copy in memory may differ from the tables.
 fn has_stale_copy(store: &mut Store) -> bool {
     store.office().is_stale()
 }

@@ -54,7 +54,8 @@ fn import_with(
     })
 }
 
-// The bytes of the heading of outcomes, which is written before the first row is performed.
+// The number of bytes in the heading of the outcomes, which is written before the first row is
+// performed.
 const HEADING: usize = 19;
 
 // Checks an import with this device failing after 0, 1, 2, .. calls. If the reader fails, or the
