@@ -55,7 +55,7 @@ fn fixed_answers(alloc: Global, example: &Example) -> io::Result<String> {
 }
 
 /// Appends a line that says how a script ended, unless it ended as usual: without a fault, and as
-/// refused exactly when an answer is a refusal.
+/// refused exactly when an answer is a refusal or a form fault.
 pub fn with_end(mut answers: String, ended: Result<ScriptEnd, PipeFault>) -> io::Result<String> {
     let refused = answers.as_str().lines().any(is_refusal);
     let usual = ScriptEnd {

@@ -86,7 +86,7 @@ impl Image {
         }
     }
 
-    /// Returns an image of the files, with what was synced and what wasn't.
+    /// Returns an image of the files with all bytes that were written, synced or not.
     pub fn of(alloc: Global, files: &Disks) -> Result<Image, AllocError> {
         Ok(Image {
             log: Vec::from_slice(alloc, files.log.inner().bytes())?,

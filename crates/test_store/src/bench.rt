@@ -1,9 +1,9 @@
 //! Benchmarks of storages, for `bench/store` and `bench/load`. Prints times in microseconds.
 //!
-//! With `time` POSTS LOOKS: commits POSTS postings, one a commit; merges a tenth of them; looks up
-//! LOOKS keys and LOOKS numbers; and loads all rows, in memory. With `time` POSTS 0 FILE, makes the
-//! postings and the merge in a new database in the file; with `time` POSTS LOOKS FILE, makes the
-//! look-ups and the load in the store of POSTS postings in the file.
+//! With `time` POSTS LOOKS: over a storage in memory, commits POSTS postings, one a commit; merges
+//! a tenth of them; looks up LOOKS keys and LOOKS numbers; and loads all rows. With `time` POSTS 0
+//! FILE: makes these postings and the merge in a new database in the file. With `time` POSTS LOOKS
+//! FILE: makes the look-ups and the load in the store of POSTS postings in the file.
 //!
 //! With `load` RESOURCES POSTINGS TIMES: loads a generated store of this size TIMES times, and
 //! prints the number of cores. With `rows` and the same arguments: generates the rows only, and
