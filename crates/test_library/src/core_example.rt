@@ -16,7 +16,7 @@ fn step(core: &mut Core, command: &Command, facts: &Facts) -> Result<Answer, Fau
     core.step(command, facts)
 }
 
-// Performs the command at a place, given its facts.
+// Performs the command at a place, with the facts for it.
 fn perform(alloc: Global, core: &mut Core, place: usize) -> Result<Answer, Failure> {
     let (command, facts) = both(command_at(alloc, place), facts_at(alloc, place))?;
     let answer = step(core, &command, &facts);
@@ -61,7 +61,8 @@ fn write_contents(alloc: Global, core: &Core, report: &mut String) -> Result<(),
     push_totals(alloc, core, report)
 }
 
-/// Appends what a core has on the two concepts, and its counts; a spent core is an error.
+/// Appends what a core has on the concepts Cats and Mammals, and its counts, or returns an error if
+/// the core is spent.
 pub fn write_core(alloc: Global, core: &Core, report: &mut String) -> Result<(), Failure> {
     if core.is_spent() {
         return Err(Failure::Fault(Fault::OutOfMemory));

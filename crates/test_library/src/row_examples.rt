@@ -21,7 +21,7 @@ fn changes_of(core: &Core, command: &Command, facts: &Facts) -> Result<Option<De
     }
 }
 
-// Returns in words what row a change adds.
+// Returns in words what kind of row a change adds.
 fn new_row_name(change: &Change) -> &'static str {
     match change {
         Change::AddLabel(LabelRow { .. }) => "a label",
@@ -79,7 +79,7 @@ fn name_count(alloc: Global, core: &Core, concept: ResNo) -> Result<usize, Alloc
     }
 }
 
-// Appends in words what rows a command would add.
+// Appends in words the kinds of rows that a command would add.
 fn write_changes(
     core: &Core,
     command: &Command,
@@ -96,7 +96,7 @@ fn write_changes(
     Ok(result?)
 }
 
-// Appends in words what row each change adds, one a line.
+// Appends in words the kind of row that each change adds, one a line.
 fn write_rows(delta: &Delta, report: &mut String) -> Result<(), AllocError> {
     for change in delta.as_slice() {
         writeln!(report, "{}", new_row_name(change))?;
@@ -104,7 +104,8 @@ fn write_rows(delta: &Delta, report: &mut String) -> Result<(), AllocError> {
     Ok(())
 }
 
-// Appends what rows a link would add, whether a core has that link, and counts of the core.
+// Appends the kinds of rows that a link would add, whether a core has that link, and counts of the
+// core.
 fn write_core(alloc: Global, core: &Core, report: &mut String) -> Result<(), Failure>
     requires { core.now.spent ≡ false }
 {
@@ -122,7 +123,7 @@ fn write_core(alloc: Global, core: &Core, report: &mut String) -> Result<(), Fai
     Ok(writeln!(report, "{is_kind} {names} {:?}", counts_of(core))?)
 }
 
-// Appends what `write_core` does; a spent core is an error.
+// Appends the report of `write_core`, or returns an error if the core is spent.
 fn write_usable_core(alloc: Global, core: &Core, report: &mut String) -> Result<(), Failure> {
     if core.is_spent() {
         return Err(Failure::Fault(Fault::OutOfMemory));
