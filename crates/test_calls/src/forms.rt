@@ -31,7 +31,7 @@ impl Form {
     }
 }
 
-// Returns the stored form of a text, or an empty text if its clone isn't equal to it.
+// Reads a text, and returns its stored form, or an empty text if a clone of it isn't equal.
 fn reread<F: form::Form>(alloc: Global, text: &str) -> Result<String, ReadStop> {
     let read: Formed<F> = Formed::read(alloc, text)?;
     let clone = read.try_clone(alloc)?;
@@ -41,7 +41,7 @@ fn reread<F: form::Form>(alloc: Global, text: &str) -> Result<String, ReadStop> 
     Ok(String::from_str(alloc, clone.as_str())?)
 }
 
-// Returns the stored form of a text, or the fault of a text without the form.
+// Returns the stored form of a text, or the fault if the text doesn't have this form.
 fn stored_form(alloc: Global, form: Form, given: &str) -> Result<String, ReadStop> {
     match form {
         Tag => reread::<TagForm>(alloc, given),
@@ -168,7 +168,7 @@ fn with_repeated_letter(
 }
 
 // A row of a table: the form, a start, the letter repeated after it, the number of repetitions, and
-// whether the text is short enough. Limits count bytes: é has two.
+// whether a text may have this length. Lengths are in bytes: é has two.
 static LENGTHS: [(Form, &str, char, usize, bool); 16] = [
     (Text, "", 'é', 128, true),
     (Text, "", 'é', 129, false),

@@ -1,5 +1,5 @@
-//! The worked examples on links, and random graphs compared with a naive program that follows the
-//! definitions.
+//! Worked examples on links, and random graphs, whose answers are compared with those of a naive
+//! program that follows the definitions.
 use Fact::{BroaderOf, CollectionsOf, Has, Mappings, NarrowerOf, RelatedTo, Size};
 use std::alloc::{AllocError, Global};
 use std::collections::BTreeSet;
@@ -32,7 +32,7 @@ fn mark(graph: &mut Graph, n: u32) -> Result<(), AllocError> {
     graph.mark_outside(n)
 }
 
-// Checks whether the link may be added, and whether the graph keeps the rules; returns the first
+// Checks that the graph keeps the rules, and then that the link may be added; returns the first
 // refusal.
 fn check_link(alloc: Global, graph: &Graph, link: &Link) -> Result<Option<Refusal>, AllocError> {
     if link.a == link.b {
@@ -56,7 +56,7 @@ fn try_add(alloc: Global, graph: &mut Graph, link: &Link) -> Result<Option<Refus
     Ok(answer)
 }
 
-// Checks whether the merge is allowed, and whether the graph keeps the rules; returns the first
+// Checks that the graph keeps the rules, and then that the merge is allowed; returns the first
 // refusal.
 fn check_merge(
     alloc: Global,
@@ -161,8 +161,8 @@ fn worked_links(rt: HostRuntime) -> Result<(), Fail> {
     Ok(())
 }
 
-// A row of a table: links, a merge of the first node into the second after these, and the expected
-// answer.
+// A row of a table: links to add, the source and the target of a merge after that, and the expected
+// answer to the merge.
 type Merge<'a> = (&'a [Step], u32, u32, Option<Refusal>);
 
 #[test]
@@ -195,7 +195,7 @@ fn worked_merges(rt: HostRuntime) -> Result<(), Fail> {
     Ok(())
 }
 
-// A fact about the graph, with the expected value of one of its queries.
+// A fact about the graph: the expected result of a look-up.
 #[derive(Clone, Copy)]
 enum Fact {
     Size(u64),
@@ -274,8 +274,8 @@ fn merge(graph: &mut Graph, source: u32, target: u32) -> Result<(), AllocError> 
     Ok(())
 }
 
-// Checks that a merge transfers links to the target, drops those that would join it to itself, and
-// merges equal ones.
+// Checks that a merge moves the source's links to the target, except those that would join the
+// target to itself, and keeps only one of links that become equal.
 fn expect_merge(rt: &impl Abort, alloc: Global, graph: &mut Graph) -> Result<(), Fail> {
     mark(graph, 5)?;
     run(rt, alloc, graph, &BEFORE_THE_MERGE)?;
@@ -364,7 +364,7 @@ fn visits_near_the_edit(rt: HostRuntime) -> Result<(), Fail> {
     Ok(())
 }
 
-// An upward search reads none of the other links at a concept with many narrower ones.
+// An upward search that reaches a concept with many narrower ones reads no link to these.
 #[test]
 fn visits_on_one_side(rt: HostRuntime) -> Result<(), Fail> {
     let alloc = rt.alloc();
@@ -399,8 +399,8 @@ fn visits_of_merge(
     }
 }
 
-// If the upward search is short, no link is read that leads down from a concept with many narrower
-// ones, even if the edit is at that concept.
+// If the upward search is short, no links down from a concept with many narrower ones are read,
+// even if the edit is at that concept.
 #[test]
 fn visits_above_a_broad_concept(rt: HostRuntime) -> Result<(), Fail> {
     let alloc = rt.alloc();
@@ -412,13 +412,13 @@ fn visits_above_a_broad_concept(rt: HostRuntime) -> Result<(), Fail> {
     // One visit for a look-up, and one for the link up from 600.
     assert_eq!(rt; visits(alloc, &graph, &link(Broader, 1, 600))?, Some(2));
     run(&rt, alloc, &mut graph, &[(Broader, 1, 600, None)])?;
-    // One visit for the link up from the target, and one for that from 600.
+    // One visit for the link up from the target, and one for the link up from 600.
     assert_eq!(rt; visits_of_merge(alloc, &graph, 700, 1)?, Some(2));
     Ok(())
 }
 
-// Returns the broader node or, if `exact` is true, the exact match to which the link leads from
-// `x`, for the naive program.
+// Returns the node to which the link leads from `x`, for the naive program: a broader one or, if
+// `exact` is true, an exact match.
 fn next(link: &Link, exact: bool, x: ResNo) -> Option<ResNo> {
     match link.kind {
         Exact if exact && link.a == x => Some(link.b),
@@ -430,8 +430,8 @@ fn next(link: &Link, exact: bool, x: ResNo) -> Option<ResNo> {
     }
 }
 
-// Returns all nodes to which one or more links lead up from a node or, if `exact` is true, all its
-// exact matches, for the naive program.
+// Returns all nodes that chains of links reach from a node, for the naive program: chains upward
+// or, if `exact` is true, chains of exact matches.
 fn chains(
     alloc: Global,
     links: &[Link],
@@ -482,7 +482,7 @@ fn plain(alloc: Global, links: &[Link]) -> Result<Option<Refusal>, AllocError> {
     Ok(None)
 }
 
-// Returns the links after a merge, in a list that may have duplicates, for the naive program.
+// Returns the links after a merge, for the naive program. The list may have duplicates.
 fn plain_merge(
     alloc: Global,
     links: &[Link],
@@ -504,7 +504,7 @@ fn plain_merge(
     Ok(merged)
 }
 
-// Returns a random link of any kind between two of the first `nodes` nodes.
+// Returns a random link of any kind among the first `nodes` nodes; its ends may be the same node.
 fn any_link(numbers: &mut Numbers, nodes: u32) -> Link {
     let kind = match numbers.below(13) {
         0 | 1 => Broader,
@@ -524,8 +524,8 @@ fn any_link(numbers: &mut Numbers, nodes: u32) -> Link {
     link(kind, a.saturating_add(1), b.saturating_add(1))
 }
 
-// Adds the link to a graph that keeps the rules, and returns the first rule that a check at its
-// first end finds broken.
+// Adds the link to a graph that keeps the rules, and returns the refusal that a check at the link's
+// first end finds.
 fn check_added(
     alloc: Global,
     graph: &mut Graph,

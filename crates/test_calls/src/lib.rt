@@ -1,5 +1,5 @@
 //! Tests of calls that no request reaches: of forms and values, vocabularies, graphs of links, and
-//! connections. Their functions have no contracts, and so are proved quickly.
+//! connections. Few of their functions have contracts, so that they are proved quickly.
 #![tactic(auto)]
 
 #[cfg(test)]

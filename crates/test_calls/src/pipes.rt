@@ -63,7 +63,7 @@ fn what_a_reader_does_is_noted(rt: HostRuntime) {
     expect_readings(&rt, &READINGS);
 }
 
-// Writes texts to a device until one fails, and returns the last result and the event recorded.
+// Writes texts in order until a write fails, and returns the last result and the event recorded.
 fn write_to<W: Write>(
     budget: &mut Budget,
     pipe: &mut Pipe<W>,

@@ -7,8 +7,8 @@ use thes_base::number::{MoveNo, PostNo, ResNo};
 use thes_base::request::{Command, PostNos};
 use thes_base::text::{Key, Note, RecordName, Tag, Text};
 
-// Checks whether a value equals its clone. Both are dropped here, since a function that drops a
-// value of many parts is slow to prove.
+// Checks whether a value equals its clone. Both are dropped here, in generic code, since the drop
+// of a value of many parts is slow to prove.
 fn is_equal<T: PartialEq + Drop>(value: T, clone: Result<T, AllocError>) -> bool {
     match clone {
         Ok(clone) => value == clone,
@@ -16,7 +16,7 @@ fn is_equal<T: PartialEq + Drop>(value: T, clone: Result<T, AllocError>) -> bool
     }
 }
 
-// Returns the value of a lexical label of this kind: any kind but a scope note.
+// Returns the value of a lexical label: a preferred, an alternative, or else a hidden one.
 fn name(kind: LabelKind, text: Text) -> LabelValue {
     match kind {
         LabelKind::Pref => LabelValue::Pref(text),
@@ -41,7 +41,7 @@ fn label(alloc: Global, kind: LabelKind, text: &str) -> Result<Label, ReadStop> 
     })
 }
 
-// Checks whether a label has its kind and its text, and equals its clone.
+// Checks whether a new label has the given kind and text, and equals its clone.
 fn returns_its_parts(alloc: Global, kind: LabelKind, text: &str) -> Result<bool, ReadStop> {
     let label = label(alloc, kind, text)?;
     let shows = label.kind() == kind && label.text() == text;

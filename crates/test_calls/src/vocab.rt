@@ -1,5 +1,5 @@
-//! The worked examples on resources and labels, each a table of steps: a call with its answer, or a
-//! fact. The tables are items of their own, because a proof that sees a table computes with it.
+//! Worked examples on resources and labels, each a table of steps: a call with its answer, or a
+//! fact. The tables are statics, because a proof that sees a table computes with it.
 mod fixture;
 
 use crate::vocab::fixture::{Answer, Change, Fixture, no};
@@ -29,7 +29,8 @@ enum Call {
     Collection(u32, &'static str),
     Outside(&'static str),
     LabelChange(Change, u32, LabelKind, &'static str, &'static str),
-    // The new preferred label, and whether the old one stays as an alternative label.
+    // The owner, the language and text of the new preferred label, and whether the old one stays as
+    // an alternative label.
     Relabel(u32, &'static str, &'static str, bool),
     TakeLabels(u32, u32),
     Deprecate(u32),
@@ -122,7 +123,7 @@ fn holds(fixture: &Fixture, fact: Fact) -> Result<bool, ReadStop> {
     })
 }
 
-// Runs the steps of a table in order.
+// Performs the steps of a table in order, and compares answers and facts with the expected ones.
 fn take(rt: &impl Abort, fixture: &mut Fixture, steps: &[Step]) -> Result<(), Fail> {
     for (i, step) in steps.iter().enumerate() {
         match *step {
@@ -141,7 +142,7 @@ static START: [Step; 4] = [
     Do(Concept(1, "Pets"), Number(4)),
 ];
 
-// Runs the steps of `START`, and then those of a table.
+// Performs the steps of `START`, and then those of a table, in a new vocabulary.
 fn expect(rt: &impl Abort, alloc: Global, steps: &[Step]) -> Result<(), Fail> {
     let mut fixture = Fixture::new(alloc)?;
     for table in [&START, steps] {

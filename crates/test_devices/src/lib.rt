@@ -9,8 +9,8 @@ ghost use Rattle.std.specs.Prelude.{Some};
 use std::io;
 use std::io::{ErrorKind, Read, Write};
 
-// Uses up one of the calls left. Fails if there is none, and otherwise is interrupted at every
-// other call.
+// Uses up one of the calls left. Returns the error `BrokenPipe` if none is left, and otherwise
+// `Interrupted` at every other call.
 fn take_call(calls: &mut u32) -> Result<(), ErrorKind> {
     if *calls == 0 {
         return Err(ErrorKind::BrokenPipe);

@@ -1,11 +1,11 @@
 //! Pseudo-random numbers for tests and benchmarks, the same in each run.
 
-/// A linear congruential generator; the number is its state.
+/// A linear congruential generator, whose field is its state.
 #[derive(Drop)]
 pub struct Numbers(pub u64);
 
 impl Numbers {
-    /// Returns the next pseudo-random number, which is less than `n`.
+    /// Returns the next pseudo-random number below `n`, or 0 if `n` is 0.
     pub fn below(&mut self, n: u32) -> u32 {
         self.0 = self
             .0

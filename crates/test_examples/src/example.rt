@@ -10,9 +10,9 @@ pub enum Mode {
     Script,
     /// As one list of requests over a new store.
     List,
-    /// As a script, with a reader and a writer that fail after each number of calls.
+    /// As a script whose reader or writer fails after 0, 1, 2, .. calls.
     Halting,
-    /// As a script, with answers that no store gives.
+    /// As a script over a handler with fixed answers, which no store gives.
     Fixed,
     /// As requests that fill a new store, whose export or one display is then written.
     Text,

@@ -1,9 +1,10 @@
 //! Examples that must be answered correctly if an allocation, a reader or a writer fails, each in a
 //! new store.
 //!
-//! `tests/builds/test_refuse_memory.py` has a late allocation fail, and as many made before the
-//! example as an argument says. If that is 0, no allocation should fail, and the readers and
-//! writers of imports, exports and displays fail instead.
+//! `tests/builds/test_refuse_memory.py` has the same late allocation of each run fail. An argument
+//! says how many allocations to make before the example, and so which of the example's own fails.
+//! If that number is 0, no allocation should fail, and the readers and writers of imports, exports
+//! and displays fail instead.
 
 mod check;
 mod connections;

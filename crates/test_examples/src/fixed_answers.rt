@@ -12,9 +12,9 @@ use thes_requests::page::Page;
 use thes_requests::request::Query;
 use thes_requests::script::{ScriptEnd, script};
 
-/// A handler that answers each withdrawal by the number of its posting, and refuses all other
-/// commands. The withdrawal of posting 7 runs out of memory, and that of a later one also closes
-/// the handler.
+/// A handler whose answer to a withdrawal depends only on the number of the posting, and which
+/// refuses all other commands. The withdrawal of posting 7 runs out of memory; that of a posting
+/// with a greater number also closes the handler.
 #[derive(Drop)]
 pub struct FixedAnswers {
     is_closed: bool,
@@ -26,7 +26,7 @@ impl FixedAnswers {
         FixedAnswers { is_closed: false }
     }
 
-    /// Serves a script, and returns the writer and the end of the script.
+    /// Serves a script, and returns the writer and how the script ended.
     pub fn serve<R: Read + Drop, W: Write>(
         mut self,
         alloc: Global,
@@ -81,7 +81,7 @@ impl RequestHandler for FixedAnswers {
         }
     }
 
-    // (no plan reaches it)
+    // Never called, since this handler takes no plans.
     fn perform_plan(&mut self, plan: Vec<PlanRequest>) -> Result<PlanOutcome, Fault> {
         let _ = plan;
         Err(Fault::OutOfMemory)

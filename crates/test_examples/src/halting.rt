@@ -1,4 +1,4 @@
-//! Scripts whose reader or writer fails after each number of calls.
+//! Scripts whose reader or writer fails after 0, 1, 2, .. calls.
 use crate::example::{Example, push_line};
 use crate::modes::{text_of, with_end};
 use Failing::{FullWriter, Reader, Writer};
@@ -30,12 +30,12 @@ enum Outcome {
     Wrong,
 }
 
-/// Runs a script with a reader and a writer that fail after each number of calls. Returns the
-/// stored answers, or the first device and number of calls with a wrong outcome.
+/// Runs a script whose reader or writer fails after 0, 1, 2, .. calls. Returns the stored answers
+/// if all outcomes are right, or else the first device and number of calls with a wrong outcome.
 ///
-/// The text written must be a prefix of the stored answers, and exactly the requests answered must
-/// be performed, with the one whose answer the writer failed to accept: the same store must answer
-/// the later requests as stored.
+/// The text written must be a prefix of the stored answers. The requests performed must be those
+/// answered and, if the writer failed, the one whose answer wasn't written: the same store must
+/// answer the later requests as stored.
 pub fn halting_answers(alloc: Global, example: &Example) -> io::Result<String> {
     for failing in [Reader, Writer, FullWriter] {
         if let Some(calls) = first_wrong(alloc, example, failing)? {

@@ -126,7 +126,7 @@ fn labels_text(alloc: Global, labels: &[Label]) -> Result<String, AllocError> {
     Ok(list)
 }
 
-// Returns the concept of a scheme that has this preferred label in a language.
+// Returns the live concept of a scheme that has this preferred label in a language.
 fn holder(alloc: Global, core: &Core, words: &str) -> Option<String>
     requires { core.now.spent ≡ false }
 {

@@ -2,8 +2,8 @@
 //! the stored ones. The arguments name the files; "Stored examples" in CONTRIBUTING.md defines
 //! their form. Files with names that begin with `tables` hold the tables of stores instead, each
 //! with the expected verdict of its load. Those with names that begin with `failing` hold an
-//! example that is run while an allocation or a device fails; a number before such a name is that
-//! of allocations to make first.
+//! example that is run while an allocation or a device fails; a number before such a name says how
+//! many allocations to make first.
 #![tactic(auto)]
 
 mod example;

@@ -11,8 +11,8 @@ use test_office::Store;
 use thes_base::fault::PipeFault;
 use thes_requests::script::ScriptEnd;
 
-/// Runs an example, and returns its answers with those of its look-ups, or its text. A further line
-/// names the end of a script, if its answers don't show it.
+/// Runs an example, and returns its answers and those of its look-ups, or its text. A further line
+/// says how a script ended, unless it ended as usual.
 pub fn run(alloc: Global, example: &Example) -> io::Result<String> {
     match example.mode {
         Mode::Script => script_answers(alloc, example),
@@ -54,8 +54,8 @@ fn fixed_answers(alloc: Global, example: &Example) -> io::Result<String> {
     with_end(text_of(written)?, ended)
 }
 
-/// Appends a line that names the end of a script, unless it is the usual end: without a fault, and
-/// refused exactly when an answer is a refusal.
+/// Appends a line that says how a script ended, unless it ended as usual: without a fault, and as
+/// refused exactly when an answer is a refusal or a form fault.
 pub fn with_end(mut answers: String, ended: Result<ScriptEnd, PipeFault>) -> io::Result<String> {
     let refused = answers.as_str().lines().any(is_refusal);
     let usual = ScriptEnd {

@@ -118,8 +118,8 @@ fn cell_in(alloc: Global, cell: &str) -> io::Result<Cell> {
     }
 }
 
-/// Loads the rows, and returns the verdict: a fault, or the sizes of the core and the counts of its
-/// concepts.
+/// Loads the rows, and returns the verdict: a fault, or the sizes of the core and the counts of
+/// postings of its concepts.
 pub fn load_verdict(alloc: Global, example: &TableExample) -> io::Result<String> {
     match from_rows(alloc, example.rows(alloc)?, Limits::default()) {
         Ok(core) => sizes_of(alloc, &core),
@@ -128,7 +128,7 @@ pub fn load_verdict(alloc: Global, example: &TableExample) -> io::Result<String>
     }
 }
 
-// Returns the sizes of a core, and the counts of its concepts that aren't 0.
+// Returns the sizes of a core, and the count of postings of each concept that has any.
 fn sizes_of(alloc: Global, core: &Core) -> io::Result<String> {
     if core.is_spent() {
         return Err(invalid());

@@ -38,7 +38,7 @@ pub struct FailPoint {
 }
 
 impl FailPoint {
-    /// Both files work on.
+    /// Neither file stops working.
     pub const NEVER: FailPoint = FailPoint {
         file: Failing::Log,
         calls: u64::MAX,
@@ -60,7 +60,7 @@ fn fill<D: Disk>(disk: &mut D, bytes: &[u8]) -> bool
     disk.write_at(0, bytes).is_ok() && disk.sync().is_ok()
 }
 
-// Returns a file with these bytes.
+// Returns a file in memory with these bytes, which are synced.
 fn memory_of(alloc: Global, bytes: &[u8]) -> Result<Memory, TrialStop> {
     let mut memory = Memory::new(alloc);
     if fill(&mut memory, bytes) {
@@ -86,7 +86,7 @@ impl Image {
         }
     }
 
-    /// Returns an image of the files, with what was synced and what wasn't.
+    /// Returns an image of the files with all bytes that were written, synced or not.
     pub fn of(alloc: Global, files: &Disks) -> Result<Image, AllocError> {
         Ok(Image {
             log: Vec::from_slice(alloc, files.log.inner().bytes())?,
@@ -150,7 +150,7 @@ pub fn open<D: Disk + Drop>(alloc: Global, files: Files<D>) -> Result<Store<D>, 
     }
 }
 
-// Closes a store without a call to its files, as a kill does.
+// Closes a store without a call to its files, as if the process were killed.
 fn abandon<D: Disk + Drop>(conn: Store<D>) -> Files<D> {
     conn.into_store().close()
 }
@@ -163,8 +163,8 @@ fn close<D: Disk + Drop>(conn: Store<D>) -> (Files<D>, bool) {
     }
 }
 
-/// Closes a store if its work is done, or else abandons it. Returns its files, and whether it was
-/// closed and each call succeeded.
+/// Closes a store if its work is done, or else abandons it. Returns the files, and whether the
+/// store was closed and each call succeeded.
 pub fn end<D: Disk + Drop>(conn: Store<D>, is_done: bool) -> (Files<D>, bool) {
     if is_done {
         close(conn)

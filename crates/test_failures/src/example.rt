@@ -107,8 +107,8 @@ fn key_of(line: &str) -> &str {
 }
 
 // Returns the number of lines of a posting file, after the first `answered`, that are committed
-// together: up to a line whose key an earlier one of them has. A row that isn't a posting is in no
-// group, so it must have a key of its own.
+// together: up to a line whose key an earlier one of them has. The import leaves out a row that
+// isn't a posting; such a row must have a key that no other has, or else the count would be wrong.
 fn lines_of_group(postings: &str, answered: usize) -> usize {
     let mut count = 0;
     for line in postings.lines().skip(answered).take(GROUP_LIMIT) {
@@ -137,7 +137,7 @@ impl ExamplePrefix {
         }
     }
 
-    /// Appends the requests whose answers aren't faults, and, `with_next`, the request after the
+    /// Appends the requests whose answers aren't faults and, if `with_next`, the request after the
     /// last of these.
     pub fn add_requests(
         &mut self,
@@ -157,9 +157,9 @@ impl ExamplePrefix {
         Ok(())
     }
 
-    /// Appends the lines of a posting file that the import answered, and, `with_next`, the group
+    /// Appends the lines of a posting file that the import answered and, if `with_next`, the group
     /// after them. If the import answered none, appends none, since the import of the first line,
-    /// the heading, makes no call.
+    /// the heading, calls no storage.
     pub fn add_postings(
         &mut self,
         postings: &str,

@@ -56,7 +56,7 @@ impl Faltering {
         true
     }
 
-    // Counts a failure, and returns its fault.
+    // Counts a failure, and returns the fault `Store`.
     fn fail(&mut self) -> Fault
         ensures fault { result ≡ Fault.Store }
         ensures same { self.new.keeper ≡ self.old.keeper }

@@ -10,17 +10,18 @@ use thes_service::OfficeHandler;
 use thes_service::plan_mode::WithPlans;
 use thes_store::keeper::Keeper;
 
-// The report of a run in which each call is repeated until it succeeds.
+// The report of a run in which each request, each import and the opening of the office are
+// repeated until they succeed.
 #[derive(Drop)]
 struct Tries {
     run_report: RunReport,
-    // The greatest number of times that a call is made.
+    // The greatest number of times that one of these is tried.
     most: u32,
-    // The number of calls that returned a fault.
+    // The number of tries that returned a fault.
     faults: u64,
     // The last answer, as a line.
     line: String,
-    // The greatest number of lines in an import that a fault halted.
+    // The greatest number of lines that an import returned before a fault halted it.
     before: usize,
     // The lines expected of the last import.
     wanted: String,
@@ -44,8 +45,8 @@ impl Tries {
         self.faults = self.faults.saturating_add(1);
     }
 
-    // Counts a fault that halted an import, and records the number of lines that the import
-    // returned if it is the greatest so far.
+    // Counts a fault that halted an import, records how many lines the import returned if no halted
+    // import has returned more, and drops these lines.
     fn count_import(&mut self) {
         self.count();
         self.before = self
@@ -107,7 +108,7 @@ impl Tries {
         Ok(())
     }
 
-    // Performs an example, each call until it succeeds.
+    // Performs an example, each request and the import until it succeeds.
     fn run<K: Keeper>(
         &mut self,
         alloc: Global,
@@ -144,8 +145,8 @@ impl Tries {
         (keeper, Err(TrialStop))
     }
 
-    // Computes the lines expected of a repeated import, in which the postings that the first
-    // attempts added are repeated.
+    // Computes the lines expected of the last import, which reports as `again` each posting that an
+    // earlier try added.
     fn want(&mut self, outcomes: &str) -> Result<(), AllocError> {
         for (place, line) in outcomes.lines().enumerate() {
             match line.split_once(",new,") {
@@ -187,7 +188,7 @@ impl Tries {
     }
 }
 
-// Appends the line of a posting that is repeated.
+// Appends the line that reports a posting as `again`.
 fn push_again(text: &mut String, row: &str, number: &str) -> Result<(), AllocError> {
     text.push_str(row)?;
     text.push_str(",again,")?;
@@ -195,8 +196,8 @@ fn push_again(text: &mut String, row: &str, number: &str) -> Result<(), AllocErr
 }
 
 /// Performs an example in memory, where `times` calls fail after the first `before`, and repeats
-/// each request that returns a fault. Returns the outcome, which is right if the store has the same
-/// rows as without failures, and the kind of the first call that failed.
+/// each request that returns a fault. Returns the outcome, which is wrong unless all answers are as
+/// stored and the rows are those of `listing`, and the kind of the first call that failed.
 pub fn outcome_of_calls(
     alloc: Global,
     stored: &StoredExample,

@@ -27,7 +27,7 @@ pub struct Migration {
 }
 
 impl Migration {
-    /// Returns the trial of the store of version 1 that an example makes.
+    /// Returns the trial of a migration of the store of version 1 that an example makes.
     pub fn new(alloc: Global, example: Example) -> Result<Migration, TrialStop> {
         let mut migration = Migration {
             image: older_image(alloc, example)?,
@@ -38,7 +38,8 @@ impl Migration {
         Ok(migration)
     }
 
-    // Performs the example without failures, and records the rows before and after the migration.
+    // Performs the example without failures in a store of version 2, and records its rows and those
+    // that a store of version 1 has in their place.
     fn run_reference(&mut self, alloc: Global, example: Example) -> Result<(), TrialStop> {
         report_wanted(alloc, example, &mut self.newer)?;
         self.add_older()?;
@@ -58,7 +59,7 @@ impl Migration {
         Ok(())
     }
 
-    /// Checks whether the store has the rows of version 1.
+    /// Checks whether the store has the rows that were computed for version 1.
     pub fn is_older(&self, alloc: Global) -> Result<bool, TrialStop> {
         let mut showing = StoreListing::new(alloc);
         self.show(alloc, &mut showing)?;
@@ -70,7 +71,7 @@ impl Migration {
         showing.show(alloc, self.image.sound_files(alloc)?)
     }
 
-    // Runs the migration in these files, and returns the outcome.
+    // Runs the migration in these files, opens them again, and returns the outcome.
     fn outcome_in(
         &self,
         alloc: Global,
@@ -99,12 +100,12 @@ impl Trial for Migration {
     }
 }
 
-// Checks whether a line belongs after the rows of links.
+// Checks whether a line of a listing comes after those of the tables of links.
 fn is_behind_links(line: &str) -> bool {
     line.starts_with("posting ") || line.starts_with("move ") || line == "loads"
 }
 
-// Appends the line in version 1 for a line in version 2.
+// Appends the line that the listing of the same store in version 1 has for a line in version 2.
 fn push_older(older: &mut String, line: &str) -> Result<(), AllocError> {
     if let Some(rest) = line.strip_prefix("meta 1 2 ") {
         push_pair(older, "meta 1 1 ", rest)

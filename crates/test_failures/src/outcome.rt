@@ -26,8 +26,8 @@ impl StoreOutcome {
     }
 }
 
-/// A run in files that can be repeated with another number of calls.
+/// A run in files that can be repeated with another point at which a file stops working.
 pub trait Trial {
-    /// Runs while a file stops working at this point, and returns the outcome.
+    /// Runs with a file that stops working at this point, and returns the outcome.
     fn outcome(&self, alloc: Global, point: FailPoint) -> Result<StoreOutcome, TrialStop>;
 }

@@ -30,7 +30,7 @@ pub struct Requests<'a> {
 }
 
 impl<'a> Requests<'a> {
-    /// Returns the trial of an example.
+    /// Returns the trial of an example, after reading the listing of an empty store.
     pub fn new(alloc: Global, example: Example<'a>) -> Result<Requests<'a>, TrialStop> {
         let mut requests = Requests {
             example,
@@ -87,8 +87,8 @@ impl<'a> Requests<'a> {
         Ok(wanted.is_kept(run))
     }
 
-    // Performs the confirmed requests without failures, and then all of these again with the next
-    // one, or the next group of rows, which may have been performed.
+    // Performs the confirmed requests without failures, and then does so again with the next
+    // request or group of rows, which may have been performed if the run failed.
     fn report_prefixes(
         &self,
         alloc: Global,
@@ -99,7 +99,7 @@ impl<'a> Requests<'a> {
         self.report_prefix(alloc, run_report, run_report.failed, &mut wanted.more)
     }
 
-    // Performs the prefix of the example that this report confirms, and, `with_next`, the request
+    // Performs the prefix of the example that this report confirms and, if `with_next`, the request
     // or the group of rows after it.
     fn report_prefix(
         &self,
@@ -113,7 +113,8 @@ impl<'a> Requests<'a> {
         report_wanted(alloc, prefix.example(), wanted)
     }
 
-    // Collects the prefix of the example that a report confirms, and, `with_next`, what comes next.
+    // Collects the prefix of the example that a report confirms and, if `with_next`, the request or
+    // the group of rows after it.
     fn fill(
         &self,
         run_report: &RunReport,

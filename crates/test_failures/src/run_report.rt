@@ -26,7 +26,7 @@ pub struct RunReport {
     pub answers: String,
     /// The lines of the import, up to the fault that halted it.
     pub rows: String,
-    /// Whether the `Office` has returned the fault Store.
+    /// Whether the `Office` couldn't be opened, or has returned the fault Store.
     pub failed: bool,
     /// The rows at the end, and whether the store loads.
     pub listing: Rows,
@@ -107,7 +107,8 @@ fn push_report(
     }
 }
 
-/// Imports a posting file, appends its lines, and returns whether the fault Store halted it.
+/// Imports a posting file, appends the lines of its report, and returns whether the fault Store
+/// halted the import.
 pub fn import<K: Keeper>(
     alloc: Global,
     handler: &mut OfficeHandler<K, WithPlans>,
@@ -149,7 +150,8 @@ pub fn close<K: Keeper>(handler: OfficeHandler<K, WithPlans>) -> K {
     handler.into_office().into_keeper()
 }
 
-/// Performs an example over a storage. Any fault in opening the store is reported as Store.
+/// Performs an example over a storage, and returns the storage. If the `Office` can't be opened,
+/// whatever the fault, the report says that it failed.
 pub fn perform<K: Keeper>(
     alloc: Global,
     keeper: K,
@@ -173,7 +175,7 @@ fn list<K: Keeper>(keeper: &mut K, rows: &mut Rows) -> Result<(), Fault> {
     keeper.load(rows)
 }
 
-// Opens an `Office` over a storage, and returns "loads" or the name of the fault.
+// Opens an `Office` over a storage, and returns the storage, with "loads" or the name of the fault.
 fn verdict<K: Keeper>(alloc: Global, keeper: K) -> (K, &'static str) {
     match open(alloc, keeper) {
         Ok(handler) => (close(handler), "loads"),
@@ -207,7 +209,7 @@ pub fn show<K: Keeper>(
     (keeper, ended)
 }
 
-/// Returns the base of every store.
+/// Returns the base IRI of every store.
 pub fn base(alloc: Global) -> Result<Base, TrialStop> {
     match Base::read(alloc, "https://thesaurus.example/id/") {
         Ok(base) => Ok(base),
@@ -220,8 +222,8 @@ pub fn new_keeper(alloc: Global) -> Result<MemKeeper, TrialStop> {
     Ok(MemKeeper::new(alloc, base(alloc)?))
 }
 
-/// Performs an example in memory without failures, and reports the answers and rows, which are
-/// those expected of other runs.
+/// Performs an example in memory without failures, and reports the answers and rows, which other
+/// runs must also give.
 pub fn report_wanted(
     alloc: Global,
     example: Example,

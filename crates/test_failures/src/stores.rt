@@ -51,7 +51,8 @@ pub fn execute<S: Alter>(conn: &mut Connection<S>, sql: &str) -> bool {
     conn.execute_batch(sql).is_ok()
 }
 
-/// Migrates a store, unless a transaction is open in it. Returns the connection.
+/// Migrates a store, and returns the connection and the result; there is no result if a transaction
+/// is open in the store.
 pub fn migrate_in<S: Alter>(
     alloc: Global,
     conn: Connection<S>,
@@ -80,8 +81,8 @@ fn show_in<S: Alter>(
     }
 }
 
-/// Creates the tables of a new store, and performs an example in it. Returns the connection, and
-/// whether the tables were created.
+/// Creates the tables of a new store, and performs an example in it. Returns the connection,
+/// whether the tables were created, and whether the example could be run.
 pub fn perform_new<S: Alter>(
     alloc: Global,
     mut conn: Connection<S>,

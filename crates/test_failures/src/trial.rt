@@ -79,7 +79,8 @@ fn push_new(words: &mut String, word: &str) -> Result<(), AllocError> {
 }
 
 // Repeats an example with `times` calls failing after 0, 1, 2, .. others until the outcome isn't
-// `Kept`, and collects the kinds of calls that failed first. Returns the last outcome.
+// `Kept`, and collects the kind of the first call that failed in each run. Returns the last
+// outcome.
 fn add_calls(
     alloc: Global,
     stored: &StoredExample,
@@ -146,7 +147,7 @@ fn write_answered(page: &mut String, name: &str, is_as_stored: bool) -> Result<(
     )?)
 }
 
-// Runs an example in a database in memory.
+// Runs an example in a database in memory, and appends whether all answers are as stored.
 fn try_in_memory(
     alloc: Global,
     name: &str,
@@ -158,7 +159,7 @@ fn try_in_memory(
     write_answered(page, name, is_as_stored(&run_report, stored))
 }
 
-// Runs an example over storages that aren't in files.
+// Runs an example in a database in memory, and over storages in memory of which calls fail.
 fn try_memory(
     alloc: Global,
     name: &str,
@@ -171,7 +172,7 @@ fn try_memory(
     try_keepers(alloc, name, stored, wanted.listing.text.as_str(), page)
 }
 
-// Runs the requests of an example over stores in files.
+// Runs an example over a store in files, one of which stops working.
 fn try_requests(
     alloc: Global,
     name: &str,
@@ -182,7 +183,8 @@ fn try_requests(
     try_files(alloc, name, &requests, page)
 }
 
-// Runs a migration over stores in files, after a check that the store is of version 1.
+// Runs a migration over a store in files, one of which stops working, after a check that the store
+// is of version 1.
 fn try_older(
     alloc: Global,
     name: &str,

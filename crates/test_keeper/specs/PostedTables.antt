@@ -18,7 +18,7 @@ pub record ArePosted (raw : Raw) (next : ℕ) : Type 0 where
 abbrev pub AwaitsPosting : StorageView → ℕ → Type 0
 AwaitsPosting storage next = storage.is_up → ArePosted storage.rows next
 
--- The changes fit the tables, after which no move has a number greater than `last`.
+-- The changes fit the tables, and the tables after them have no move with a number greater than `last`.
 pub record FitUpTo (changes : List Change) (t : Tables) (last : ℕ) : Type 0 where
   pub fit : DeltaFits changes t
   pub below : (row : MoveRow) → IsIn row (tables_after_delta changes t).move → row.number ≤ last

@@ -34,7 +34,7 @@ pub enum Next {
     StandingNumbers,
 }
 
-/// Storage in memory of which the next call of one kind fails, and no call after it.
+/// Storage in memory that fails the next call of the kind `next`, and no call after it.
 #[derive(Drop)]
 pub struct FailOnce {
     pub keeper: MemKeeper,
@@ -43,7 +43,7 @@ pub struct FailOnce {
 }
 
 impl FailOnce {
-    // Counts a failure, and makes all later calls succeed.
+    // Returns the fault `Store`, counts the failure, and lets no later call fail.
     fn fail(&mut self) -> Fault
         ensures fault { result ≡ Fault.Store }
         ensures same { self.new.keeper ≡ self.old.keeper }

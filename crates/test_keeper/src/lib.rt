@@ -1,5 +1,5 @@
-//! Posts and merges over any storage, its rows as text, and a storage that fails once, for tests
-//! and benchmarks.
+//! Posts and merges over any storage, rows as lines of text, and a storage of which one call fails,
+//! for tests and benchmarks.
 #![tactic(auto)]
 
 pub mod fail_once;

@@ -6,8 +6,8 @@ use thes_store::sink::{PostingSink, RowSink};
 use thes_tables::cells::Cell;
 use thes_tables::rows::PostingRow;
 
-/// A sink that appends each row to a text as a line. For a table that can't be queried it appends
-/// its name alone.
+/// A sink that appends each row to a text as a line, and only the table's name for a table that
+/// can't be queried.
 #[derive(Drop)]
 pub struct Rows {
     pub text: String,

@@ -16,7 +16,7 @@ use thes_tables::change::Change;
 use thes_tables::delta::Delta;
 use thes_tables::rows::{MoveRow, PostingRow};
 
-/// The number of concepts to which postings are assigned in turn, from number 2 on.
+/// The number of concepts to which postings are assigned in turn; the first has the number 2.
 pub const CONCEPTS: u32 = 10;
 
 /// Commits one change in a transaction of its own.
@@ -53,8 +53,8 @@ pub fn name_with_number(alloc: Global, letter: &str, number: u32) -> Result<Stri
     format!(in alloc; "{letter}{number}")
 }
 
-/// Inserts `count` postings, each in a commit of its own, and assigns them in turn to the concepts
-/// from number 2 on.
+/// Inserts the postings 1 to `count`, each in a commit of its own, and assigns them in turn to the
+/// concepts 2 to 11.
 pub fn post_all<K: Keeper>(alloc: Global, keeper: &mut K, count: u32) -> Result<(), Failure>
     requires { AwaitsPosting (K.view keeper.old) 1 }
     ensures { OnOk result (AwaitsPosting (K.view keeper.new) (count + 1)) }
@@ -79,8 +79,8 @@ pub fn post_all<K: Keeper>(alloc: Global, keeper: &mut K, count: u32) -> Result<
     Ok(())
 }
 
-/// Returns the changes that move all postings from the source to the target, with `count` rows of
-/// moves.
+/// Returns the changes of a merge: one that moves all postings from the source to the target, and
+/// `count` that each add a row of moves.
 pub fn merge_delta(
     alloc: Global,
     source: ResNo,
@@ -103,8 +103,8 @@ pub fn merge_delta(
     Ok(delta)
 }
 
-/// Moves all postings from concept 2 to concept 3 in one commit, with `count` rows of moves. The
-/// storage has `posts` postings.
+/// Moves all postings from concept 2 to concept 3 in one commit, which also adds `count` rows of
+/// moves. The storage must have exactly `posts` postings.
 pub fn merge<K: Keeper>(
     alloc: Global,
     keeper: &mut K,

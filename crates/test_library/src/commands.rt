@@ -1,4 +1,4 @@
-//! Ten commands, and the facts on postings that decide them.
+//! Ten commands, and for each the facts on postings that its answer depends on.
 use crate::failure::both;
 use std::alloc::{AllocError, Global};
 use thesaurus::{
@@ -9,7 +9,7 @@ use thesaurus::{
 /// The number of commands.
 pub const COUNT: usize = 10;
 
-/// Returns the base of every store.
+/// Returns the base IRI of every store.
 pub fn base(alloc: Global) -> Result<Base, ReadStop> {
     Base::read(alloc, "https://thesaurus.example/id/")
 }
@@ -19,13 +19,13 @@ pub fn english(alloc: Global) -> Result<Tag, ReadStop> {
     Tag::read(alloc, "en")
 }
 
-/// Returns the command that makes a scheme.
+/// Returns the command that makes a scheme with this English label.
 pub fn scheme(alloc: Global, text: &str) -> Result<Command, ReadStop> {
     let (tag, text) = both(english(alloc), Text::read(alloc, text))?;
     Ok(Command::Scheme(tag, text))
 }
 
-/// Returns the command that makes a concept of scheme 1.
+/// Returns the command that makes a concept of scheme 1 with this English label.
 pub fn concept(alloc: Global, text: &str) -> Result<Command, ReadStop> {
     let (tag, text) = both(english(alloc), Text::read(alloc, text))?;
     Ok(Command::Concept(ResNo::new(1), tag, text))
@@ -37,7 +37,7 @@ fn alternative(alloc: Global, owner: ResNo, text: &str) -> Result<Command, ReadS
     Ok(Command::AddLabel(owner, Label { tag, value }))
 }
 
-/// Returns the command that posts a record.
+/// Returns the command that posts the record of this name to a concept.
 pub fn post(alloc: Global, key: &str, name: &str, concept: ResNo) -> Result<Command, ReadStop> {
     let (key, name) = both(Key::read(alloc, key), RecordName::read(alloc, name))?;
     Ok(Command::Post(key, name, concept))
@@ -91,7 +91,7 @@ fn facts_of_withdrawal(alloc: Global, withdrawn: bool) -> Result<Facts, ReadStop
 }
 
 /// Returns the facts for the command at a place: what a storage would report of the postings that
-/// it concerns.
+/// the command concerns.
 pub fn facts_at(alloc: Global, place: usize) -> Result<Facts, ReadStop> {
     match place {
         7 => Ok(facts_of_merge(alloc)?),

@@ -16,7 +16,7 @@ fn step(core: &mut Core, command: &Command, facts: &Facts) -> Result<Answer, Fau
     core.step(command, facts)
 }
 
-// Performs the command at a place.
+// Performs the command at a place, with the facts for it.
 fn perform(alloc: Global, core: &mut Core, place: usize) -> Result<Answer, Failure> {
     let (command, facts) = both(command_at(alloc, place), facts_at(alloc, place))?;
     let answer = step(core, &command, &facts);
@@ -25,7 +25,7 @@ fn perform(alloc: Global, core: &mut Core, place: usize) -> Result<Answer, Failu
     Ok(answer?)
 }
 
-// Appends the sort key of the preferred label of a concept.
+// Appends the sort key of a concept's preferred label in a language; `none` stands for no label.
 fn write_sort_key(
     alloc: Global,
     core: &Core,
@@ -45,7 +45,7 @@ fn write_sort_key(
     Ok(())
 }
 
-// Appends what a core that isn't spent has of both concepts, and its counts.
+// Appends what a core has on the concepts Cats and Mammals, and its counts.
 fn write_contents(alloc: Global, core: &Core, report: &mut String) -> Result<(), Failure>
     requires { core.now.spent ≡ false }
 {
@@ -61,7 +61,8 @@ fn write_contents(alloc: Global, core: &Core, report: &mut String) -> Result<(),
     push_totals(alloc, core, report)
 }
 
-/// Appends what a core has, unless it is spent.
+/// Appends what a core has on the concepts Cats and Mammals, and its counts, or returns an error if
+/// the core is spent.
 pub fn write_core(alloc: Global, core: &Core, report: &mut String) -> Result<(), Failure> {
     if core.is_spent() {
         return Err(Failure::Fault(Fault::OutOfMemory));

@@ -1,11 +1,11 @@
-//! The reason why an example stopped, and values that depend on it.
+//! The reason why an example stopped, and functions that join results.
 use std::alloc::AllocError;
 use thesaurus::{Fault, PipeFault, ReadStop};
 
 /// The reason why an example stopped before its end.
 #[derive(Clone, Copy, Debug, PartialEq, Eq)]
 pub enum Failure {
-    /// A text lacks its form, or memory ran out while it was read.
+    /// A text doesn't have the form that it is read in, or memory ran out while it was read.
     Text(ReadStop),
     /// A call returned a fault.
     Fault(Fault),
@@ -37,7 +37,7 @@ impl From<PipeFault> for Failure {
     }
 }
 
-/// Returns the value if the outcome is a success; drops it otherwise, and returns the fault.
+/// Returns the value if the outcome is a success; otherwise drops the value and returns the fault.
 pub fn on_success<T: Drop, U: Copy, E>(value: T, outcome: Result<U, E>) -> Result<T, E> {
     match outcome {
         Ok(_) => Ok(value),

@@ -6,7 +6,7 @@ use crate::report::push_concept;
 use std::alloc::Global;
 use thesaurus::{Answer, Command, Keeper, MemKeeper, Office, ReadStop, ResNo};
 
-// Performs the command if its texts have their forms.
+// Performs a command, unless its texts couldn't be read.
 fn perform_read<K: Keeper>(
     office: &mut Office<K>,
     command: Result<Command, ReadStop>,
@@ -17,7 +17,8 @@ fn perform_read<K: Keeper>(
     Ok(answer?)
 }
 
-// Makes a scheme with two concepts, posts a record, merges the concepts, and appends what is left.
+// Makes a scheme with two concepts, posts a record to the first, merges the first concept into the
+// second, and appends the view of the second.
 fn make_post_merge_show<K: Keeper>(
     alloc: Global,
     office: &mut Office<K>,

@@ -1,7 +1,8 @@
 //! Uses the library as a program would, and prints what its calls return.
 //!
 //! The examples are a core alone, an office over storage in memory whose rows are loaded back, a
-//! plan of several requests as one, and a script over storage that fails once.
+//! plan of several requests as one, a script over storage that fails once, and those of the
+//! library's page.
 #![tactic(auto)]
 
 mod commands;

@@ -64,7 +64,7 @@ fn rows_of<K: Keeper>(alloc: Global, keeper: &mut K) -> Result<Rows, Fault> {
     on_success(list.into_rows(), result)
 }
 
-// Loads rows into a core, and appends what it has, or the fault.
+// Loads rows into a core, and appends what the core has, or the fault that stopped the load.
 fn write_loaded(alloc: Global, rows: Rows, report: &mut String) -> Result<(), Failure> {
     match from_rows(alloc, rows, Limits::default()) {
         Ok(core) => {
@@ -76,7 +76,7 @@ fn write_loaded(alloc: Global, rows: Rows, report: &mut String) -> Result<(), Fa
     }
 }
 
-// Returns the row of a label of a concept whose text is a blob.
+// Returns the row of a label that has a blob in place of its text.
 fn blob_row(alloc: Global) -> Result<[Cell; 4], Fault> {
     let tag = CellText::new(alloc, "en")?;
     let blob = CellBytes::new(alloc, b"Pussycats")?;
@@ -97,14 +97,14 @@ fn rows_with_blob<K: Keeper>(alloc: Global, keeper: &mut K) -> Result<Rows, Faul
     on_success(on_success(list.into_rows(), result)?, added)
 }
 
-// Loads the rows of a storage back, as they are and with a blob among them.
+// Loads the rows of a storage into a core, first as they are, and then with a blob among them.
 fn load_back<K: Keeper>(alloc: Global, keeper: &mut K, report: &mut String) -> Result<(), Failure> {
     write_loaded(alloc, rows_of(alloc, keeper)?, report)?;
     write_loaded(alloc, rows_with_blob(alloc, keeper)?, report)
 }
 
-/// Performs the ten commands in an office, and appends their answers, what a core has that is
-/// loaded from the rows, and the fault of rows with a blob.
+/// Performs the ten commands in an office, and appends their answers, what a core loaded from the
+/// rows has, and the fault for rows with a blob.
 pub fn run(alloc: Global, report: &mut String) -> Result<(), Failure> {
     let mut keeper = keeper_after(alloc, COUNT, report)?;
     load_back(alloc, &mut keeper, report)

@@ -16,12 +16,12 @@ fn run_in_office<K: Keeper>(
     posting_examples::run(alloc, office, report)
 }
 
-// Returns a handler for requests to an office, and for plans if the mode says so.
+// Returns a handler that passes requests to an office, and also plans if the mode says so.
 fn handler_of<K: Keeper, M: PlanMode + Copy>(office: Office<K>, mode: M) -> OfficeHandler<K, M> {
     OfficeHandler::new(office, mode)
 }
 
-// Runs the examples over a handler, and then over its storage.
+// Runs the examples that use a handler, and then those that use its storage.
 fn run_over<K: Keeper + Drop>(
     alloc: Global,
     handler: OfficeHandler<K, NoPlans>,

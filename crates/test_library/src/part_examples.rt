@@ -17,7 +17,7 @@ fn vocab_with_scheme(alloc: Global) -> Result<Vocab, ReadStop> {
     Ok(vocab)
 }
 
-// Checks whether the number is a live scheme's.
+// Checks whether the number is that of a live scheme.
 fn is_live_scheme(vocab: &Vocab, number: ResNo) -> bool {
     let resource: Option<Resource> = vocab.resource(number).copied();
     match resource {
@@ -26,13 +26,14 @@ fn is_live_scheme(vocab: &Vocab, number: ResNo) -> bool {
     }
 }
 
-// Returns the concept that replaces another in the end: itself, while it is live.
+// Returns the last concept in a concept's chain of replacements: the concept itself, while it is
+// live.
 fn replacement_of(vocab: &Vocab, concept: ResNo) -> ResNo {
     let end: Forwarding = vocab.forwarding(concept);
     end.place
 }
 
-// Returns the number of links that lead up from a node. Any reader of links will do.
+// Returns the number of links that lead up from a node, for any implementation of `Links`.
 fn upward_count<L: Links>(links: &L, node: ResNo) -> usize {
     let part: Part = links.part(node, Side::Up);
     part.to.saturating_sub(part.from)
@@ -50,7 +51,8 @@ fn count_broader(alloc: Global) -> Result<usize, AllocError> {
     Ok(upward_count(&walk, ResNo::new(2)))
 }
 
-// Counts a posting at a concept and its move to another; returns its number, and the count there.
+// Counts a posting at one concept and its move to another; returns the posting's number, and the
+// count at the other concept.
 fn count_posting(alloc: Global) -> Result<(PostNo, u64), AllocError> {
     let (cats, mammals) = (ResNo::new(2), ResNo::new(3));
     let mut book = Book::new(alloc);
@@ -59,14 +61,14 @@ fn count_posting(alloc: Global) -> Result<(PostNo, u64), AllocError> {
     Ok((number, book.count(mammals)))
 }
 
-// Appends what a vocabulary has.
+// Appends whether number 1 is a live scheme, and what replaces it.
 fn write_vocab(vocab: &Vocab, report: &mut String) -> Result<(), AllocError> {
     let scheme = ResNo::new(1);
     let (is_live, end) = (is_live_scheme(vocab, scheme), replacement_of(vocab, scheme));
     writeln!(report, "{is_live} {end:?}")
 }
 
-/// Appends what each part has.
+/// Appends what the example of each part returns.
 pub fn run(alloc: Global, report: &mut String) -> Result<(), Failure> {
     let vocab = vocab_with_scheme(alloc)?;
     let result = write_vocab(&vocab, report);

@@ -1,4 +1,4 @@
-//! A plan over an office: four requests as one, done once, and refused when it is sent again.
+//! A plan over an office: four requests as one, performed once, and refused when sent again.
 use crate::commands::{concept, post};
 use crate::failure::Failure;
 use crate::office_example::{keeper_after, open};
@@ -12,8 +12,9 @@ use thesaurus::{
 // The number of commands that are performed before the plan.
 const BEFORE: usize = 6;
 
-// Returns the command at a place of the plan, and the place of the request that makes its first
-// number: a concept, its place below the mammals, a record of it, and the withdrawal of that.
+// Returns the command at a place of the plan, and the place of the earlier request that makes the
+// resource or posting for the command's first number. The four make the concept Dogs, put it below
+// Mammals, post a record to it, and withdraw that posting.
 fn command_at(alloc: Global, place: usize) -> Result<(Command, Option<u32>), ReadStop> {
     let (any, mammals) = (ResNo::new(1), ResNo::new(3));
     match place {
@@ -41,7 +42,7 @@ fn push_request(plan: &mut Vec<PlanRequest>, request: PlanRequest) -> Result<(),
     Ok(())
 }
 
-// Returns the plan.
+// Returns the plan of the four requests.
 fn plan(alloc: Global) -> Result<Vec<PlanRequest>, Failure> {
     let mut plan = Vec::new(alloc);
     for place in 1..5 {
@@ -51,13 +52,13 @@ fn plan(alloc: Global) -> Result<Vec<PlanRequest>, Failure> {
     Ok(plan)
 }
 
-// Checks that a list isn't too long for a plan, and that each reference in it is to an earlier
-// request that makes what is asked for.
+// Checks whether a list is short enough for a plan, and each reference in it leads to an earlier
+// request that makes what is referred to.
 fn is_plan(plan: &[PlanRequest]) -> bool {
     plan.len() <= REQUEST_LIMIT && first_bad_reference(plan).is_none()
 }
 
-// Reads a line of JSON, and returns whether it is a plan, or why not.
+// Reads a line of JSON, and returns in words that it is a plan, or why it isn't.
 fn plan_name(memory: &mut RequestScratch, line: &str) -> &'static str {
     match read_plan(memory, line.as_bytes()) {
         Ok(_) => "a plan",
@@ -68,7 +69,7 @@ fn plan_name(memory: &mut RequestScratch, line: &str) -> &'static str {
     }
 }
 
-// Appends what two lines are read as.
+// Appends what `plan_name` returns for a plan, and for a list without requests.
 fn write_names(alloc: Global, report: &mut String) -> Result<(), Failure> {
     let mut memory = RequestScratch::new(alloc);
     let name = plan_name(&mut memory, r#"[{"do":"withdraw","posting":1}]"#);
@@ -98,9 +99,9 @@ fn perform<K: Keeper>(
     write_outcome(apply(office, plan), report)
 }
 
-/// Performs the first commands, and a plan twice, and appends the answers, whether it is a plan,
-/// and the outcomes: the second time the name of its concept is taken. Then appends what two lines
-/// are read as.
+/// Performs the first commands and then the plan twice, and appends the answers and both outcomes:
+/// the second time the plan is refused, since the name of its concept is taken. Also appends
+/// whether the list of its requests is a plan, and what two lines are read as.
 pub fn run(alloc: Global, report: &mut String) -> Result<(), Failure> {
     let mut office = open(alloc, keeper_after(alloc, BEFORE, report)?)?;
     writeln!(report, "{}", is_plan(&plan(alloc)?))?;

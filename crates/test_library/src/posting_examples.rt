@@ -1,4 +1,4 @@
-//! The postings of an office: their histories, and those at a concept.
+//! The histories of an office's postings, and the postings at a concept.
 use crate::failure::{Failure, on_success};
 use crate::report::{push, view_line};
 use std::alloc::{AllocError, Global};
@@ -8,7 +8,7 @@ use thesaurus::{
     PostingRows, PostingSink, ResNo, View,
 };
 
-// A sink that keeps the numbers of postings.
+// A sink that collects the numbers of postings.
 #[derive(Drop)]
 struct PostingNumbers {
     numbers: Vec<PostNo>,
@@ -51,7 +51,7 @@ fn list_of_one(alloc: Global, history: &History) -> Result<View<'_>, AllocError>
     Ok(View::Postings(PostingRows { rows }))
 }
 
-// Returns the line of a list of one posting.
+// Returns a list of one posting as a line of JSON.
 fn list_line(alloc: Global, history: &History) -> Result<Vec<u8>, PipeFault> {
     let view = list_of_one(alloc, history)?;
     let line = view_line(alloc, &view);
@@ -59,7 +59,7 @@ fn list_line(alloc: Global, history: &History) -> Result<Vec<u8>, PipeFault> {
     line
 }
 
-// Returns the number of moves that a storage has of a posting.
+// Returns the number of moves that a storage has of a posting, or 0 if it lacks the posting.
 fn stored_moves<K: Keeper>(keeper: &mut K, number: PostNo) -> Result<usize, Fault> {
     let posting: Option<Posting> = keeper.posting(number)?;
     match posting {
@@ -68,12 +68,12 @@ fn stored_moves<K: Keeper>(keeper: &mut K, number: PostNo) -> Result<usize, Faul
     }
 }
 
-// Returns the history of a posting.
+// Returns the history of a posting, if the office has it.
 fn history_of<K: Keeper>(office: &mut Office<K>, number: PostNo) -> Result<Option<History>, Fault> {
     office.posting(number)
 }
 
-// Appends the last move and the line of a posting.
+// Appends the last move of a posting, and a list of this posting as a line of JSON.
 fn write_history(alloc: Global, history: &History, report: &mut String) -> Result<(), Failure> {
     writeln!(report, "{:?}", last_move(history))?;
     let line = list_line(alloc, history)?;

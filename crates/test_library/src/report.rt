@@ -8,32 +8,32 @@ use thesaurus::{
     Answer, Core, Pipe, PipeFault, Reply, ResNo, View, concept_view, write_answer, write_view,
 };
 
-/// Appends bytes of UTF-8.
+/// Appends bytes as a text, or the line `not UTF-8` if they aren't one.
 pub fn push(report: &mut String, bytes: &[u8]) -> Result<(), AllocError> {
     report.push_str(str::from_utf8(bytes).unwrap_or("not UTF-8\n"))
 }
 
-// Returns the line of an answer.
+// Returns an answer as a line of JSON.
 fn answer_line(alloc: Global, answer: Answer) -> Result<Vec<u8>, PipeFault> {
     let mut writer = Pipe::new(Vec::new(alloc));
     let result = write_answer(Reply::Answer(answer), &mut writer);
     on_success(writer.into_device(), result)
 }
 
-/// Appends the line of an answer.
+/// Appends an answer as a line of JSON.
 pub fn push_answer(alloc: Global, answer: Answer, report: &mut String) -> Result<(), Failure> {
     let line = answer_line(alloc, answer)?;
     Ok(push(report, &line)?)
 }
 
-/// Returns the line of a view.
+/// Returns a view as a line of JSON.
 pub fn view_line(alloc: Global, view: &View) -> Result<Vec<u8>, PipeFault> {
     let mut writer = Pipe::new(Vec::new(alloc));
     let result = write_view(alloc, view, &mut writer);
     on_success(writer.into_device(), result)
 }
 
-// Returns the line of a concept in a core.
+// Returns the view of a concept in a core as a line of JSON.
 fn concept_line(alloc: Global, core: &Core, concept: ResNo) -> Result<Vec<u8>, PipeFault>
     requires { core.now.spent ≡ false }
 {
@@ -43,7 +43,7 @@ fn concept_line(alloc: Global, core: &Core, concept: ResNo) -> Result<Vec<u8>, P
     line
 }
 
-/// Appends the line of a concept in a core.
+/// Appends the view of a concept in a core as a line of JSON.
 pub fn push_concept(
     alloc: Global,
     core: &Core,
@@ -56,7 +56,7 @@ pub fn push_concept(
     Ok(push(report, &line)?)
 }
 
-/// Appends the line of a core's totals.
+/// Appends a core's totals as a line of JSON.
 pub fn push_totals(alloc: Global, core: &Core, report: &mut String) -> Result<(), Failure>
     requires { core.now.spent ≡ false }
 {

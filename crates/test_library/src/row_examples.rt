@@ -11,7 +11,7 @@ use thesaurus::{
     TypedKind, Verdict, View, concept_view,
 };
 
-// Returns the changes of rows that a command makes, if it is accepted. Nothing is changed yet.
+// Returns the changes of rows that a command would make, or None if it isn't accepted.
 fn changes_of(core: &Core, command: &Command, facts: &Facts) -> Result<Option<Delta>, Fault>
     requires { core.now.spent ≡ false }
 {
@@ -21,7 +21,7 @@ fn changes_of(core: &Core, command: &Command, facts: &Facts) -> Result<Option<De
     }
 }
 
-// Returns what a change adds.
+// Returns in words what kind of row a change adds.
 fn new_row_name(change: &Change) -> &'static str {
     match change {
         Change::AddLabel(LabelRow { .. }) => "a label",
@@ -37,7 +37,7 @@ fn new_row_name(change: &Change) -> &'static str {
     }
 }
 
-// Returns the row of an outside concept that a change adds.
+// Returns the row of an outside concept, if the change adds one.
 fn outside_row(change: Change) -> Option<OutsideRow> {
     match change {
         Change::AddOutside(number, iri) => Some(OutsideRow { number, iri }),
@@ -52,7 +52,7 @@ fn load_core<K: Keeper>(alloc: Global, keeper: &mut K) -> Result<Core, Fault> {
     on_success(loader, result)?.finish()
 }
 
-// Returns the number of links of a core, and of its postings that aren't withdrawn.
+// Returns the number of links of a core, and the number of its postings that aren't withdrawn.
 fn counts_of(core: &Core) -> (u64, u64)
     requires { core.now.spent ≡ false }
 {
@@ -61,7 +61,7 @@ fn counts_of(core: &Core) -> (u64, u64)
     (sizes.links, totals.standing)
 }
 
-// Checks whether a concept is a kind of another.
+// Checks whether concept `a` is a kind of concept `b`, by a generic link up to it.
 fn is_kind_of(alloc: Global, core: &Core, a: ResNo, b: ResNo) -> Result<bool, AllocError>
     requires { core.now.spent ≡ false }
 {
@@ -69,7 +69,7 @@ fn is_kind_of(alloc: Global, core: &Core, a: ResNo, b: ResNo) -> Result<bool, Al
     Ok(typed.contains(&(TypedKind::BroaderGeneric, b)))
 }
 
-// Returns the number of names of a concept: one for each language.
+// Returns the number of preferred labels of a concept, of which each language has at most one.
 fn name_count(alloc: Global, core: &Core, concept: ResNo) -> Result<usize, AllocError>
     requires { core.now.spent ≡ false }
 {
@@ -79,7 +79,7 @@ fn name_count(alloc: Global, core: &Core, concept: ResNo) -> Result<usize, Alloc
     }
 }
 
-// Appends the rows that a command would add.
+// Appends in words the kinds of rows that a command would add.
 fn write_changes(
     core: &Core,
     command: &Command,
@@ -96,7 +96,7 @@ fn write_changes(
     Ok(result?)
 }
 
-// Appends what each change adds.
+// Appends in words the kind of row that each change adds, one a line.
 fn write_rows(delta: &Delta, report: &mut String) -> Result<(), AllocError> {
     for change in delta.as_slice() {
         writeln!(report, "{}", new_row_name(change))?;
@@ -104,7 +104,8 @@ fn write_rows(delta: &Delta, report: &mut String) -> Result<(), AllocError> {
     Ok(())
 }
 
-// Appends the rows that a link would add, and the counts of a core.
+// Appends the kinds of rows that a link would add, whether a core has that link, and counts of the
+// core.
 fn write_core(alloc: Global, core: &Core, report: &mut String) -> Result<(), Failure>
     requires { core.now.spent ≡ false }
 {
@@ -122,7 +123,7 @@ fn write_core(alloc: Global, core: &Core, report: &mut String) -> Result<(), Fai
     Ok(writeln!(report, "{is_kind} {names} {:?}", counts_of(core))?)
 }
 
-// Appends what a core has, unless it is spent.
+// Appends the report of `write_core`, or returns an error if the core is spent.
 fn write_usable_core(alloc: Global, core: &Core, report: &mut String) -> Result<(), Failure> {
     if core.is_spent() {
         return Err(Failure::Fault(Fault::OutOfMemory));
@@ -130,7 +131,7 @@ fn write_usable_core(alloc: Global, core: &Core, report: &mut String) -> Result<
     write_core(alloc, core, report)
 }
 
-// Appends the number of the row of an outside concept.
+// Appends the number in the row that the addition of an outside concept makes.
 fn write_outside_row(alloc: Global, report: &mut String) -> Result<(), Failure> {
     let iri = Iri::read(alloc, "https://elsewhere.example/cats")?;
     match outside_row(Change::AddOutside(ResNo::new(3), iri)) {
@@ -139,7 +140,7 @@ fn write_outside_row(alloc: Global, report: &mut String) -> Result<(), Failure> 
     }
 }
 
-/// Loads a core from a storage, and appends what it has.
+/// Loads a core from a storage, and appends what the examples return for the core.
 pub fn run<K: Keeper>(alloc: Global, keeper: &mut K, report: &mut String) -> Result<(), Failure> {
     let core = load_core(alloc, keeper)?;
     let result = write_usable_core(alloc, &core, report);

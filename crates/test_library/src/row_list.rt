@@ -46,7 +46,7 @@ impl RowList {
         }
     }
 
-    // Returns the list of a table.
+    // Returns the list of a table's rows; it holds None if the table can't be queried.
     fn list(&mut self, table: Table) -> &mut Option<Vec<CellRow>> {
         match table {
             Table::Meta => &mut self.rows.meta,
@@ -60,13 +60,13 @@ impl RowList {
         }
     }
 
-    /// Returns the rows.
+    /// Returns the rows that were copied.
     pub fn into_rows(self) -> Rows {
         let RowList { alloc: _, rows } = self;
         rows
     }
 
-    // Appends a copy of a row to its table.
+    // Appends a copy of a row to the list of its table, if there is such a list.
     fn push(&mut self, table: Table, row: &[Cell]) -> Result<(), AllocError> {
         let row = copy_row(self.alloc, row)?;
         if let Some(rows) = self.list(table) {

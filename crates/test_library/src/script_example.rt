@@ -13,7 +13,7 @@ use thesaurus::{
     WithPlans, script,
 };
 
-// A posting, sent twice.
+// The lines of a script: the same post, sent twice.
 const LINES: &str = r#"{"do":"post","key":"k1","record":"r1","concept":2}
 {"do":"post","key":"k1","record":"r1","concept":2}
 "#;
@@ -50,7 +50,7 @@ fn view<K: Keeper>(
     handler.show(alloc, query)
 }
 
-// Returns the bytes of a view, with its line feed.
+// Returns the bytes of a view's line, with the line feed.
 fn bytes_of(page: &Page) -> &[u8] {
     page.as_bytes()
 }

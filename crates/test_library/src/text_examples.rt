@@ -16,7 +16,7 @@ use thesaurus::{
     read_request, serve_one, write_answer,
 };
 
-// Answers the command in a line of JSON. This caller answers no queries.
+// Answers the command in a line of JSON; a query is answered with `BadShape`.
 fn reply_to<H: RequestHandler>(memory: &mut RequestScratch, handler: &mut H, line: &str) -> Reply
     requires { H.is_open handler.old ≡ true }
 {
@@ -54,7 +54,8 @@ fn import_file<K: Keeper, R: Read, W: Write>(
     }
 }
 
-// Writes a display of a scheme, and returns whether the number is a scheme's.
+// Writes the hierarchical or alphabetical display of scheme 1, and returns whether it was written:
+// it is refused if number 1 isn't a scheme.
 fn write_display<W: Write>(
     alloc: Global,
     core: &Core,
@@ -103,7 +104,7 @@ fn serve_connection<K: Keeper, R: Read, W: Write>(
     }
 }
 
-// Writes a text with calls of a budget, which several texts may share.
+// Writes a text with at most the calls that are left in a budget, which several texts may share.
 fn write_within<W: Write>(
     budget: &mut Budget,
     text: &str,
@@ -121,7 +122,7 @@ fn write_within<W: Write>(
 // A posting file of one row.
 const POSTINGS: &str = "key,record,concept\nk3,r3,2\n";
 
-// A request for the totals.
+// A request of HTTP for the totals.
 const REQUEST: &str = "GET /totals HTTP/1.0\r\n\r\n";
 
 // Appends the answer to a line of JSON.
@@ -140,7 +141,7 @@ fn write_reply<K: Keeper>(
     Ok(push(report, &line)?)
 }
 
-// Returns the outcomes of the posting file.
+// Imports the posting file, and returns the outcomes of its rows.
 fn outcomes<K: Keeper>(alloc: Global, office: &mut Office<K>) -> Result<Vec<u8>, PipeFault> {
     let mut reader = Pipe::new(POSTINGS.as_bytes());
     let mut writer = Pipe::new(Vec::new(alloc));
@@ -155,7 +156,7 @@ fn triples<K: Keeper>(alloc: Global, office: &mut Office<K>) -> Result<Vec<u8>, 
     on_success(writer.into_device(), result)
 }
 
-// Returns a display of a core.
+// Returns the hierarchical or alphabetical display of scheme 1 of a core.
 fn display(alloc: Global, core: &Core, tag: &Tag, is_tree: bool) -> Result<Vec<u8>, PipeFault>
     requires { core.now.spent ≡ false }
 {
@@ -187,7 +188,7 @@ fn response<K: Keeper>(
     (writer.into_device(), status)
 }
 
-// Returns a text that was written within a budget.
+// Returns what `write_within` wrote of a short text.
 fn written_text(alloc: Global) -> Result<Vec<u8>, PipeFault> {
     let mut budget = Budget::new();
     let mut writer = Pipe::new(Vec::new(alloc));
@@ -195,7 +196,7 @@ fn written_text(alloc: Global) -> Result<Vec<u8>, PipeFault> {
     on_success(writer.into_device(), result)
 }
 
-// Appends the texts of an office.
+// Imports the posting file, and appends its outcomes, and the export and displays of the office.
 fn write_texts<K: Keeper>(
     alloc: Global,
     office: &mut Office<K>,
@@ -207,7 +208,8 @@ fn write_texts<K: Keeper>(
     write_displays(alloc, core, report)
 }
 
-/// Appends what a handler of an office reads and writes.
+/// Appends all texts that the examples write: of an answer, an import, an export, displays and a
+/// connection, and one within a budget.
 pub fn run<K: Keeper>(
     alloc: Global,
     handler: &mut OfficeHandler<K, NoPlans>,

@@ -1,4 +1,4 @@
-//! Commands with texts and lists of each form, and what their answers say.
+//! Commands with texts of several forms and a list of postings, and what their answers say.
 use crate::commands::{concept, english, post, scheme};
 use crate::failure::{Failure, both};
 use crate::office_example::perform;
@@ -26,7 +26,7 @@ fn outside_concept(alloc: Global, iri: &str) -> Result<Command, ReadStop> {
     Ok(Command::Outside(Iri::read(alloc, iri)?))
 }
 
-// Returns the command that makes a concept and moves a posting of another to it.
+// Returns the command that makes a concept and moves to it a posting of the concept `from`.
 fn split(alloc: Global, from: ResNo, text: &str, posting: PostNo) -> Result<Command, ReadStop> {
     let mut postings: PostNos = Sequence::new(alloc);
     postings.push(posting)?;
@@ -37,7 +37,7 @@ fn split(alloc: Global, from: ResNo, text: &str, posting: PostNo) -> Result<Comm
     Ok(Command::Split(from, tag, text, postings))
 }
 
-// Returns what an answer says. After a refusal or a fault everything is as it was.
+// Returns in words what an answer says. A command with a refusal or a fault has changed nothing.
 fn outcome_name(outcome: Result<Answer, Fault>) -> &'static str {
     match outcome {
         Ok(Answer::No(Refusal::PreferredTaken)) => "another concept has the name",
@@ -47,7 +47,7 @@ fn outcome_name(outcome: Result<Answer, Fault>) -> &'static str {
     }
 }
 
-// Returns why a text isn't read.
+// Returns in words why a text couldn't be read.
 fn stop_name(stop: ReadStop) -> &'static str {
     match stop {
         ReadStop::Form(FormFault::BadIri) => "no IRI",
@@ -59,8 +59,8 @@ fn stop_name(stop: ReadStop) -> &'static str {
 // The number of commands.
 const COUNT: usize = 9;
 
-// Returns the command at a place from 0 to 8. The last two aren't performed: a name that is taken,
-// and a text that is no IRI.
+// Returns the command at a place from 0 to 8. The last two can't be performed: one has a name that
+// is taken, the other a text that isn't an IRI.
 fn command_at(alloc: Global, place: usize) -> Result<Command, ReadStop> {
     let (cats, there) = (ResNo::new(2), ResNo::new(3));
     match place {

@@ -31,7 +31,7 @@ impl Failing {
         }
     }
 
-    /// Returns the fault with which a script reports the device.
+    /// Returns the fault that a script reports when the device fails.
     pub fn fault(self) -> PipeFault {
         match self {
             Reader => PipeFault::Read,

@@ -57,7 +57,7 @@ impl Store {
         &mut handler.office
     }
 
-    /// Serves a script, and returns the writer and the end of the script.
+    /// Serves a script, and returns the writer and how the script ended.
     pub fn serve<R: Read + Drop, W: Write>(
         &mut self,
         alloc: Global,
@@ -131,7 +131,7 @@ fn views(alloc: Global, store: &mut Store) -> io::Result<Vec<u8>> {
     Ok(shown)
 }
 
-// Checks whether a script performed all its requests, without a refusal, a form fault or a fault.
+// Checks whether a script ended without a refusal, a form fault or a fault.
 fn is_performed(ended: &Result<ScriptEnd, PipeFault>) -> bool {
     match ended {
         Ok(ended) => !ended.refused && ended.fault.is_none(),
@@ -139,7 +139,7 @@ fn is_performed(ended: &Result<ScriptEnd, PipeFault>) -> bool {
     }
 }
 
-// Serves requests as a script; a refusal of any is an error.
+// Serves requests, one a line, as a script; returns an error if any of them isn't performed.
 fn serve_all(alloc: Global, store: &mut Store, requests: &str) -> io::Result<()> {
     if requests.is_empty() {
         return Ok(());
@@ -152,7 +152,7 @@ fn serve_all(alloc: Global, store: &mut Store, requests: &str) -> io::Result<()>
     }
 }
 
-/// Returns a new store after these requests, none of which may be refused.
+/// Returns a new store after these requests, one a line, or an error if any of them is refused.
 pub fn store_after(alloc: Global, requests: &str) -> io::Result<Store> {
     let mut store = Store::new(alloc, Limits::default())?;
     match serve_all(alloc, &mut store, requests) {
@@ -164,7 +164,7 @@ pub fn store_after(alloc: Global, requests: &str) -> io::Result<Store> {
     }
 }
 
-/// Returns the error for a refused request, or for any fault.
+/// Returns the error that stands for a refused request or for any fault.
 pub fn invalid() -> io::Error {
     io::Error::from(io::ErrorKind::InvalidData)
 }

@@ -1,5 +1,5 @@
-//! Calls of an office: scripts, imports, exports, displays and connections, each with a reader and
-//! a writer of its own.
+//! Calls of an office over the caller's readers and writers: scripts, imports, exports, displays
+//! and connections.
 ghost use Rattle.std.specs.Prelude.{◌≡◌, true};
 ghost use Rattle.thes_base.specs.Pipe.{IsFresh};
 
@@ -21,8 +21,8 @@ use thes_service::OfficeHandler;
 use thes_service::plan_mode::WithPlans;
 use thes_store::keeper::Keeper;
 
-// Serves a script by any handler: the contract of `office_script` would make the proof of this call
-// much longer.
+// Serves a script by any handler. The contract of `office_script`, which is for the handler of an
+// office, would make the proof of this call much longer.
 fn serve_pipes<H: RequestHandler, R: Read, W: Write>(
     alloc: Global,
     handler: &mut H,
@@ -36,7 +36,7 @@ fn serve_pipes<H: RequestHandler, R: Read, W: Write>(
     script(alloc, reader, writer, handler)
 }
 
-/// Serves a script, and returns the writer and the end of the script.
+/// Serves a script, and returns the writer and how the script ended.
 pub fn serve_in<K: Keeper, R: Read + Drop, W: Write>(
     alloc: Global,
     handler: &mut OfficeHandler<K, WithPlans>,
@@ -61,7 +61,7 @@ fn import_pipes<K: Keeper, R: Read, W: Write>(
     import::import(alloc, reader, writer, &mut handler.office)
 }
 
-/// Imports a posting file, and returns the writer and the end of the import.
+/// Imports a posting file, and returns the writer and how the import ended.
 pub fn import_in<K: Keeper, R: Read + Drop, W: Write>(
     alloc: Global,
     handler: &mut OfficeHandler<K, WithPlans>,
@@ -85,7 +85,7 @@ fn export_pipe<K: Keeper, W: Write>(
     export(alloc, core, writer)
 }
 
-/// Writes an export, and returns the writer and the fault that stopped it, if any.
+/// Writes an export, and returns the writer and the fault that stopped the export, if any.
 pub fn export_in<K: Keeper, W: Write>(
     alloc: Global,
     handler: &mut OfficeHandler<K, WithPlans>,
@@ -120,7 +120,8 @@ pub fn display_in<K: Keeper, W: Write>(
     (writer.into_device(), shown)
 }
 
-// Serves a connection by any service, for the same reason.
+// Serves a connection by any service. The contract of the service of an office would make the proof
+// of this call much longer.
 fn connect_pipes<S: Service, R: Read, W: Write>(
     alloc: Global,
     service: &mut S,

@@ -1,9 +1,9 @@
 //! Benchmarks of storages, for `bench/store` and `bench/load`. Prints times in microseconds.
 //!
-//! With `time` POSTS LOOKS: commits POSTS postings, one a commit; merges a tenth of them; looks up
-//! LOOKS keys and LOOKS numbers; and loads all rows, in memory. With `time` POSTS 0 FILE, makes the
-//! postings and the merge in a new database in the file; with `time` POSTS LOOKS FILE, makes the
-//! look-ups and the load in the store of POSTS postings in the file.
+//! With `time` POSTS LOOKS: over a storage in memory, commits POSTS postings, one a commit; merges
+//! a tenth of them; looks up LOOKS keys and LOOKS numbers; and loads all rows. With `time` POSTS 0
+//! FILE: makes these postings and the merge in a new database in the file. With `time` POSTS LOOKS
+//! FILE: makes the look-ups and the load in the store of POSTS postings in the file.
 //!
 //! With `load` RESOURCES POSTINGS TIMES: loads a generated store of this size TIMES times, and
 //! prints the number of cores. With `rows` and the same arguments: generates the rows only, and
@@ -32,7 +32,7 @@ use thes_sqlite::keeper::SqlKeeper;
 use thes_store::keeper::Keeper;
 use thes_store::mem::MemKeeper;
 
-// The use made of generated rows: they are loaded to cores, or counted.
+// The use made of generated rows: they are loaded into cores, or counted.
 enum LoadOutput {
     Cores,
     Rows,
@@ -109,7 +109,7 @@ fn time_keeper<R: Clock + Print + Alloc<A = Global>, K: Keeper>(
     time_reads(rt, keeper, posts, looks)
 }
 
-// Times a storage in memory.
+// Times commits, look-ups and a load over a storage in memory, with at most 1,000,000 postings.
 fn time_memory<R: Clock + Print + Alloc<A = Global>>(
     rt: &R,
     posts: u32,
@@ -123,7 +123,7 @@ fn time_memory<R: Clock + Print + Alloc<A = Global>>(
     timed
 }
 
-// Creates a store in a database, and times the commits of the workload by statements on it.
+// Creates a store in a database, and times the commits of the workload by SQL statements.
 fn time_stores<R: Clock + Print + Alloc<A = Global>, S: Alter>(
     rt: &R,
     conn: &mut Connection<S>,

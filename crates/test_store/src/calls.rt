@@ -1,5 +1,5 @@
-//! The result of each call to a storage in memory, and the results if one call of each kind fails
-//! once.
+//! The results of the calls of a storage in memory and, for each kind of call, the results when one
+//! such call fails.
 mod answers;
 mod failing;
 
@@ -10,7 +10,7 @@ use std::io;
 use test_keeper::fail_once::Next;
 use test_keeper::failure::Failure;
 
-// Returns the results of all calls, those of failing ones included.
+// Returns the results of all calls, and then those with one failing call of each kind.
 fn full_report(alloc: Global) -> Result<String, Failure> {
     let mut keeper = filled_keeper(alloc)?;
     let text = answers(alloc, &mut keeper);

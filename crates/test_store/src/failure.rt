@@ -1,4 +1,4 @@
-//! Failures that stop a benchmark, or the making of a store.
+//! Failures that stop a benchmark or the filling of a store.
 
 use sqlite::Error;
 use std::alloc::AllocError;

@@ -1,13 +1,13 @@
 //! Tests and benchmarks of stores in memory, in databases and in files. The first argument names
 //! what to do:
 //!
-//! - `tests FILE`: all tests, those that the next two lines name
-//! - `calls`: prints the result of each call to a storage in memory, and the results if one call of
-//!   each kind fails once
+//! - `tests FILE`: runs all tests, which are what the next two points name
+//! - `calls`: prints the results of the calls of a storage in memory and, for each kind of call,
+//!   the results when one such call fails
 //! - `make FILE`: creates a store in the file, makes changes of each kind in it, and prints its
 //!   rows
 //! - `show FILE ..`: prints the rows of the stores in these files
-//! - `time`, `load` or `rows`, with numbers: a benchmark, for `bench/store` or `bench/load`
+//! - `time`, `load` or `rows`, with numbers: runs a benchmark, for `bench/store` or `bench/load`
 #![tactic(auto)]
 
 mod bench;
@@ -22,7 +22,7 @@ use crate::rows::{print_new_store, print_stores};
 use std::rt::HostRuntime;
 use std::{env, io};
 
-// Returns the words after the first one.
+// Returns the arguments after the first one.
 fn rest(words: &[String]) -> &[String] {
     match words.split_first() {
         Some((_, rest)) => rest,

@@ -32,7 +32,7 @@ fn read<S: Alter>(
     keeper.into_connection()
 }
 
-// Creates the tables of a new store with this base.
+// Creates the tables of a new store with this base IRI. Returns the connection, also on a fault.
 fn create_store<S: Alter>(alloc: Global, conn: Connection<S>, base: &Base) -> Connection<S> {
     if !conn.is_autocommit() {
         return conn;
@@ -59,7 +59,8 @@ fn work<S: Alter>(
     (filled, read(alloc, conn, true, lines))
 }
 
-// Opens a database in a file, works in it, and prints the lines.
+// Opens a database in a file, creates and fills a store in it if there is a base for it, and prints
+// the rows and whether the database was closed.
 fn work_in(rt: &HostRuntime, path: &str, base: Option<&Base>) -> io::Result<()> {
     let Ok(conn) = Connection::open(rt, path) else {
         return println!(rt; "not opened");

@@ -17,44 +17,47 @@
 //! }
 //! ```
 //!
-//! The office is from `open` below, and `perform_read` calls `Office::perform`. Each example on
-//! this page is a function of a program of tests, most of them of test_library, as it is there.
+//! `open`, below, makes the office, and `perform_read` calls `Office::perform`. The examples on
+//! this page are copied from test programs, most of them from the crate test_library.
 //!
 //! # What a caller must know
 //!
-//! **Allocators.** A call that may allocate takes an allocator, which `rt.alloc()` gives to a
-//! program, or uses the one that its value was made with. Memory may run out in each such call:
-//! that is an error like others. So texts, labels and commands are copied by `try_clone`.
+//! **Allocators.** A call that may allocate takes an allocator, which a program gets from
+//! `rt.alloc()`, or uses the one that its receiver was made with. Memory may run out in each such
+//! call, which then returns an error. So texts, labels and commands are copied by `try_clone`.
 //!
 //! **Storage.** A call with `K: Keeper` works over any storage of the eight tables: `MemKeeper` has
 //! them in memory, `SqlKeeper` in a database of the crate `sqlite`, and a program may have its own.
-//! A commit makes all changes or none; a load yields all rows, table after table; the other calls
-//! look postings up, which are in the storage alone. An office owns its storage until
-//! `Office::into_keeper`, and nothing else may change the tables. What contracts say of rows holds
-//! while the storage is up (`is_up`); a database stays down once a failure of the disk has shut it.
+//! A commit makes all changes or none; a load yields all rows, table after table; `failures` counts
+//! the failures other than running out of memory; the other calls look postings up, which only the
+//! storage has. An office owns its storage until `Office::into_keeper`, and nothing else may change
+//! the tables. What contracts say of rows holds while the storage is up (`is_up` in contracts). A
+//! database isn't up again once a failure of the disk has shut it.
 //!
-//! **Copies.** An office and a core have all but the postings in memory. If memory runs out after a
-//! commit, or the storage fails, the copy is stale (`Office::is_stale`), and the next call reloads
-//! it. A core whose change ran out of memory is spent (`Core::is_spent`): calls of a core require
-//! that it isn't.
+//! **Copies.** An office copies all but the postings from its storage into a core in memory. If the
+//! storage fails, or memory runs out while a request is performed, the copy may be stale
+//! (`Office::is_stale`), and the next call reloads it. A core is spent (`Core::is_spent`) if memory
+//! ran out while it was being changed; all its other calls require that it isn't.
 //!
-//! **Facts.** A core has only counts of postings. What its decision on a command depends on is
-//! passed to the core as `Facts`: for a Post the posting with its key, for a Withdraw or a Split
-//! the postings that it lists, for a Merge the numbers of those at its source, and for any other
-//! command none. An office asks its storage for them. An answer is right if the facts are.
+//! **Facts.** A core has only counts of postings. What else its decision on a command depends on is
+//! passed to it as `Facts`: for a Post, the posting with its key; for a Withdraw or a Split, the
+//! postings that it lists; for a Merge, the numbers of the postings at its source; for any other
+//! command, nothing. An office gets them from its storage. An answer is right if the facts are.
 //!
-//! **Checks.** A check changes nothing, and returns the first refusal. A change of a part requires
-//! what its check found, as `Vocab::add_label` after `Vocab::check_label`, and `Core::apply` after
-//! `Core::decide`. An office and `Core::step` check for themselves.
+//! **Checks.** A check changes nothing, and returns the first refusal that applies. A change
+//! requires that its check found none: `Vocab::check_label` comes before `Vocab::add_label`, and
+//! `Core::decide` before `Core::apply`. An office and `Core::step` check for themselves.
 //!
-//! **Pipes.** Readers and writers are passed in a `Pipe`, which records failures. A call requires
-//! one that is fresh: its device hasn't failed or ended. Calls of the device are at most
-//! 100,000,000 for each call of the library.
+//! **Pipes.** Readers and writers are passed in a `Pipe`, which records failures. A call requires a
+//! fresh one: its device hasn't failed or ended, and no read or write was denied. Reads and writes
+//! are denied when one call of the library has made 100,000,000 of them.
 //!
 //! # Errors
 //!
-//! - `AllocError`: memory ran out, and nothing is changed; visits of links that were made are
-//!   counted. `Base::try_clone`, `Book::move_all`, `Book::move_listed`, `Book::post`,
+//! Each point states an error, its causes, and the calls that return it.
+//!
+//! - `AllocError`: memory ran out, and nothing is changed but the count of visits of links.
+//!   `Base::try_clone`, `Book::move_all`, `Book::move_listed`, `Book::post`,
 //!   `Book::take_back_moves`, `Book::take_back_withdrawal`, `CellBytes::new`, `CellText::new`,
 //!   `Command::try_clone`, `Core::broader_of`, `Core::collections_of`, `Core::labels_of_kind`,
 //!   `Core::mappings`, `Core::narrower_of`, `Core::related_of`, `Core::replacements`, `Core::term`,
@@ -68,36 +71,37 @@
 //!   `Vocab::add_resource`, `Vocab::missing_labels`, `Vocab::relabel`, `Vocab::replacements`,
 //!   `Vocab::take_back_death`, `Vocab::take_labels`, `check_at`, `concept_view`, `judge_add`,
 //!   `judge_contract`, `sort_key`
-//! - `ReadStop`: a text lacks its form, or a line is no request, or memory ran out. `Base::read`,
-//!   `Iri::read`, `Key::read`, `Note::read`, `RecordName::read`, `Tag::read`, `Text::read`,
-//!   `read_request`
-//! - `PlanStop`: a line is no plan, or memory ran out. `read_plan`
-//! - `FormFault`: a text is no number from 1 to 4,294,967,295. `MoveNo::read`, `PostNo::read`,
+//! - `ReadStop`: a text breaks the rules of its form, a line isn't a request, or memory ran out.
+//!   `Base::read`, `Iri::read`, `Key::read`, `Note::read`, `RecordName::read`, `Tag::read`,
+//!   `Text::read`, `read_request`
+//! - `PlanStop`: a line isn't a plan, or memory ran out. `read_plan`
+//! - `FormFault`: a text isn't a number from 1 to 4,294,967,295. `MoveNo::read`, `PostNo::read`,
 //!   `ResNo::read`
-//! - `Fault`: memory ran out (`OutOfMemory`), the storage failed (`Store`), or its rows have
-//!   another version or aren't those of a state. Nothing is committed; of an `Office::run` the
-//!   commands that were answered stay performed. A `Core::apply`, `Core::apply_logged` or
-//!   `Core::step` may leave the core spent. `Core::apply`, `Core::apply_logged`, `Core::decide`,
-//!   `Core::step`, `Keeper::commit`, `Keeper::find`, `Keeper::load`, `Keeper::posting`,
-//!   `Keeper::row`, `Keeper::standing`, `Keeper::standing_numbers`, `Loader::finish`,
-//!   `Office::perform`, `Office::posting`, `Office::postings`, `Office::ready`, `Office::run`,
-//!   `Office::run_plan`, `Office::totals`, `PostingSink::posting`, `RequestHandler::perform`,
-//!   `RequestHandler::perform_plan`, `RequestHandler::show`, `RowSink::report_unqueried`,
-//!   `RowSink::row`, `SqlKeeper::commit_changes`, `SqlKeeper::migrate`, `from_rows`
+//! - `Fault`: memory ran out (`OutOfMemory`), the storage failed (`Store`), or its tables have
+//!   another version, or rows that no legal state has. If the storage is still up, nothing is
+//!   committed, but the commands that an `Office::run` has answered stay performed. After
+//!   `Core::apply`, `Core::apply_logged` or `Core::step` the core may be spent. `Core::apply`,
+//!   `Core::apply_logged`, `Core::decide`, `Core::step`, `Keeper::commit`, `Keeper::find`,
+//!   `Keeper::load`, `Keeper::posting`, `Keeper::row`, `Keeper::standing`,
+//!   `Keeper::standing_numbers`, `Loader::finish`, `Office::perform`, `Office::posting`,
+//!   `Office::postings`, `Office::ready`, `Office::run`, `Office::run_plan`, `Office::totals`,
+//!   `PostingSink::posting`, `RequestHandler::perform`, `RequestHandler::perform_plan`,
+//!   `RequestHandler::show`, `RowSink::report_unqueried`, `RowSink::row`,
+//!   `SqlKeeper::commit_changes`, `SqlKeeper::migrate`, `from_rows`
 //! - A fault with what was passed in: `Office::start` returns the storage, `SqlKeeper::create` the
 //!   connection.
 //! - `Stop`: the device of a pipe failed, or the budget of its calls is used up. `Pipe::read`,
 //!   `Pipe::write_all`
 //! - `io::Error`: what the device returns. `Pipe::read_once`, `Pipe::write_once`
-//! - `PipeFault`: a reader or a writer failed, the input is too long or the calls too many, or a
-//!   `Fault`. A prefix may have been written; of a `script` the lines before stay performed.
-//!   `Pipe::write_text`, `alphabetical`, `export`, `hierarchical`, `script`, `write_answer`,
-//!   `write_view`
-//! - `ImportStop`: such a fault, with the counts of the rows that stay performed. `import`
-//! - No errors but refusals, the first that applies: `Answer::No`, `PlanOutcome::Refused`,
-//!   `QueryAnswer::No`, `View::No`, `Shown::No`, and what `Office::postings`, the checks of `Vocab`
-//!   and of links, and `Graph::check_whole` return. docs/REQUESTS.md lists those of each command.
-//!   `serve_one` puts all of these into its response.
+//! - `PipeFault`: a reader or a writer failed, the input is too long, the budget of calls is used
+//!   up, or a `Fault` occurred. A prefix of the output may have been written, and the lines of a
+//!   `script` before the fault stay performed. `Pipe::write_text`, `alphabetical`, `export`,
+//!   `hierarchical`, `script`, `write_answer`, `write_view`
+//! - `ImportStop`: a `PipeFault`, with the counts of the rows that stay performed. `import`
+//! - Refusals aren't errors. The first that applies is in `Answer::No`, `PlanOutcome::Refused`,
+//!   `QueryAnswer::No`, `View::No` or `Shown::No`, or is what `Office::postings`, the checks of
+//!   `Vocab` and of links, or `Graph::check_whole` return. docs/REQUESTS.md lists the refusals of
+//!   each command. `serve_one` has no error: its response says what was refused or failed.
 #![tactic(auto)]
 
 // Values: texts, numbers, resources, labels and links; commands and their answers.
@@ -213,8 +217,8 @@ pub use thes_base::sequence::Sequence;
 pub use thes_base::text::{Base, Iri, Key, Note, RecordName, Tag, Text};
 pub use thes_display::sort_key;
 
-// The parts of the machine: resources and labels, links, and counts of postings. Checks of links
-// read them through `Links`, which counts the visits.
+// The parts of the machine: resources and labels, links, and counts of postings. A check of links
+// reads the graph through the trait `Links`, which counts each visit of a link.
 // ```
 // fn vocab_with_scheme(alloc: Global) -> Result<Vocab, ReadStop> {
 //     let base = base(alloc)?;
@@ -318,7 +322,7 @@ pub use thes_post::book::Book;
 pub use thes_vocab::{Forwarding, Vocab};
 pub use thes_walks::judge::{check_at, judge_add, judge_contract};
 
-// The machine, and the rows that keep its state.
+// The machine, and the rows in which its state is stored.
 // ```
 // fn step(core: &mut Core, command: &Command, facts: &Facts) -> Result<Answer, Fault> {
 //     if core.is_spent() {
@@ -497,7 +501,7 @@ pub use thes_store::keeper::{Keeper, Posting};
 pub use thes_store::mem::MemKeeper;
 pub use thes_store::sink::{PostingSink, RowSink};
 
-// Plans: several requests as one.
+// Plans: several requests as one, all or nothing.
 // ```
 // fn request_at(alloc: Global, place: usize) -> Result<PlanRequest, ReadStop> {
 //     let (command, first) = command_at(alloc, place)?;
@@ -653,7 +657,7 @@ pub use thes_requests::script::ScriptEnd as Ended;
 pub use thes_service::plan_mode::{NoPlans, PlanMode, WithPlans};
 pub use thes_service::{OfficeHandler, office_script as script};
 
-// Displays, and connections.
+// Displays, and connections of HTTP.
 // ```
 // fn write_display<W: Write>(
 //     alloc: Global,

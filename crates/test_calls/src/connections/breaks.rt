@@ -1,6 +1,6 @@
-//! Tests with a reader and a writer that fail after each number of calls: the output is a prefix of
-//! the response, and the service has performed the request, or nothing if the request is
-//! incomplete.
+//! Tests in which the reader and the writer fail after 0, 1, 2, .. calls: the output is a prefix of
+//! the response, and the service has performed the request, or nothing if the request couldn't be
+//! read to its end.
 use crate::connections::counter::{CountingService, PAGE, serve_counting};
 use std::alloc::{AllocError, Global};
 use std::process::Abort;
@@ -26,7 +26,8 @@ struct Whole<'a> {
     answer: &'a [u8],
 }
 
-// Serves a request with a reader and a writer that fail after `reads` and `writes` calls.
+// Serves a request with a reader that fails after `reads` calls, and a writer that fails after
+// `writes` calls or, if `is_full`, then accepts no byte.
 fn serve_with_faults(
     alloc: Global,
     request: &[u8],
@@ -58,7 +59,7 @@ fn bytes_before_write_fault(writes: u32) -> usize {
     (writes as usize).div_ceil(2)
 }
 
-// Returns the expected outcome of a connection.
+// Returns the expected outcome of a connection, number of operations performed, and bytes written.
 fn expected_end(whole: Whole<'_>, reads: u32, writes: u32) -> (ConnectionEnd, u32, &[u8]) {
     let Whole {
         request,
@@ -101,14 +102,15 @@ fn writers(len: usize, reads: u32, most: u32) -> u32 {
     }
 }
 
-// Tests one reader with each writer that fails within `most` calls.
+// Tests one reader with writers that fail after 0, 1, 2, .. calls, as many as `writers` says.
 fn expect_writers(rt: &impl Abort, alloc: Global, whole: Whole<'_>, reads: u32, most: u32) {
     for writes in 0..writers(whole.request.len(), reads, most) {
         expect(rt, alloc, whole, reads, writes);
     }
 }
 
-// Tests each reader that fails within `most.0` calls, with writers that fail within `most.1` calls.
+// Tests each reader that fails after fewer than `most.0` calls, with writers that fail after fewer
+// than `most.1` calls.
 fn expect_pairs(rt: &impl Abort, alloc: Global, whole: Whole<'_>, most: (u32, u32)) {
     for reads in 0..most.0 {
         expect_writers(rt, alloc, whole, reads, most.1);
@@ -257,7 +259,8 @@ fn what_breaks_leaves_a_front_of_the_answer(rt: HostRuntime) {
 
 static LONG: &[u8] = b"GET /display/hierarchical?scheme=3&lang=en HTTP/1.1\r\n\r\n";
 
-// Returns the response to `LONG`, whose head and body exceed 512 bytes and so take two writes.
+// Returns the response to `LONG`. Its head and body are written one after the other, since together
+// they exceed 512 bytes.
 fn long_answer(alloc: Global) -> Result<Vec<u8>, AllocError> {
     let head =
         b"HTTP/1.1 200 OK\r\nContent-Type: text/plain; charset=utf-8\r\nContent-Length: 600\r\n\

@@ -15,7 +15,7 @@ use thes_requests::handler::{QueryAnswer, RequestHandler};
 use thes_requests::page::Page;
 use thes_requests::request::{DisplayRequest, Query};
 
-/// The text of a display that is too long to be written with its head by one call.
+/// The text of a display that is too long to be written together with the head of its response.
 pub static PAGE: [u8; 600] = [b'x'; 600];
 
 /// A service that counts withdrawals and imports, and refuses all other commands. It has the
@@ -56,7 +56,7 @@ impl RequestHandler for CountingService {
         }
     }
 
-    // (no plan reaches it)
+    // Never called, since this service takes no plans.
     fn perform_plan(&mut self, plan: Vec<PlanRequest>) -> Result<PlanOutcome, Fault> {
         let _ = plan;
         Err(Fault::OutOfMemory)
@@ -114,7 +114,7 @@ impl Service for CountingService {
     }
 }
 
-/// Serves one connection by routes of its own, and returns the outcome of the connection.
+/// Makes the routes, serves one connection, and returns the outcome of the connection.
 pub fn serve_counting<R: Read, W: Write>(
     alloc: Global,
     reader: &mut Pipe<R>,

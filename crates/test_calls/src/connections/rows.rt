@@ -232,7 +232,8 @@ fn checks_come_in_their_order(rt: HostRuntime) {
     }
 }
 
-// Checks that each proper prefix of a request is `Cut` and performs no operation.
+// Checks that after each proper prefix of a request the connection ends as `Cut`, without an
+// operation or a response.
 fn expect_cuts(rt: &impl Abort, alloc: Global, request: &[u8]) {
     for count in 0..request.len() {
         let (served, performed, written) = serve_request(alloc, &request[..count]);

@@ -12,7 +12,8 @@ use thes_base::number::ResNo;
 use thes_base::text::{Base, Iri, Note, Tag, Text};
 use thes_vocab::Vocab;
 
-/// The answer to a change: done, the number added, the number of labels gained, or the refusal.
+/// The answer to a change: done, the number of the new resource, how many labels the target gained,
+/// or the refusal.
 #[derive(Clone, Copy, Debug, PartialEq, Eq)]
 pub enum Answer {
     Done,
@@ -28,12 +29,12 @@ pub enum Change {
     Remove,
 }
 
-/// Returns the resource's number `n`, or 1 if `n` is 0.
+/// Returns `n` as the number of a resource, or 1 if `n` is 0.
 pub fn no(n: u32) -> ResNo {
     ResNo::new(n.max(1))
 }
 
-/// Returns a label of this kind.
+/// Reads the tag and the text of a label of this kind.
 pub fn label(alloc: Global, kind: LabelKind, tag: &str, text: &str) -> Result<Label, ReadStop> {
     let tag = Tag::read(alloc, tag)?;
     let value = match kind {
@@ -77,7 +78,7 @@ fn may_replace(vocab: &Vocab, source: ResNo, target: ResNo) -> bool
     source != target && is_live_concept(vocab, target) && from.scheme == to.scheme
 }
 
-// Checks whether the resource may be added.
+// Checks whether the resource may be added, and returns the refusal if it may not.
 fn check_new(vocab: &Vocab, new: &NewResource) -> Option<Refusal>
     ensures { unless_new vocab.now new.now accepted result }
 {
@@ -122,14 +123,14 @@ impl Fixture {
         Ok(self.make(NewResource::Scheme(tag, text))?)
     }
 
-    /// Adds a concept to a scheme with this English label, unless it is refused.
+    /// Adds a concept with this English label to a scheme, unless the concept is refused.
     pub fn concept(&mut self, scheme: u32, text: &str) -> Result<Answer, ReadStop> {
         let tag = Tag::read(self.alloc, "en")?;
         let text = Text::read(self.alloc, text)?;
         Ok(self.make(NewResource::Concept(no(scheme), tag, text))?)
     }
 
-    /// Adds a collection to a scheme with this English label, unless it is refused.
+    /// Adds a collection with this English label to a scheme, unless the collection is refused.
     pub fn collection(&mut self, scheme: u32, text: &str) -> Result<Answer, ReadStop> {
         let tag = Tag::read(self.alloc, "en")?;
         let text = Text::read(self.alloc, text)?;
@@ -164,7 +165,7 @@ impl Fixture {
         Answer::Done
     }
 
-    /// Adds or removes a label, unless that is refused.
+    /// Adds or removes a label, unless the change is refused.
     pub fn change_label(
         &mut self,
         change: Change,
@@ -209,8 +210,8 @@ impl Fixture {
         Ok(self.rename(no(owner), &tag, &text, keep)?)
     }
 
-    /// Copies the lexical labels of the source that the target lacks to the target, and answers
-    /// with their number.
+    /// Copies the source's lexical labels to the target, except those that the target already has,
+    /// and answers with the number copied.
     pub fn take_labels(&mut self, source: u32, target: u32) -> Result<Answer, AllocError> {
         let target = no(target);
         if !is_live_concept(&self.vocab, target) {
@@ -243,12 +244,12 @@ impl Fixture {
 
 // Look-ups in the vocabulary.
 impl Fixture {
-    /// Returns the numbers of resources and labels.
+    /// Returns how many resources and how many labels there are.
     pub fn counts(&self) -> (u64, u64) {
         (self.vocab.resource_count(), self.vocab.label_count())
     }
 
-    /// Returns the resource with this number.
+    /// Returns the resource with this number, if there is one.
     pub fn resource(&self, n: u32) -> Option<Resource> {
         self.vocab.resource(no(n)).copied()
     }
@@ -263,12 +264,12 @@ impl Fixture {
         self.vocab.live_of(no(scheme))
     }
 
-    /// Returns the labels of a resource.
+    /// Returns the labels of a resource, sorted by kind, language and text.
     pub fn labels_of(&self, owner: u32) -> &[Label] {
         self.vocab.labels_of(no(owner))
     }
 
-    /// Returns the number of labels that the target would gain from the source.
+    /// Returns the number of labels that `take_labels` would copy.
     pub fn taken_count(&self, source: u32, target: u32) -> u64 {
         self.vocab.taken_count(no(source), no(target))
     }
@@ -282,7 +283,7 @@ impl Fixture {
         })
     }
 
-    /// Returns the concept of a scheme that has this preferred label in a language.
+    /// Returns the live concept of a scheme that has this preferred label in a language.
     pub fn holder(&self, scheme: u32, tag: &str, text: &str) -> Result<Option<ResNo>, ReadStop> {
         let tag = Tag::read(self.alloc, tag)?;
         let text = Text::read(self.alloc, text)?;

@@ -6,7 +6,7 @@ use std::alloc::{AllocError, Global};
 use std::io;
 use test_office::{Store, store_after};
 
-// A number of allocations greater than that of any run before the one that fails.
+// More allocations than any run can make before one fails.
 const MOST: u32 = 10_000;
 
 // The query with which each run ends.
@@ -46,7 +46,7 @@ pub fn outcome_of(alloc: Global, before: u32, example: &Example) -> ExampleOutco
     }
 }
 
-// Returns whether the copy of the tables in memory may differ from them.
+// Returns whether the copy in memory may differ from the tables.
 fn has_stale_copy(store: &mut Store) -> bool {
     store.office().is_stale()
 }

@@ -10,7 +10,7 @@ use thes_http::connection::ConnectionEnd;
 /// The line that follows each request.
 pub const BEHIND: &str = "%\n";
 
-/// Serves connections in a store. None may import, since a fault would leave the rows before it
+/// Serves connections in a store. None may import, since the rows before a fault would stay
 /// performed.
 pub fn run(alloc: Global, store: &mut Store, input: &str) -> ExampleRun {
     let mut run = ExampleRun::new();

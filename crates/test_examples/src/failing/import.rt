@@ -7,7 +7,7 @@ use test_office::Store;
 use test_office::ways::import_in;
 use thes_base::fault::PipeFault;
 
-/// Imports a posting file into a store; a fault leaves the rows before it performed.
+/// Imports a posting file into a store; the rows before a fault stay performed.
 pub fn run(alloc: Global, store: &mut Store, input: &str) -> ExampleRun {
     let (page, ended) = import_file(alloc, store, input.as_bytes(), FixedPage::new());
     let mut run = ExampleRun::new();
@@ -20,7 +20,8 @@ pub fn run(alloc: Global, store: &mut Store, input: &str) -> ExampleRun {
     run
 }
 
-/// Imports a posting file over these devices, and returns the writer and the end of the import.
+/// Imports a posting file over these devices, and returns the writer and the fault that stopped the
+/// import, if any.
 pub fn import_file<R: Read + Drop, W: Write>(
     alloc: Global,
     store: &mut Store,

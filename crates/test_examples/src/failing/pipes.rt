@@ -1,6 +1,6 @@
-//! Imports, exports and displays with a reader or a writer that fails after each number of calls.
-//! The output must be a prefix of the whole text. If the reader failed, no row may have been
-//! performed; if the writer failed after an import's heading, all rows must have been.
+//! Imports, exports and displays with a reader or a writer that fails after 0, 1, 2, .. calls. The
+//! output must be a prefix of the whole text. If the reader failed, no row may have been performed;
+//! if the writer failed after an import's heading, all rows must have been.
 use crate::failing::import::import_file;
 use crate::failing::texts::write_text;
 use Failing::{FullWriter, Reader, Writer};
@@ -13,9 +13,9 @@ use thes_base::fault::PipeFault;
 /// The outcome of a step whose devices fail.
 #[derive(Clone, Copy, Debug, PartialEq, Eq)]
 pub enum FaultResult {
-    /// The step ended correctly for each of this number of calls.
+    /// The step ended correctly when each of this number of calls failed in turn.
     Right(u32),
-    /// The step ended otherwise when this device failed after this number of calls.
+    /// The step ended wrongly when this device failed after this number of calls.
     Wrong(Failing, u32),
 }
 
@@ -54,10 +54,11 @@ fn import_with(
     })
 }
 
-// The length of the heading of outcomes, which is written before the first row is performed.
+// The number of bytes in the heading of the outcomes, which is written before the first row is
+// performed.
 const HEADING: usize = 19;
 
-// Checks an import with this device failing after each number of calls. If the reader fails, or the
+// Checks an import with this device failing after 0, 1, 2, .. calls. If the reader fails, or the
 // writer within the heading, the views of the store must be `before`.
 fn check_import_with(
     alloc: Global,
@@ -84,7 +85,7 @@ fn check_import_with(
     Ok(FaultResult::Wrong(failing, u32::MAX))
 }
 
-/// Checks an import with the reader or the writer failing after each number of calls.
+/// Checks an import with the reader or the writer failing after 0, 1, 2, .. calls.
 pub fn check_import(alloc: Global, requests: &str, file: &str) -> io::Result<FaultResult> {
     let before = store_after(alloc, requests)?.shown(alloc)?;
     let whole = import_with(alloc, requests, file, Writer, u32::MAX)?;
@@ -98,7 +99,7 @@ pub fn check_import(alloc: Global, requests: &str, file: &str) -> io::Result<Fau
     Ok(FaultResult::Right(count))
 }
 
-// Checks the writing of a text with this writer failing after each number of calls.
+// Checks the writing of a text with this writer failing after 0, 1, 2, .. calls.
 fn check_text_with(
     alloc: Global,
     store: &mut Store,
@@ -118,7 +119,7 @@ fn check_text_with(
     FaultResult::Wrong(failing, u32::MAX)
 }
 
-// Checks the writing of a text with each kind of writer failing after each number of calls.
+// Checks the writing of a text with each kind of writer failing after 0, 1, 2, .. calls.
 fn check_text_in(alloc: Global, store: &mut Store, words: &str) -> FaultResult {
     let (text, _) = write_text(alloc, store, words, Vec::new(alloc));
     let mut count = 0u32;
@@ -131,8 +132,8 @@ fn check_text_in(alloc: Global, store: &mut Store, words: &str) -> FaultResult {
     FaultResult::Right(count)
 }
 
-/// Checks the writing of a text with the writer failing after each number of calls, and that the
-/// views of the store are the same before and after.
+/// Checks the writing of a text with the writer failing after 0, 1, 2, .. calls, and that the views
+/// of the store are the same before and after.
 pub fn check_text(alloc: Global, requests: &str, words: &str) -> io::Result<FaultResult> {
     let before = store_after(alloc, requests)?.shown(alloc)?;
     let mut store = store_after(alloc, requests)?;

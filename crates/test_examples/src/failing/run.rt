@@ -13,12 +13,12 @@ pub enum End {
     Done,
     /// A step was answered with the fault `OutOfMemory`.
     OutOfMemory,
-    /// The end is one that isn't allowed.
+    /// A step ended in a way that isn't allowed.
     Wrong,
 }
 
 impl End {
-    /// Returns the end for a step that was performed, or stopped by a fault.
+    /// Returns the end of a step that was performed, or that a fault stopped.
     pub fn from_result(ended: Result<(), PipeFault>) -> End {
         match ended {
             Ok(()) => End::Done,
@@ -48,8 +48,8 @@ impl ExampleRun {
         }
     }
 
-    /// Records the end of a step, and its answer. A step answered with the fault `OutOfMemory` has
-    /// changed nothing.
+    /// Records the end of a step and, if the step was performed, its answer. If a second step runs
+    /// out of memory, the run is wrong.
     pub fn note(&mut self, step: usize, end: End, answer: &str) {
         if end == End::Done && step < MOST && self.page.write_all(answer.as_bytes()).is_ok() {
             self.performed[step] = true;

@@ -30,8 +30,8 @@ fn store_posting<S: Alter>(
     commit(conn, &delta)
 }
 
-/// Inserts `count` postings, each in a commit of its own, and assigns them in turn to the concepts
-/// from number 2 on.
+/// Inserts the postings 1 to `count`, each in a commit of its own, and assigns them in turn to the
+/// concepts 2 to 11.
 pub fn store_all<S: Alter>(
     alloc: Global,
     conn: &mut Connection<S>,
@@ -44,7 +44,8 @@ pub fn store_all<S: Alter>(
     Ok(())
 }
 
-/// Moves all postings from the source to the target in one commit, with `posts` / 10 rows of moves.
+/// Moves all postings from the source to the target in one commit, which also adds `posts` / 10
+/// rows of moves.
 pub fn store_merge<S: Alter>(
     alloc: Global,
     conn: &mut Connection<S>,

@@ -15,8 +15,8 @@ use thes_tables::numbers::resource_number;
 /// The number of labels of each resource.
 const LABELS: u32 = 10;
 
-/// The numbers of resources and postings of a store. Each posting has one move. The number of links
-/// is about that of resources; half of the links form a tree.
+/// The number of resources and the number of postings of a store. Each posting has one move. There
+/// are about as many links as resources; half of the links form a tree.
 #[derive(Clone, Copy)]
 pub struct Size {
     pub resources: u32,
@@ -24,7 +24,8 @@ pub struct Size {
 }
 
 impl Size {
-    // Returns the first concept of the posting with this number, which isn't the last resource.
+    // Returns the concept to which the posting with this number is first assigned. It is never the
+    // last resource, since the posting moves to the concept with the next number.
     fn concept(&self, number: u32) -> u32 {
         let concepts = self.resources.saturating_sub(2).max(1);
         (number % concepts).saturating_add(2)
@@ -41,7 +42,7 @@ fn text(alloc: Global, letter: &str, number: u32) -> Result<Cell, AllocError> {
     Ok(Cell::Text(CellText::new(alloc, name_with_number(alloc, letter, number)?.as_str())?))
 }
 
-// Yields the one row of the table meta.
+// Yields the only row of the table `meta`.
 fn yield_meta<S: RowSink>(alloc: Global, sink: &mut S) -> Result<(), Fault> {
     let base = Cell::Text(CellText::new(alloc, "http://example.org/")?);
     sink.row(Table::Meta, &[int(1), int(2), base])
@@ -123,7 +124,7 @@ fn yield_postings<S: RowSink>(alloc: Global, size: Size, sink: &mut S) -> Result
     Ok(())
 }
 
-// Yields the row of a move of each posting, to the concept with the next number.
+// Yields the row of one move for each posting, to the concept with the next number.
 fn yield_moves<S: RowSink>(size: Size, sink: &mut S) -> Result<(), Fault> {
     for made in 0..size.postings {
         let number = made.saturating_add(1);
@@ -148,7 +149,7 @@ fn yield_all<S: RowSink>(alloc: Global, size: Size, sink: &mut S) -> Result<(), 
     yield_moves(size, sink)
 }
 
-// Returns a core of the generated rows.
+// Loads the generated rows into a core.
 fn load(alloc: Global, size: Size) -> Result<Core, Fault> {
     let mut loader = Loader::new(alloc, Limits::default());
     match yield_all(alloc, size, &mut loader) {
@@ -160,7 +161,7 @@ fn load(alloc: Global, size: Size) -> Result<Core, Fault> {
     }
 }
 
-/// Loads the rows to `times` cores, keeps all of them until the end, and returns their number.
+/// Loads the rows into `times` cores, keeps all cores until the end, and returns their number.
 pub fn load_times(alloc: Global, size: Size, times: u32) -> Result<usize, Failure> {
     let mut cores: Vec<Core> = Vec::new(alloc);
     for _ in 0..times {
@@ -169,7 +170,7 @@ pub fn load_times(alloc: Global, size: Size, times: u32) -> Result<usize, Failur
     Ok(cores.len())
 }
 
-/// Generates the rows `times` times, and returns the number of all rows.
+/// Generates the rows `times` times without loading them, and returns the number of all rows.
 pub fn make_times(alloc: Global, size: Size, times: u32) -> Result<u64, Failure> {
     let mut counter = Counter { rows: 0 };
     for _ in 0..times {

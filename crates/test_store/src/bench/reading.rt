@@ -10,13 +10,13 @@ use thes_store::keeper::Keeper;
 use thes_store::sink::RowSink;
 use thes_tables::cells::Cell;
 
-// Checks whether the key with this number has a posting.
+// Checks whether there is a posting with the key `k` and this number.
 fn is_found<K: Keeper>(alloc: Global, keeper: &mut K, number: u32) -> Result<bool, Failure> {
     let key = Key::read(alloc, name_with_number(alloc, "k", number)?.as_str())?;
     Ok(keeper.find(&key)?.is_some())
 }
 
-/// Looks up `count` keys, and returns the number of those that have a posting.
+/// Looks up keys of the first `posts` postings, `count` times, and returns how often one was found.
 pub fn find_all<K: Keeper>(
     alloc: Global,
     keeper: &mut K,
@@ -41,7 +41,8 @@ fn count_moves<K: Keeper>(keeper: &mut K, number: PostNo) -> Result<usize, Failu
     }
 }
 
-/// Looks up `count` postings by number, and returns the number of all their moves.
+/// Looks up the first `posts` postings by number, `count` times, and returns how many moves they
+/// have in all.
 pub fn count_all_moves<K: Keeper>(
     keeper: &mut K,
     posts: u32,

@@ -10,12 +10,12 @@ use thes_base::text::Key;
 use thes_store::keeper::{Keeper, Posting};
 use thes_tables::change::Change;
 
-// Returns a line that reports a fault of a call.
+// Returns a line that names a call and its fault.
 fn call_fault_line(alloc: Global, call: &str, fault: Fault) -> Result<String, AllocError> {
     format!(in alloc; "{call}: {fault:?}\n")
 }
 
-/// Loads all rows, and returns them as lines.
+/// Loads all rows, and returns them as lines, or the line of the fault.
 pub fn load_report<K: Keeper>(alloc: Global, keeper: &mut K) -> Result<String, Failure> {
     let mut rows = Rows::new(alloc);
     match keeper.load(&mut rows) {
@@ -47,7 +47,7 @@ fn posting_lines(alloc: Global, posting: &Posting) -> Result<String, AllocError>
     Ok(text)
 }
 
-/// Looks up a posting by its number, and returns its lines.
+/// Looks up a posting by its number, and returns lines with its concepts and its moves.
 pub fn report<K: Keeper>(alloc: Global, keeper: &mut K, number: PostNo) -> Result<String, Failure> {
     match keeper.posting(number) {
         Ok(Some(posting)) => Ok(posting_lines(alloc, &posting)?),
@@ -72,7 +72,7 @@ pub fn row_report<K: Keeper>(
     }
 }
 
-// Returns a line with these numbers.
+// Returns a line with the numbers of these postings.
 fn numbers_line(alloc: Global, numbers: &[PostNo]) -> Result<String, AllocError> {
     let mut text = String::from_str(alloc, "standing_numbers:")?;
     for number in numbers {
@@ -120,7 +120,7 @@ pub fn withdraw_report<K: Keeper>(
     }
 }
 
-// Looks up three keys, and returns their lines.
+// Looks up three keys, and returns a line for each.
 fn find_reports<K: Keeper>(alloc: Global, keeper: &mut K) -> Result<String, Failure> {
     let mut text = String::new(alloc);
     for key in ["k2", "K2", "k11"] {

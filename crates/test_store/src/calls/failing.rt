@@ -1,4 +1,4 @@
-//! A storage of which one call fails once.
+//! Calls of a storage in memory, one of which fails.
 use crate::calls::answers::{
     answers, find_report, load_report, numbers_report, report, row_report, standing,
     withdraw_report,
@@ -13,8 +13,8 @@ use thes_base::text::Base;
 use thes_store::keeper::Keeper;
 use thes_store::mem::MemKeeper;
 
-/// Returns a storage with ten postings, assigned to the concepts 2 to 11, of which the first was
-/// then moved to concept 3.
+/// Returns a storage with ten postings, assigned to the concepts 2 to 11; the first was then moved
+/// to concept 3.
 pub fn filled_keeper(alloc: Global) -> Result<MemKeeper, Failure> {
     let mut keeper = MemKeeper::new(alloc, Base::read(alloc, "http://example.org/")?);
     post_all(alloc, &mut keeper, 10)?;
@@ -36,10 +36,12 @@ fn call_report(alloc: Global, keeper: &mut FailOnce, kind: Next) -> Result<Strin
     }
 }
 
-/// Reports a failing call: its result, whether the storage is unchanged, the result of the same
-/// call made again, and the count of failures after each.
+/// Reports a failing call of this kind: its result, whether the storage is unchanged, the result of
+/// the same call made again, the postings at concept 3 after that, and the count of failures after
+/// each call.
 ///
-/// The storage is dropped by one call, since a function that drops it at each `?` is slow to prove.
+/// The storage is dropped in one place, since a function that drops it at each `?` is slow to
+/// prove.
 pub fn fail_once_report(alloc: Global, next: Next) -> Result<String, Failure> {
     let mut keeper = FailOnce {
         keeper: filled_keeper(alloc)?,

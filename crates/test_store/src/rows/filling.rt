@@ -40,7 +40,7 @@ fn posting(
     })
 }
 
-// Adds the insertion of a resource and of its label.
+// Adds the insertions of a resource and of its label.
 fn add_named_resource(
     alloc: Global,
     delta: &mut Delta,

@@ -62,7 +62,7 @@ impl Lines {
         self.push_line("")
     }
 
-    /// Appends a line with a posting's number, key, record and place.
+    /// Appends a line with a posting's number, key, record and present concept.
     pub fn push_posting(&mut self, row: &PostingRow) -> Result<(), AllocError> {
         let (number, place) = (row.number.get(), row.place.get());
         writeln!(
@@ -83,7 +83,7 @@ impl Lines {
         Ok(())
     }
 
-    /// Appends a line with these numbers.
+    /// Appends a line with the numbers of these postings.
     pub fn push_numbers(&mut self, numbers: &[PostNo]) -> Result<(), AllocError> {
         for number in numbers {
             write!(self.text, " {}", number.get())?;
