@@ -1,12 +1,10 @@
 //! Checks of requests against the vocabulary, the graph, the counts of postings and the limits. The
 //! first check that fails gives the refusal.
-ghost use Rattle.std.specs.Prelude.{IfOk, IfSome, IfNone, List, [], false};
+ghost use Rattle.std.specs.Prelude.{IfOk, IfNone, List, [], false};
 ghost use Rattle.thes_base.specs.declared.data.History.{History};
 ghost use Rattle.thes_base.specs.declared.fault.Refusal.TheVariants as no;
-ghost use Rattle.thes_base.specs.Machine.{HasNewKey, IsKnownKeyAnswer};
 ghost use Rattle.thes_base.specs.RefusalRules.{refused_unless, accepted};
 ghost use Rattle.thes_core.specs.Requests.{RefusalByParts};
-ghost use Rattle.thes_base.specs.State.{State};
 ghost use Rattle.thes_core.specs.CoreDecisions.{MayApply};
 ghost use Rattle.thes_core.specs.Facts.{AreFacts};
 ghost use Rattle.thes_post.specs.PostingCounts.{ArePostingCounts};
@@ -23,26 +21,7 @@ use crate::room::{Growth, may_rise};
 use crate::thesaurus::Thesaurus;
 use std::alloc::AllocError;
 use thes_base::fault::Refusal;
-use thes_base::request::{Answer, Command};
-
-// Returns the answer to a Post with a known key; None for other requests.
-pub(crate) fn known_answer(command: &Command, facts: &Facts) -> Option<Answer>
-    ensures some { IfSome result (λ answer. (state : State)
-        → AreFacts command.now state.histories facts.now
-        → IsKnownKeyAnswer command.now state answer) }
-    ensures none { IfNone result ((state : State) → AreFacts command.now state.histories facts.now
-        → HasNewKey command.now state) }
-{
-    let Command::Post(_, rec, concept) = command else {
-        return None;
-    };
-    let row = facts.known.as_ref()?;
-    if row.rec == *rec && row.first == *concept {
-        Some(Answer::Again(row.number.get()))
-    } else {
-        Some(Answer::No(Refusal::KeyReused))
-    }
-}
+use thes_base::request::Command;
 
 impl Thesaurus {
     // Checks a request other than a Post with a known key, in the order of docs/REQUESTS.md.

@@ -1,11 +1,16 @@
 //! Facts on the postings that a request concerns. They come from the storage, since the core has
 //! only counts.
-ghost use Rattle.std.specs.Prelude.{◌≡◌, None, [], IfOk};
+ghost use Rattle.std.specs.Prelude.{◌≡◌, None, [], IfSome, IfNone};
 ghost use Rattle.std.specs.Option.{option_copied};
+ghost use Rattle.thes_base.specs.Machine.{HasNewKey, IsKnownKeyAnswer};
+ghost use Rattle.thes_base.specs.State.{State};
+ghost use Rattle.thes_core.specs.Facts.{AreFacts};
 ghost use Rattle.thes_core.specs.NamedPostings.{first_named_posting};
 
 use std::alloc::Global;
+use thes_base::fault::Refusal;
 use thes_base::number::PostNo;
+use thes_base::request::{Answer, Command};
 use thes_tables::rows::PostingRow;
 
 /// The facts on postings that the decision on a request needs, as the storage reports them. They
@@ -32,6 +37,25 @@ impl Facts {
             known: None,
             named_postings: Vec::new(alloc),
             standing: Vec::new(alloc),
+        }
+    }
+
+    // Returns the answer to a Post with a known key; None for other requests.
+    pub(crate) fn known_answer(&self, command: &Command) -> Option<Answer>
+        ensures some { IfSome result (λ answer. (state : State)
+            → AreFacts command.now state.histories self.now
+            → IsKnownKeyAnswer command.now state answer) }
+        ensures none { IfNone result ((state : State) → AreFacts command.now state.histories self.now
+            → HasNewKey command.now state) }
+    {
+        let Command::Post(_, rec, concept) = command else {
+            return None;
+        };
+        let row = self.known.as_ref()?;
+        if row.rec == *rec && row.first == *concept {
+            Some(Answer::Again(row.number.get()))
+        } else {
+            Some(Answer::No(Refusal::KeyReused))
         }
     }
 

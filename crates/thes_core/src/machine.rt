@@ -8,7 +8,6 @@ ghost use Rattle.thes_core.specs.Facts.{AreFacts};
 ghost use Rattle.thes_core.specs.CoreView.{IsUsableWith, IsViewOf, with_histories};
 ghost use Rattle.thes_core.specs.CoreDecisions.{IsAccepted, IsAppliedWithoutPostings, DecideResult, MayApply, ApplyFrame, CoreStepResult, VerdictMayApply};
 
-use crate::checking::known_answer;
 use crate::facts::Facts;
 use crate::thesaurus::Thesaurus;
 use crate::verdict::Verdict;
@@ -77,7 +76,7 @@ impl Core {
         ensures in_order { (s : State) → IsViewOf self.now s
             → IsConsistentState self.now.setting.base s }
     {
-        if let Some(answer) = known_answer(command, facts) {
+        if let Some(answer) = facts.known_answer(command) {
             return Ok(Verdict::Settled(answer));
         }
         match self.thesaurus.check_request(command, facts)? {

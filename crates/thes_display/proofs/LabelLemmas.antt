@@ -1,8 +1,8 @@
 -- Proves that selecting from a concept's labels by kind and language lists their texts, and that the terms with these
 -- texts, sorted, are those of the labels.
-use Rattle.std.proofs.Common.{◌≡◌, ◌∙◌, ◌≤◌, ◌&&◌, refl, sym, ap, subst, ℕ, List, Bool, true, false, [], ◌∷◌, map}
-use Rattle.std.proofs.Common.{filter, length, arith, eqb-true, true≢false, Ordering, Less, Equal, Contains}
-use Rattle.std.proofs.lemmas.Bool.{eq-eqb}
+use Rattle.std.proofs.Common.{◌≡◌, ◌∙◌, ◌≤◌, refl, sym, ap, subst, ℕ, List, true, [], ◌∷◌, map}
+use Rattle.std.proofs.Common.{filter, length, arith, eqb-true, Ordering, Less, Equal, Contains}
+use Rattle.std.proofs.lemmas.Bool.{and_from, and_parts, eq-eqb}
 use Rattle.std.specs.Borrow.{Bor}
 use Rattle.std.specs.Prelude.{nat_eq}
 use Rattle.std.specs.Ordering.{nat_cmp, ordering_then}
@@ -29,22 +29,15 @@ use Rattle.thes_display.proofs.TermLemmas.{first_ties, second_ties, same_term}
 use Rattle.thes_display.proofs.SortLemmas.{listing_in_order}
 use Rattle.thes_display.proofs.ListingLemmas.{listing_mapped}
 
-both_parts : (a b : Bool) → (a && b) ≡ true → (a ≡ true) × (b ≡ true)
-both_parts true b e = (refl, e)
-both_parts false b e = absurd (true≢false (sym e))
-
-both_true : (a b : Bool) → a ≡ true → b ≡ true → (a && b) ≡ true
-both_true a b e f = ap (λ x. x && b) e ∙ f
-
 later_less : (a b c : Ordering) → a ≡ Equal → b ≡ Equal → ordering_then (ordering_then a b) c ≡ Less → c ≡ Less
 later_less a b c e f l = sym (ap (λ o. ordering_then (ordering_then o b) c) e ∙ ap (λ o. ordering_then o c) f) ∙ l
 
 module _ (kind : LabelKind) (tag : List ℕ) where
   kind_of : (l : LabelData) → is_label_in kind tag l ≡ true → label_kind_no l.kind ≡ label_kind_no kind
-  kind_of l e = eqb-true _ _ (both_parts (is_of_kind kind l) (pointwise nat_eq l.tag tag) e).0
+  kind_of l e = eqb-true _ _ (and_parts (is_of_kind kind l) (pointwise nat_eq l.tag tag) e).0
 
   tag_of : (l : LabelData) → is_label_in kind tag l ≡ true → l.tag ≡ tag
-  tag_of l e = (bytes_decides l.tag tag).0 (both_parts (is_of_kind kind l) (pointwise nat_eq l.tag tag) e).1
+  tag_of l e = (bytes_decides l.tag tag).0 (and_parts (is_of_kind kind l) (pointwise nat_eq l.tag tag) e).1
 
   -- Labels of one kind and language are ordered by their texts.
   text_less : (x y : LabelData) → is_label_in kind tag x ≡ true → is_label_in kind tag y ≡ true → data_cmp x y ≡ Less
@@ -55,7 +48,7 @@ module _ (kind : LabelKind) (tag : List ℕ) where
       (ap (λ t. slice_cmp nat_cmp t y.tag) (tag_of x e ∙ sym (tag_of y f)) ∙ tied_itself nat_list_cmp_total y.tag) l
 
   is_in : (text : List ℕ) → is_label_in kind tag (own_label kind tag text) ≡ true
-  is_in text = both_true _ _ (eq-eqb _ _ refl) ((bytes_decides tag tag).1 refl)
+  is_in text = and_from _ _ (eq-eqb _ _ refl) ((bytes_decides tag tag).1 refl)
 
   -- The label is among the owner's, of the kind and in the language.
   abbrev IsSelected : List LabelData → LabelData → Type 0

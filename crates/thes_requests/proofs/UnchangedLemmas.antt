@@ -1,8 +1,9 @@
 -- Proves that values and members without references stay unchanged when references are replaced.
 use Rattle.std.proofs.Common.{◌≡◌, ◌<◌, ◌+◌, ◌∙◌, refl, sym, ap, ap₂, ℕ, List, [], ◌∷◌, ◌++◌, take, length, slice_index_or}
-use Rattle.std.proofs.Common.{Bool, true, false, ◌||◌, Option, None, Some}
+use Rattle.std.proofs.Common.{Bool, true, false, Option, None, Some}
 use Rattle.std.specs.Prelude.{is_some, if◌then◌else◌}
 use Rattle.std.specs.List.{list_any}
+use Rattle.std.proofs.lemmas.Bool.{or_parts}
 use Rattle.std.proofs.lemmas.List.{take_more}
 use Rattle.serde_json.specs.Data.{Data, array, item}
 use Rattle.thes_requests.specs.References.{reference_in, one_or, without_reference, items_without_references}
@@ -17,10 +18,6 @@ one_or_none : (d : Data) (reference : Option ℕ) → is_some reference ≡ fals
 one_or_none d None h = refl
 one_or_none d (Some place) h = absurd (cc)
 
-neither : (a b : Bool) → (a || b) ≡ false → (a ≡ false) × (b ≡ false)
-neither false b h = (refl, h)
-neither true b h = absurd (cc)
-
 pub value_unchanged : (d : Data) → is_some (reference_in d) ≡ false → without_reference d ≡ d
 value_unchanged d h = one_or_none d (reference_in d) h
 
@@ -28,7 +25,7 @@ pub items_unchanged : (vs : List Value) → list_any (λ v. is_some (reference_i
     → items_without_references (items_view vs) ≡ items_view vs
 items_unchanged [] h = refl
 items_unchanged (v ∷ vs) h =
-    let both = neither (is_some (reference_in (view v))) (list_any (λ v. is_some (reference_in (view v))) vs) h in
+    let both = or_parts (is_some (reference_in (view v))) (list_any (λ v. is_some (reference_in (view v))) vs) h in
     ap₂ item (value_unchanged (view v) both.0) (items_unchanged vs both.1)
 
 -- A value without references is unchanged as a member of any name.

@@ -1,6 +1,7 @@
 -- Proves which connection a `ReopeningKeeper` returns, that it loses its first one only when a failure has shut that,
 -- and what its commits answer.
 use Rattle.std.proofs.Common.{◌≡◌, ◌∙◌, inl, inr, List, Bool, true, false, Option, None, Some, refl, sym, ap, subst}
+use Rattle.std.proofs.lemmas.Option.{same_Some}
 use Rattle.sqlite.specs.Held.{Held, state}
 use Rattle.sqlite.specs.State.{HasCleanDisk}
 use Rattle.sqlite_trees.specs.declared.store.Store.{Ghosts}
@@ -47,9 +48,6 @@ still_shut g old new leaves shut clean = go (state g new).is_open refl
         let open_before : (state g old).is_open ≡ true = (leaves (clean, is)).0.1 in
         let shut_before = shut clean in absurd (cc)
 
-pub same_keeper : {A : Type 0} (k l : A) → Some k ≡ Some l → k ≡ l
-same_keeper k l same = cc
-
 -- A first connection that a query has found shut is lost.
 pub loses_shut : {S : Type 0} (g : Ghosts S) (image : Image) (is_reopened : Bool)
     (storage lost after : Option (KeeperView S)) (k l taken : KeeperView S)
@@ -62,13 +60,13 @@ loses_shut g image false None lost after k l taken files fresh is was first leav
 loses_shut g image false (Some j) None after k l taken files fresh is was first leaves shut same held_on = absurd (cc)
 loses_shut {S} g image false (Some j) (Some m) after k l taken files fresh is was first leaves shut same held_on =
     let start : m.first ≡ j.first =
-    ap (λ (x : KeeperView S). x.first) (same_keeper m l was) ∙ first
-    ∙ ap (λ (x : KeeperView S). x.first) (sym (same_keeper j k is)) in record {
+    ap (λ (x : KeeperView S). x.first) (same_Some m l was) ∙ first
+    ∙ ap (λ (x : KeeperView S). x.first) (sym (same_Some j k is)) in record {
       of_files = subst (λ (h : Held S). ServesFiles image (state g h)) (sym start) files;
       kept = subst (λ (x : KeeperView S). IsKeeperState (state g x.first) (state g x.conn))
-          (same ∙ sym (same_keeper m l was)) held_on;
+          (same ∙ sym (same_Some m l was)) held_on;
       is_shut = subst (λ (x : KeeperView S). HasCleanDisk (state g x.conn) → (state g x.conn).is_open ≡ false)
-          (sym (same_keeper m l was)) (still_shut g k.conn l.conn leaves shut);
+          (sym (same_Some m l was)) (still_shut g k.conn l.conn leaves shut);
     }
 
 -- A first connection that was lost before stays lost.

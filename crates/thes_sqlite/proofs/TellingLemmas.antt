@@ -3,6 +3,7 @@ use Rattle.std.proofs.lemmas.Grind.{common_steps}
 use Rattle.std.proofs.Common.{arith, ◌≡◌, ◌↔◌, inl, inr, ◌∙◌, ℕ, zero, suc, ◌==◌, ◌&&◌, ◌||◌, ◌+◌, Bool, true, false, not, cond}
 use Rattle.std.proofs.Common.{List, [], ◌∷◌, ◌++◌, length, map, filter, Option, None, Some, IsTrue}
 use Rattle.std.proofs.Common.{refl, sym, ap, subst, is_eq}
+use Rattle.std.proofs.lemmas.Bool.{false_from_ne_true}
 use Rattle.std.proofs.lemmas.Map.Views.{any-filter_same}
 use Rattle.std.specs.Cmp.{tied_itself}
 use Rattle.std.specs.List.{list_any, find}
@@ -151,10 +152,6 @@ good_effect (change.SetPlace n place) t good h = absurd (cc)
 good_effect (change.MoveAll source target) t good h = absurd (cc)
 good_effect _ t good h = h
 
-false_before : (b : Bool) → (b ≡ true → ⊥) → b ≡ false
-false_before true h = absurd (h refl)
-false_before false h = refl
-
 -- The change is shown by the tables with all changes, and not by those without.
 pub record ShowsApart (c : Change) (changes : List Change) (t : Tables) : Type 0 where
   pub with_none : shows_change c t ≡ false
@@ -171,7 +168,7 @@ good_apart c (d ∷ changes) t good (inl same) does =
     }
 good_apart c (d ∷ changes) t good (inr rest) does =
     let later = good_apart c changes (tables_after_change d t) good rest does.1 in record {
-      with_none = false_before (shows_change c t)
+      with_none = false_from_ne_true (shows_change c t)
           (λ here. let there : shows_change c (tables_after_change d t) ≡ true = stays_shown c d t good here in
           let gone : shows_change c (tables_after_change d t) ≡ false = later.with_none in cc);
       with_all = later.with_all;
@@ -221,7 +218,7 @@ module _ {K : Type 0} (eq : K → K → Bool) (exact : (x y : K) → eq x y ≡ 
             ap not (subst (λ (z : K). eq k z ≡ true) same (itself k))
 
         left : eq m x ≡ false → (k : K) → eq k x ≡ true → not (eq k m) ≡ true
-        left is k here = ap not (false_before (eq k m) (λ also.
+        left is k here = ap not (false_from_ne_true (eq k m) (λ also.
             let same : m ≡ x = sym (exact k m also) ∙ exact k x here in
             let equal : eq m x ≡ true = subst (λ (z : K). eq m z ≡ true) same (itself m) in cc))
 
@@ -489,7 +486,7 @@ same_without_telling changes t does h places =
     go None a None b None c =
         let others = others_kept changes t a b places in
         let even : (row : Option ListedRow) → turns changes row ≡ false =
-        λ row. false_before (turns changes row)
+        λ row. false_from_ne_true (turns changes row)
         (λ odd. let none : turns changes row ≡ false = turns_no_more changes changes row odd c in cc) in record {
           same_base = others.same_base;
           same_resource = others.same_resource;
@@ -540,7 +537,7 @@ tells_without_change changes db is places = record {
 decided : (r b : Bool) (P : Type 0) → (IsTrue r ↔ P) → (b ≡ true → P) → (P → b ≡ true) → r ≡ b
 decided true b P test from to = sym (to (test.0 refl))
 decided false b P test from to =
-    sym (false_before b (λ here. let never : false ≡ true = test.1 (from here) in absurd (cc)))
+    sym (false_from_ne_true b (λ here. let never : false ≡ true = test.1 (from here) in absurd (cc)))
 
 pub label_decided : (r : Bool) (a b : Label) → (IsTrue r ↔ (a ≡ b)) → r ≡ eq_by_cmp label_cmp a b
 label_decided r a b test = decided r (eq_by_cmp label_cmp a b) (a ≡ b) test (label_exact a b)

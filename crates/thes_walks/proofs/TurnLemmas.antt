@@ -1,5 +1,6 @@
 -- Two searches that take turns come to an end: the limit grows with each turn, and without a limit one of them ends.
 use Rattle.std.proofs.Common.{◌≡◌, ◌+◌, ◌-◌, ◌*◌, ◌^◌, ◌≤◌, ◌<◌, ◌⊎◌, inl, inr, ℕ, min, arith}
+use Rattle.std.proofs.lemmas.Bool.{cases_lt}
 
 module _ (limit more : ℕ) (small : limit < 2 ^ 64) (next : more ≡ min (limit + 16) (2 ^ 64 - 1)) where
   limited : (limit < 2 ^ 64 - 1) ⊎ (limit ≡ 2 ^ 64 - 1)
@@ -21,11 +22,8 @@ module _ (limit more : ℕ) (small : limit < 2 ^ 64) (next : more ≡ min (limit
   paired_turn_smaller first second first_read second_read later_first later_second later_first_read
       later_second_read unread unread_second done = elim limited [
         | inl below ↦ omega (arith, below, next)
-        | inr all ↦ elim (ended later_second_read later_second) [
+        | inr all ↦ elim (cases_lt later_second_read later_second) [
           | inl rest ↦ omega (arith, all, next, done all rest, unread, unread_second)
           | inr past ↦ omega (arith, all, next, past, unread, unread_second)
         ]
       ]
-    where
-      ended : (i n : ℕ) → (i < n) ⊎ (n ≤ i)
-      ended i n = grind arith

@@ -1,5 +1,6 @@
 use Rattle.std.proofs.Common.{◌≡◌, ◌∙◌, None, Some, true, false, refl, sym}
-use Rattle.thes_sqlite.proofs.ReopeningLemmas.{loses_shut, same_keeper, stays_lost}
+use Rattle.std.proofs.lemmas.Option.{same_Some}
+use Rattle.thes_sqlite.proofs.ReopeningLemmas.{loses_shut, stays_lost}
 use Rattle.thes_sqlite.proofs.reopening.ReopeningKeeper.take_shut.Goals as goal
 use Rattle.thes_sqlite.proofs.reopening.ReopeningKeeper.take_shut.Goals.{in-Some+else-not-is_shut, in_default}
 use Rattle.thes_sqlite.proofs.reopening.ReopeningKeeper.take_shut.Goals.{then-not-self, else-not-self}
@@ -20,7 +21,7 @@ invariant_of-self-2 g c = elim c.if-not-self.branch [
                 c.if-not-self.self-inside.loss.value None v.in-Some.keeper v.is_shut.new.self c.in-Some-take.keeper
                 c.self.invariant.0 fresh v.in-Some.is lost v.is_shut.ensures.first v.is_shut.ensures.leaves
                 (v.is_shut.ensures.shut v.if-not-is_shut.false)
-                (same_keeper _ _ (sym c.in-Some-take.is ∙ c.take.ensures.value ∙ stored))
+                (same_Some _ _ (sym c.in-Some-take.is ∙ c.take.ensures.value ∙ stored))
                 c.into_connection.ensures.kept,
           ),
         )
