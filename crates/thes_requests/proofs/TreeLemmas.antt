@@ -1,5 +1,5 @@
--- Proves which data a parsed value represents, level by level, and which its items and members
--- represent while they are parsed.
+-- Proves which data a parsed value represents, level by level, and which data the items or members parsed so far
+-- represent.
 use Rattle.std.proofs.lemmas.Grind.{common_steps}
 use Rattle.std.proofs.Common.{arith, ◌≡◌, ℕ, ◌+◌, ◌<◌, ◌≤◌, List, [], ◌∷◌, ◌++◌, Bool, length, map, take, drop}
 use Rattle.std.proofs.Common.{slice_index_or, Option, Some, option_map, is_some, false, Vec, Global, Bor, cond, bytes_eq, refl}

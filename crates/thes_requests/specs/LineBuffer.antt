@@ -11,8 +11,8 @@ use Rattle.thes_requests.specs.declared.line_buffer.LineRun.{LineRun}
 use Rattle.thes_requests.specs.declared.line_buffer.LineSearch.{LineSearch}
 use Rattle.thes_requests.specs.declared.line_buffer.LineSearch.TheVariants.{End, Line}
 
--- The bytes not consumed yet: those in the buffer, then those of the reader; None if the device
--- doesn't know its bytes.
+-- The bytes not consumed yet: those in the buffer, then those of the reader; None if the bytes of the device aren't
+-- known, as those of standard input.
 abbrev pub bytes_left : {R : Type 0} → (R → Option (List ℕ)) → List ℕ → Pipe R → Option (List ℕ)
 bytes_left remaining held reader = prepend_known held (unread_bytes remaining reader)
 

@@ -28,7 +28,7 @@ is_form_stop (Form BadShape) = false
 is_form_stop (Form f) = true
 is_form_stop OutOfMemory = false
 
--- Both values, or the first stop; if the second stop is `BadShape` or `OutOfMemory`, that one.
+-- Both values, or the first stop; but if the second stop is `BadShape` or `OutOfMemory`, the second.
 abbrev pub both : {A B : Type 0} → Result A ReadStop → Result B ReadStop → Result (A × B) ReadStop
 both (Ok a) (Ok b) = Ok (a, b)
 both (Ok a) (Err f) = Err f

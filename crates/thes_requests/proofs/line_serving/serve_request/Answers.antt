@@ -19,7 +19,7 @@ command_served : {S : Type 0} (d : RequestBehaviour S) (line : List ℕ) (old ne
     → Serves d old line (command_answer given) new
 command_served d line old new command given is did = grind (arith, common_steps)
 
--- A line is read as its JSON value is.
+-- Reading a line as a request has the outcome of reading its JSON value.
 line_read : (line : List ℕ) (d : Data) (x : Result Request FormFault) → json_in line ≡ Some d
     → ReadsAs (request_in d) x → ReadsAs (request_of line) x
 line_read line d x e h = rw e h
