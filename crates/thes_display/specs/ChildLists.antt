@@ -65,7 +65,7 @@ total below = sum_by (λ (v : Vec Child Global). vec_len v) below
 abbrev pub waiting_at : ℕ → Child → WaitingLine
 waiting_at depth c = record { rank = c.rank; depth = depth; types = c.types; at_home = c.at_home }
 
--- The text of all lines of the lists, in the order of their paths.
+-- The text consists of all lines of the hierarchy in these lists, in the order of their paths.
 pub record IsHierarchyText (terms : List Term) (tops : List Child) (below : List (List Child)) (text : List ℕ) : Type
     0 where
   pub lines : List TreeLine

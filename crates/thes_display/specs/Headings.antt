@@ -1,4 +1,5 @@
--- The order in which headings are collected: those of the concepts' terms, and then those of their alternative labels.
+-- The order in which headings are collected: first those of the concepts' terms, and then those of their alternative
+-- labels.
 use Rattle.std.specs.Prelude.{◌≡◌, ◌++◌, ℕ, List, true, false, cond}
 use Rattle.std.specs.declared.cmp.Ordering.{Ordering}
 use Rattle.std.specs.Ordering.{nat_cmp, ordering_then}

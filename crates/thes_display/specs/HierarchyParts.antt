@@ -37,7 +37,8 @@ module _ (links : Links) (terms : List Term) where
     pub rank : HasRank terms concept k
     pub none : (b : ℕ) → IsNarrowerTerm links terms k b → ⊥
 
-  -- The option is the home of the rank `k`, if that is below `m`; or None, if no broader concept has a rank below `m`.
+  -- The option is the home of the rank `k`, if that home is below `m`, or None if no broader concept has a rank below
+  -- `m`.
   abbrev pub IsHomeBelow : (m k : ℕ) → Option ℕ → Type 0
   IsHomeBelow m k None = (b : ℕ) → IsNarrowerTerm links terms k b → m ≤ b
   IsHomeBelow m k (Some b) = IsHome links terms k b × (b < m)
