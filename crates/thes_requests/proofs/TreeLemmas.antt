@@ -43,8 +43,7 @@ get_member-push name es e = grind (arith, common_steps, members_view-push, get_a
 pub other_length : (name other : List ℕ) → (length name ≡ length other → ⊥) → bytes_eq name other ≡ false
 other_length name other h = grind (arith, common_steps, bytes_eq-Decides)
 
--- A look-up among the first members finds the last of them, if it has the name, and else looks
--- among those before it.
+-- A look-up among the first members finds the last of them, if it has the name, or else looks among those before it.
 pub get_member-take : (name : List ℕ) (es : List Entry) (k i : ℕ) (e : Entry) (b : Bool) → k ≡ i + 1 → i < length es
     → e ≡ slice_index_or es i e → bytes_eq name e.0.now ≡ b
     → get_member name (members_view (take k es)) ≡ cond b (Some (view e.1)) (get_member name (members_view (take i es)))

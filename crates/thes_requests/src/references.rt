@@ -69,8 +69,8 @@ fn place_in(text: &str) -> Option<u32>
     }
 }
 
-// Returns the place to which a JSON value refers, if the value is a reference. A greater place than
-// `u32::MAX` is returned as `u32::MAX`, which is beyond every plan too.
+// Returns the place to which a JSON value refers, if the value is a reference. Any place beyond
+// `u32::MAX` is returned as `u32::MAX`, which is beyond every plan.
 fn reference_in(value: &Value<'_>) -> Option<u32>
     ensures { result ≡ plan.reference_in (view value.now) }
 {

@@ -13,7 +13,7 @@ use Rattle.thes_requests.specs.declared.request.Request.{Request}
 use Rattle.thes_requests.specs.declared.request.Request.TheVariants.{Do}
 use Rattle.thes_requests.proofs.line_serving.serve_request.Goals as goal
 
--- The line of a command is served by the command's answer.
+-- Performing the command in a line, and answering with its answer or fault, serves the line.
 command_served : {S : Type 0} (d : RequestBehaviour S) (line : List ℕ) (old new : S) (command : Command)
     (given : Result Answer Fault) → IsCommandLine line command → d.performs old command given new
     → Serves d old line (command_answer given) new
