@@ -1,5 +1,5 @@
--- Proves that selecting a concept's labels by kind and language lists the texts of these labels, and that sorting their
--- terms lists these terms.
+-- Proves that selecting a concept's labels by kind and language lists the texts of these labels, and that the terms
+-- with these texts, once sorted, are listed in alphabetical order.
 use Rattle.std.proofs.Common.{◌≡◌, ◌∙◌, ◌≤◌, ◌&&◌, refl, sym, ap, subst, ℕ, List, Bool, true, false, [], ◌∷◌, map}
 use Rattle.std.proofs.Common.{filter, length, arith, eqb-true, true≢false, Ordering, Less, Equal, Contains}
 use Rattle.std.proofs.lemmas.Bool.{eq-eqb}

@@ -218,7 +218,7 @@ module _ (terms : List Term) (tops : List Child) (below : List (List Child)) (n 
           left_size = ap length g ∙ length-set left next.rank [] ∙ s.left_size;
         }
 
-    -- The invariant holds after a line away from home is written.
+    -- The invariant holds after a line that isn't at home is written.
     pub under_way_away : (text' : List ℕ) → next.at_home ≡ false → text' ≡ text ++ placed_text terms next.rank
         next.depth next.types next.at_home → IsUnderWay terms tops below text' rest left
     under_way_away text' away e =

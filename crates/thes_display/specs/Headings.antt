@@ -11,7 +11,7 @@ use Rattle.thes_core.specs.Terms.{term_text}
 use Rattle.thes_display.specs.LabelTexts.{text_cmp}
 use Rattle.thes_display.specs.declared.heading.Heading.{Heading}
 
--- The order of headings: the concepts' own before lead-in terms, then by concept, then by text.
+-- The order in which headings are collected: the concepts' own before lead-in terms, then by concept, then by text.
 abbrev pub heading_key : Heading → Heading → Ordering
 heading_key x y =
     ordering_then (nat_cmp (cond x.lead_in 1 0) (cond y.lead_in 1 0))

@@ -32,8 +32,8 @@ impl Heading {
         if self.lead_in { 1 } else { 0 }
     }
 
-    // Compares two headings: alphabetically by text, then by concept, then the term before lead-in
-    // terms.
+    // Compares two headings: by text, alphabetically, then by concept, and then by kind, with the
+    // concept's term before its lead-in terms.
     fn order(&self, other: &Heading) -> Ordering
         ensures { result ≡ heading_cmp self.now other.now }
     {

@@ -20,7 +20,7 @@ use thes_base::text::Tag;
 use thes_core::Core;
 use thes_requests::request::{Display, DisplayRequest};
 
-/// The outcome of writing a display that no fault stopped.
+/// The outcome of writing a display, unless a fault stopped it.
 #[derive(Clone, Copy, Debug, PartialEq, Eq)]
 pub enum DisplayOutcome {
     /// The whole display was written.
