@@ -429,8 +429,8 @@ fn posting_value(alloc: Global, history: &History) -> Result<Value, AllocError>
     Ok(Value::Object(members))
 }
 
-// Returns a JSON value as one compact line with a line feed; the value must have no floating-point
-// number.
+// Returns a JSON value as one compact line with a line feed. The text is specified only for a value
+// without floating-point numbers, and no view has any.
 #[tactic(auto, unfolding(crate::specs::ViewTexts::line_text))]
 pub(crate) fn value_line(alloc: Global, value: &Value) -> Result<Vec<u8>, AllocError>
     ensures { IfOk result (λ text. has_float (view value.now) ≡ false →
