@@ -41,9 +41,9 @@ fn integer_of(bytes: &[u8]) -> Option<u64>
     Some(number)
 }
 
-// Returns the value of any JSON numeral; `None` if it is too large for a float. It isn't inlined: a
-// scan needs a large stack frame, which is first filled with zeros, and a numeral of a few digits
-// would pay for that.
+// Returns the value of any JSON numeral; `None` if it is too large for a float. It isn't inlined,
+// so that a numeral of a few digits is spared the large stack frame of a scan, which is first
+// filled with zeros.
 #[inline(never)]
 fn scan_number(bytes: &[u8]) -> Option<Number>
     ensures { option_map number_view result ≡ number_of bytes.now }

@@ -33,7 +33,7 @@ pub fn perform_plan<D: RequestHandler>(
 }
 
 /// Performs the plan that was read, and returns its reply. If the text isn't a plan, performs
-/// nothing, and returns the reason as the reply.
+/// nothing, and returns a reply with the reason.
 pub fn perform_read_plan<D: RequestHandler>(
     alloc: Global,
     handler: &mut D,
