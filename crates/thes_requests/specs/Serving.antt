@@ -50,9 +50,9 @@ PerformsPlan d old plan (Ok reply) new =
     (outcome : PlanOutcome) × d.performs_plan old plan (Ok outcome) new × (reply ≡ reply_of_outcome outcome)
 PerformsPlan d old plan (Err f) new = ((f ≡ OutOfMemory) × (new ≡ old)) ⊎ d.performs_plan old plan (Err f) new
 
--- The effect of a text that is read as a plan and performed, given the JSON value of the text, and the reply to it. A
--- text that isn't a plan changes nothing. In place of the reply there may be a fault: one of the handler, or
--- `OutOfMemory` before anything is changed.
+-- The effect of serving a text as a plan, and the reply, given the JSON value of the text. A text that isn't a plan
+-- changes nothing. In place of the reply there may be a fault: one of the handler, or `OutOfMemory` before anything is
+-- changed.
 abbrev pub ServesPlan : {S : Type 0} → RequestBehaviour S → S → Option Data → Result PlanReply Fault → S → Type 0
 ServesPlan d old value (Ok (Bad f)) new = OptionReadsAs value (Err f) × (new ≡ old)
 ServesPlan d old value (Ok reply) new =
