@@ -108,8 +108,8 @@ impl Report {
         self.counts.add(outcome);
     }
 
-    /// Appends the lines of rows up to the first posting without an answer, and counts these rows;
-    /// allocates nothing.
+    /// Appends the lines of a block's rows before the first posting without an answer, and counts
+    /// these rows; allocates nothing.
     pub fn push_outcomes(&mut self, faults: &[Option<FormFault>], answers: &[Answer])
         requires room { vec_len self.old.text + LINE_LIMIT * length faults.now ≤ vec_capacity
             self.old.text }
