@@ -127,7 +127,8 @@ module _ {W K : Type 0} (contents : W → Option (List ℕ)) (view : K → Stora
     pub counts_are : counts ≡ counts_of outcomes
     pub writes : WritesWhole contents old new (outcomes_text outcomes)
 
-  -- The import of a file whose bytes were read.
+  -- The import of a file whose bytes were read: of all its rows; of none, since it has no header; or of the rows before
+  -- a fault.
   abbrev pub ImportsBytes : List ℕ → Result ImportEnd ImportStop → Type 0
   ImportsBytes file (Ok (ended.Rows counts)) = ImportsRows file counts
   ImportsBytes file (Ok ended.Malformed) = HasNoHeader file × (after ≡ before) × (new ≡ old)
