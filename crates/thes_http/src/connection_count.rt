@@ -1,4 +1,4 @@
-//! A listener's connections, one after another, and the number of those that are done with.
+//! A listener's connections, one after another, and the number of those that are finished.
 ghost use Rattle.std.specs.Prelude.{◌≡◌, ◌≢◌, ◌+◌, ◌<◌, ◌⊎◌, IfOk, MatchOption};
 ghost use Rattle.thes_http.specs.Server.{IsAcceptOutcome, cloned_ends};
 
@@ -9,10 +9,11 @@ use std::marker::Model;
 use std::net::{Net, OpenListener, OpenStream, SocketAddr};
 use std::rt::Clock;
 
-/// The number of connections that were accepted and served; one that its client closed before it
-/// was accepted, or whose stream can't be cloned, counts as well. Contracts see the number alone,
-/// which can't be copied or set: only an accept that yields no stream, and closing a stream that
-/// was served, raise it. So a server that drops its streams doesn't reach the number asked for.
+/// The number of connections that were accepted and served; a connection that its client closed
+/// before it was accepted, or whose stream can't be cloned, counts as well. Contracts see the
+/// number alone, which can't be copied or set: only an accept that yields no stream, and closing a
+/// stream that was served, raise it. So a server that drops its streams doesn't reach the number
+/// asked for.
 #[derive(Drop)]
 pub struct ConnectionCount {
     count: u32,
@@ -53,7 +54,7 @@ fn ends_of<T: Drop>(stream: T, clone: io::Result<T>) -> Option<Ends<T>>
 }
 
 impl ConnectionCount {
-    /// Returns the number before the first connection.
+    /// Returns the number before the first connection, 0.
     pub fn new() -> ConnectionCount
         ensures { result ≡ 0 }
     {

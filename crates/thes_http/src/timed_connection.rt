@@ -120,7 +120,8 @@ pub(crate) fn close_stream<C: Clock, T: Read + OpenStream + Drop>(
     clock: &C,
     served: ServedStream<'_, C, T>,
 ) {
-    // Else an early answer would be lost while the client still sends (DECISIONS.md, HTTP).
+    // Otherwise a response that is written while the client still sends would be lost
+    // (DECISIONS.md, HTTP).
     if served.end.is_answered() {
         drain_input(clock, served.reader.into_device().into_stream());
     }
