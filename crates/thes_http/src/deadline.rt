@@ -107,15 +107,15 @@ impl<'a, C: Clock, T> TimedStream<'a, C, T> {
         self.start = Some(start);
         match time_left(time_allowed(self.bytes), now.duration_since(start)) {
             Some(left) => Ok(wait_within(left)),
-            // The read or write fails as with any other error, since the contracts of a connection
-            // know no clock (DECISIONS.md, HTTP).
+            // An ordinary error of the read or write, since no contract of a connection mentions a
+            // clock (DECISIONS.md, HTTP).
             None => Err(io::Error::from(ErrorKind::TimedOut)),
         }
     }
 }
 
-/// Reads within the client's time: `TimedOut` once that is over, `Interrupted` if only the wait for
-/// one read was.
+/// Reads within the client's time. Fails with `TimedOut` once that is over, and with `Interrupted`
+/// when a single wait ends, so that the caller tries again.
 impl<C: Clock, T: Read + OpenStream> Read for TimedStream<'_, C, T> {
     ghost remaining = { λ s. T.remaining s.stream };
 
@@ -132,8 +132,8 @@ impl<C: Clock, T: Read + OpenStream> Read for TimedStream<'_, C, T> {
     }
 }
 
-/// Writes within the client's time: `TimedOut` once that is over, `Interrupted` if only the wait
-/// for one write was.
+/// Writes within the client's time. Fails with `TimedOut` once that is over, and with `Interrupted`
+/// when a single wait ends, so that the caller tries again.
 impl<C: Clock, T: Write + OpenStream> Write for TimedStream<'_, C, T> {
     ghost contents = { λ s. T.contents s.stream };
 
