@@ -165,7 +165,7 @@ module _ {S : Type 0} (g : Ghosts S) where
             holds_after = closing.leaves end.same schema end.tables end.keeps;
           }
 
-      -- Work over the store of files, and the closing of its database, leave the store in the files.
+      -- After work over a store in files, closing its database leaves the store after the work in the files.
       pub works_to_closing : (closed : Closed C) → ClosesLeft g is_clean holds left None closed
           → WorksToClosing given remaining out err g image is_clean holds job old status closed new
       works_to_closing closed closes = record {

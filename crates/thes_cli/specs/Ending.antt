@@ -1,4 +1,4 @@
--- The end of a script, and the lines of sizes and of counts.
+-- The exit status of a script, and the lines of a store's sizes and of an import's counts.
 use Rattle.std.specs.Prelude.{◌++◌, ℕ, List, Bool, if◌then◌else◌, Option, Some, None, option_map}
 use Rattle.std.specs.Prelude.{Result, Ok, Err, codes, decimal}
 use Rattle.thes_base.specs.declared.fault.PipeFault.{PipeFault}
