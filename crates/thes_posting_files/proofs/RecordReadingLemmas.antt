@@ -17,7 +17,7 @@ use Rattle.csv.proofs.ReadFacts.{rows-end, rows-more}
 use Rattle.thes_posting_files.specs.PostingFile.{HasNoHeader, header}
 use Rattle.thes_posting_files.specs.RecordReading.{HasReadTo, TakesRecord, most_left, most_records}
 
--- The share of the end of the text in the bound on the records left: one if it may end a record.
+-- The contribution of the end of the text to the bound on the records left: one if it may end a record.
 
 abbrev flag : Bool → ℕ
 flag b = if b then 1 else 0

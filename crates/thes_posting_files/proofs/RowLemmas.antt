@@ -67,7 +67,7 @@ record_name bs =
     (both (at_most 1 (length bs)) (both (at_most (length bs) 128)
     (all IsPrintable (λ b. both (at_most space b) (other_than b delete)) bs)))
 
--- Whether a text is a resource's number is decided by its value, the only number that it can be a numeral of.
+-- Whether a text is the numeral of a resource's number is decided by its value, the only number that it can state.
 numeral : (bs : List ℕ) → Decided ((n : ℕ) × IsNumber n × IsNumeral bs n)
 numeral bs =
     decided_by (λ p. (digits_value 10 bs, p.0, (p.1.0, refl, p.1.1)))

@@ -14,7 +14,7 @@ pub record HasReadAhead (bytes : List ℕ) (records : List (List (List ℕ))) (r
   pub more : reader.has_more ≡ true → HasReadTo bytes (records ++ fields_of reader.next ∷ []) reader.records
   pub none : reader.has_more ≡ false → HasRecords bytes records
 
--- The posting file has the rows `rows`, of which the rows `first` were read, and one record ahead.
+-- The posting file has the rows `rows`, of which the first ones, `first`, were read, and one record ahead.
 pub record HasReadRows (bytes : List ℕ) (rows first : List CsvRow) (reader : RowReader) : Type 0 where
   pub file : IsPostingFile bytes rows
   pub fits : length rows < 2 ^ 64

@@ -10,7 +10,7 @@ use std::alloc::{AllocError, Global};
 use thes_base::fault::FormFault;
 use thes_base::request::Answer;
 
-/// The numbers of rows of a posting file that were performed, by outcome.
+/// The numbers of rows that an import has performed so far, by outcome.
 #[derive(Clone, Copy, Debug, PartialEq, Eq)]
 pub struct Counts {
     /// Rows that added a posting.
