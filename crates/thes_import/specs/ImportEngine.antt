@@ -36,7 +36,7 @@ module _ {W : Type 0} (contents : W → Option (List ℕ)) (old new : Pipe W) wh
     pub appends_text : Appends (written_bytes contents old) (written_bytes contents new) text
     pub not_failed : failed_of new ≡ false
 
-  -- The fault of a writer: `Write` if its device failed, `TooLong` if a write was denied.
+  -- The fault of a writer: `Write` if its device failed, `TooLong` if a write was denied because no budget was left.
   abbrev pub IsWriterFault : PipeFault → Type 0
   IsWriterFault Write = failed_of new ≡ true
   IsWriterFault TooLong = (failed_of new ≡ false) × (denied_of new ≡ true)
