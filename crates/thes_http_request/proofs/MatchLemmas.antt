@@ -244,7 +244,7 @@ module _ {K : Type 0} where
       let after : seek (length v) left v ≡ None = rw (s, l, h, one_less (length v)) at (none_param rs b v e) in
       sym (seek_skip v left []) ∙ (ap (seek (length v) left) (append-nil v) ∙ after)
 
-  -- If no route matches a path, then of those whose parameter ends at its first slash, none matches the path from this
+  -- If no route matches a path, no route whose parameter ends at the path's first slash matches the path from that
   -- slash on.
   pub none_suffix : (rs left : RowsOf K) (b : ℕ) (v rest : List ℕ) → step param_token rs ≡ left
       → longest_suffix (segment (b ∷ (v ++ slash ∷ rest))) left ≡ slash ∷ []

@@ -90,8 +90,8 @@ fn read_more<R: Read>(
     }
 }
 
-/// Reads a body of `count` bytes into an empty buffer. The body begins with `start`, the bytes that
-/// were read with the head; only the others are read from the connection.
+/// Reads a body of `count` bytes into an empty buffer. Its first bytes are taken from `start`,
+/// which was read with the head; only the others are read from the connection.
 ///
 /// The buffer grows with the bytes that arrive, not with the length announced.
 pub fn read_body<R: Read>(
