@@ -30,7 +30,7 @@ IsAcceptOutcome (Err e) result =
     (error_kind e ≡ ConnectionAborted → result ≡ Ok None)
     × (¬ (error_kind e ≡ ConnectionAborted) → result ≡ Err e)
 
--- The two ends of a connection, given its stream and the clone of it; None if it can't be cloned.
+-- The two ends of a connection, given its stream and the clone of its stream; None if the stream couldn't be cloned.
 abbrev pub cloned_ends : {T : Type 0} → T → Result T Error → Option (Ends T)
 cloned_ends stream (Ok input) = Some (record { input = input; output = stream })
 cloned_ends stream (Err e) = None

@@ -27,8 +27,8 @@ impl Model for ConnectionCount {
     ghost view = { λ connections. connections.count };
 }
 
-// Returns the stream of an accept, or `None` if the client closed its connection before it was
-// accepted; any other error is final.
+// Returns the stream of an accepted connection, or `None` if the client closed the connection
+// before it was accepted; returns any other error.
 fn accepted_stream<T: Drop>(accept: io::Result<(T, SocketAddr)>) -> io::Result<Option<T>>
     ensures { IsAcceptOutcome accept result }
 {
@@ -39,8 +39,8 @@ fn accepted_stream<T: Drop>(accept: io::Result<(T, SocketAddr)>) -> io::Result<O
     }
 }
 
-// Returns the two ends of a connection, given its stream and the clone of it, or `None` if it can't
-// be cloned.
+// Returns the two ends of a connection, given its stream and the clone of its stream, or `None` if
+// the stream couldn't be cloned.
 fn ends_of<T: Drop>(stream: T, clone: io::Result<T>) -> Option<Ends<T>>
     ensures { result ≡ cloned_ends stream clone }
 {

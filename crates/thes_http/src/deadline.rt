@@ -107,8 +107,8 @@ impl<'a, C: Clock, T> TimedStream<'a, C, T> {
         self.start = Some(start);
         match time_left(time_allowed(self.bytes), now.duration_since(start)) {
             Some(left) => Ok(wait_within(left)),
-            // An ordinary error of the read or write, since no contract of a connection mentions a
-            // clock (DECISIONS.md, HTTP).
+            // The time-out is an ordinary error of the read or write, since no contract of a
+            // connection mentions a clock (DECISIONS.md, HTTP).
             None => Err(io::Error::from(ErrorKind::TimedOut)),
         }
     }

@@ -115,7 +115,7 @@ fn has_waited(kind: ErrorKind) -> bool
     )
 }
 
-/// Closes a connection; if the response was written, it first discards what the client still sends.
+/// Closes a connection. If the response was written, first discards what the client still sends.
 pub(crate) fn close_stream<C: Clock, T: Read + OpenStream + Drop>(
     clock: &C,
     served: ServedStream<'_, C, T>,
