@@ -49,7 +49,7 @@ module _ {K : Type 0} (view : K → StorageView) (takes : Bool) where
       → Shows old
   shows_of setting s old x up = (setting.base, s, x, legal_is_consistent setting.base s x.legal)
 
-  -- The exchanges before the last one.
+  -- The exchanges of an office are those before the last one, and then the last one.
   earlier : (setting : Setting) (s : State) (old new : OfficeView K) (e : Exchange) (exchanges : List Exchange)
       → (x : ExchangesInState view takes setting s old (e ∷ exchanges) new)
       → (mid : OfficeView K) × ExchangesInState view takes setting s old exchanges mid

@@ -61,7 +61,7 @@ module _ (setting : Setting) where
   ImportAnswers s file answer t =
       (done : Option Report) × IsImportOf setting s file done t × (Ok answer ≡ import_answer (Ok done))
 
-  -- The machine as a service, which takes plans or doesn't; of a call that fails, the state after it isn't stated.
+  -- The machine as a service, which takes plans or doesn't; the state after a call that fails isn't specified.
   abbrev pub machine_service : Bool → ServiceBehaviour State
   machine_service takes = record {
     requests = record {
