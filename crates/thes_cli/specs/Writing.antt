@@ -1,4 +1,4 @@
--- The effect of a command that writes the state that the tables of a store encode, in some form.
+-- The effect of a command that writes, in some form, the state that the tables of a store encode.
 use Rattle.std.specs.Prelude.{◌≡◌, ℕ, List, Result, Ok, Err}
 use Rattle.thes_base.specs.Pipe.{KeepsCallLimit}
 use Rattle.thes_base.specs.State.{State}
