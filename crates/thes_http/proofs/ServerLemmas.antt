@@ -10,7 +10,7 @@ use Rattle.thes_http.specs.ServiceBehaviour.{ServiceBehaviour}
 use Rattle.thes_http.specs.Serving.{Answers}
 
 module _ {S : Type 0} (d : ServiceBehaviour S) where
-  -- A state leads to itself by no exchange.
+  -- Without an exchange, a state leads to itself.
   pub leads_nowhere : (most : ℕ) (old new : S) → new ≡ old → LeadsBy d most old new
   leads_nowhere most old new same = record { exchanges = []; few = omega arith; answered = same }
 
