@@ -330,7 +330,7 @@ module _ (rs : List Resource) (hs : List History) (passes : History → Bool) (t
           (at ∙ is_k) m)
       new_has k i h new hit is_k (inr (miss, is)) = absurd (cc)
 
-      -- Each number up to the count belongs to a move.
+      -- After the moves, each number from 1 to the count of all moves belongs to a move.
       reached_at : (k : ℕ) → 1 ≤ k → k ≤ move_count moved_all → (n : ℕ) × (h : History)
           × (entry_at moved_all n ≡ Some h) × HasMove k h.moves
       reached_at k least most = elim (cases_lt (move_count hs) k) [

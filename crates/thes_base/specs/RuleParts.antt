@@ -118,7 +118,7 @@ unless_split_postings histories source postings rest =
     (refused_unless (EachListed (IsPlacedAt histories source) postings) no.NotAtSource
     rest)))
 
--- Refuses unless the number is that of a posting not withdrawn.
+-- Refuses unless the number is that of a posting that isn't withdrawn.
 abbrev pub unless_assigned : List History → Number → RefusalRule → RefusalRule
 unless_assigned histories posting rest =
     refused_unless (IsKnownPosting histories posting) no.UnknownPosting
