@@ -76,8 +76,8 @@ once_push (y ∷ xs) x new once = (
   once_push xs x (λ h. new (inr h)) once.1,
 )
 
--- If the rows are a listing of `Has`, they are, with an element appended, a listing of `More`, which holds of that
--- element and of those that have `Has`.
+-- If the rows are a listing of `Has`, the rows with an element appended are a listing of `More`, which holds of exactly
+-- this element and those with `Has`.
 pub lists_push : {K : Type 0} {Has More : K → Type 0} (rows : List K) (k : K) → (Has k → ⊥)
     → ((q : K) → More q → (q ≡ k) ⊎ Has q) → More k → ((q : K) → Has q → More q) → IsUnsortedListing Has rows
     → IsUnsortedListing More (rows ++ k ∷ [])
@@ -226,8 +226,8 @@ module _ {K : Type 0} {R : K → K → Ordering} (o : IsTotalOrder R) (exact : I
   coming_absent [] s = tt
   coming_absent (k ∷ ks) s = grind (arith, common_steps, coming_absent ks s, coming_absent ks (set.insert s k))
 
-  -- If the rows are a listing of `Has`, they are, without an element, a listing of `Less`, which holds of all others
-  -- that have `Has`.
+  -- If the rows are a listing of `Has`, the rows without an element are a listing of `Less`, which holds of all other
+  -- elements with `Has`.
   pub lists_drop : {Has Less : K → Type 0} (rows : List K) (k : K) → ((q : K) → Less q → (q ≡ k → ⊥) × Has q)
       → ((q : K) → (q ≡ k → ⊥) → Has q → Less q) → IsUnsortedListing Has rows
       → IsUnsortedListing Less (without_row R k rows)
