@@ -31,7 +31,7 @@ once_parts {A} test (x ∷ xs) those others = grind (arith, common_steps, once_p
 broader_kind : (kind : LinkKind) → (link_kind_no kind == 1) ≡ true → kind ≡ kinds.Broader
 broader_kind kind e = grind (arith, common_steps)
 
--- A kind that isn't hierarchical has one of the numbers 1 to 8 of version 1, but not 1.
+-- A kind that isn't hierarchical has a number from 2 to 8, so version 1 has it too.
 plain_kind : (kind : LinkKind) → hier_type kind ≡ None → (not (link_kind_no kind == 1) ≡ true) × (link_kind_no kind ≤ 8)
 plain_kind kind e = grind (arith, common_steps)
 

@@ -26,7 +26,7 @@ row_after_withdrawal row = record row { withdrawn = true }
 abbrev pub row_at_place : ℕ → PostingRow → PostingRow
 row_at_place place row = record row { place = place }
 
--- The row of a posting after all postings assigned to the source are assigned to the target; that of a withdrawn
+-- The row of a posting after all postings assigned to the source are assigned to the target; the row of a withdrawn
 -- posting is unchanged.
 abbrev pub row_after_move_all : ℕ → ℕ → PostingRow → PostingRow
 row_after_move_all source target row = if not row.withdrawn && row.place == source then row_at_place target row else row
