@@ -24,7 +24,7 @@ use Rattle.thes_plans.specs.Resolving.{resolved_command, resolved_commands, reso
 use Rattle.thes_plans.proofs.PlanLawLemmas.{forms_stay, run_legal}
 use Rattle.thes_plans.proofs.PlanLemmas.{refused_stays}
 
--- The commands of a plan, as far as there are answers, don't depend on the requests without answers.
+-- The resolved commands of the requests that have answers don't depend on the requests after them.
 resolved_front : (before : List Answer) (plan : List PlanRequest) (answers : List Answer)
     → resolved_commands before (take (length answers) plan) answers ≡ resolved_commands before plan answers
 resolved_front before [] [] = refl

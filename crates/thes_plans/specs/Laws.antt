@@ -23,7 +23,7 @@ pub record HasNoReferences (asked : PlanRequest) : Type 0 where
   pub second : asked.second ≡ None
   pub postings : asked.postings.items ≡ []
 
--- The outcome is that of a plan of one request, if the request gets this answer.
+-- A plan of one request has this outcome if the request gets this answer.
 abbrev pub IsOutcomeOfAnswer : PlanOutcome → Answer → Type 0
 IsOutcomeOfAnswer (Done answers) answer = (answers.items ≡ answer ∷ []) × IsNoRefusal answer
 IsOutcomeOfAnswer (Refused place refusal) answer = (place ≡ 1) × (answer ≡ reply.No refusal)

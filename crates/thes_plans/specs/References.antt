@@ -22,7 +22,7 @@ MakesPosting (request.Post key rec concept) = Unit {0}
 MakesPosting _ = ⊥
 
 -- The commands to which the reference `first` of this command may lead: those that make a posting if this one is a
--- Withdraw, whose first number is a posting's, or else those that create a resource.
+-- Withdraw, whose first number belongs to a posting, or else those that create a resource.
 abbrev pub MakesFirst : Command → Command → Type 0
 MakesFirst (request.Withdraw posting) = MakesPosting
 MakesFirst _ = MakesResource
@@ -53,7 +53,7 @@ pub record IsFirstBadReference (plan : List PlanRequest) (place : Number) : Type
   pub good_before : AreGoodReferences (take index plan)
   pub bad : ¬ HasGoodReferences (take index plan) asked
 
--- The place of the first request with a reference that isn't good; None if all are.
+-- The place of the first request with a reference that isn't good; None if all references are good.
 abbrev pub FirstBadReference : List PlanRequest → Option ℕ → Type 0
 FirstBadReference plan None = AreGoodReferences plan
 FirstBadReference plan (Some place) = IsFirstBadReference plan place

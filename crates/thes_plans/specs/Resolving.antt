@@ -66,7 +66,7 @@ resolved_command answers asked =
     with_numbers (resolved_number answers asked.first) (resolved_number answers asked.second)
     (resolved_numbers answers asked.postings.items) asked.command
 
--- The commands of a plan, as far as there are answers: each resolved by the answers to those before it. `before` are
+-- The commands of the requests that have answers, each resolved by the answers to the requests before it. `before` are
 -- the answers to the requests before the list.
 abbrev pub resolved_commands : List Answer → List PlanRequest → List Answer → List Command
 resolved_commands before [] answers = []

@@ -76,7 +76,7 @@ fn has_good_first(earlier: &[PlanRequest], asked: &PlanRequest) -> bool
 }
 
 // Returns whether each reference of the request is to an earlier request that creates a resource
-// or, where the number is a posting's, makes or finds a posting.
+// or, for the number of a posting, makes or finds a posting.
 fn has_good_references(earlier: &[PlanRequest], asked: &PlanRequest) -> bool
     ensures { IsTrue result ↔ HasGoodReferences earlier.now asked.now }
 {
@@ -89,8 +89,8 @@ fn has_good_references(earlier: &[PlanRequest], asked: &PlanRequest) -> bool
 }
 
 /// Returns the place (from 1) of the first request of a plan with a bad reference; `None` if all
-/// references are good. A good reference is to an earlier request that creates a resource or, where
-/// the number is a posting's, makes or finds a posting.
+/// references are good. A good reference is to an earlier request that creates a resource or, for
+/// the number of a posting, makes or finds a posting.
 #[tactic(auto, using(crate::proofs::ReferenceLemmas::good_empty))]
 pub fn first_bad_reference(plan: &[PlanRequest]) -> Option<usize>
     ensures { FirstBadReference plan.now result }
