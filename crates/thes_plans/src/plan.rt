@@ -9,7 +9,8 @@ pub const REQUEST_LIMIT: usize = 128;
 /// make.
 #[derive(Debug, Drop)]
 pub struct PlanRequest {
-    /// The command. Each number of it that has a reference is replaced when the plan is performed.
+    /// The command. If one of its numbers has a reference below, that number is replaced when the
+    /// plan is performed.
     pub command: Command,
     /// The place (from 1) of the request that makes the resource or posting for the command's first
     /// number; `None` if that number stays.
