@@ -43,7 +43,7 @@ pub struct Pipe<T> {
     failed: bool,
     ended: bool,
     denied: bool,
-    // The number of reads and writes, which saturates.
+    // The number of reads and writes, which saturates at `u64::MAX`.
     calls: u64,
 }
 

@@ -43,8 +43,8 @@ pub enum Change {
     AddMove(MoveRow),
 }
 
-/// No effect; states for the proof that the changes of a request that a legal state accepts turn
-/// that state's rows into those of the next.
+/// No effect; states for the proof that the changes of a request that is accepted in a legal state
+/// turn the rows of that state into those of the next state.
 pub fn changes_lead()
     ensures { ChangesLead }
 {}
