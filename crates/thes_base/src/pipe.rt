@@ -52,7 +52,7 @@ pub struct Pipe<T> {
 pub enum Stop {
     /// The device failed to read or to write.
     Failed,
-    /// The budget of reads and writes was used up.
+    /// The budget of reads and writes was used up, or the input, or a line of it, is too long.
     TooLong,
 }
 
