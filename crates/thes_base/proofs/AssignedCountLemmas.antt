@@ -44,7 +44,7 @@ module _ (test : ℕ → Bool) (p : ℕ) where
       ap (λ b. sum_by (one_at p) (cond b (first ∷ filter test (numbers_from (first + 1) n))
       (filter test (numbers_from (first + 1) n)))) e
 
-  -- A range that begins above p doesn't have it.
+  -- A range of numbers that begins above p doesn't have p.
   hits_none : (first n : ℕ) → p < first → hits first n ≡ 0
   hits_none first zero h = refl
   hits_none first (suc n) h =
@@ -53,7 +53,7 @@ module _ (test : ℕ → Bool) (p : ℕ) where
       ⊎_elim (λ (e : test first ≡ true). let a = hits_yes first n e in omega (arith, a, miss, ih))
       (λ (e : test first ≡ false). hits_no first n e ∙ ih) (cases_Bool (test first))
 
-  -- A range that includes p has it exactly once among the numbers that pass the test, if p passes it.
+  -- If a range of numbers includes p, and p passes the test, p occurs once among the numbers that pass it.
   hits_once : (first n : ℕ) → first ≤ p → p < first + n → test p ≡ true → hits first n ≡ 1
   hits_once first zero l u t = absurd (omega arith)
   hits_once first (suc n) l u t = elim (cases_Bool (eqb p first)) [
@@ -80,7 +80,7 @@ within_numbers rs (suc n) e = (omega arith, let h = below rs n e in omega arith)
     below (r ∷ rs) zero e = omega arith
     below (r ∷ rs) (suc n) e = let h = below rs n e in omega arith
 
--- A posting adds one to the count of its place or, if it is withdrawn, to the withdrawn postings.
+-- A posting adds one to the count of its place or, if it is withdrawn, to the number of withdrawn postings.
 one_history : (rs : List Resource) (h : History) → (h.withdrawn ≡ false → is_live_concept rs (place h) ≡ true)
     → sum_by (λ c. cond (is_assigned_to c h) 1 0) (live_concepts rs) + cond h.withdrawn 1 0 ≡ 1
 one_history rs h live = elim (cases_Bool h.withdrawn) [

@@ -1,4 +1,4 @@
--- If histories are legal, each posting is assigned to the live concept to which its moves lead.
+-- If histories are legal, each posting that isn't withdrawn is assigned to the live concept to which its moves lead.
 use Rattle.std.proofs.Common.{◌≡◌, ℕ, suc, List, [], ◌∷◌, refl, true, false}
 use Rattle.std.specs.Prelude.{Some, slice_get}
 use Rattle.thes_base.specs.declared.data.History.{History}

@@ -1,4 +1,4 @@
--- A merge gives the target lexical labels of the source, and leaves the labels legal.
+-- A merge gives the target copies of lexical labels of the source, and leaves the labels legal.
 use Rattle.std.proofs.lemmas.Grind.{common_steps}
 use Rattle.std.proofs.Common.{arith}
 use Rattle.std.proofs.Common.{◌≡◌, ◌⊎◌, ℕ, List, [], refl, sym, ap, ◌∙◌, subst, inl, inr, Bool, true, false, not}
@@ -43,7 +43,7 @@ module _ (rs : List Resource) (labels : Labels) (source target : ℕ) where
     pub name : is_lexical_kind l.kind ≡ true
     pub free : has_lexical_label labels target l.tag l.text ≡ false
 
-  -- Tests whether a merge copies the label to the target.
+  -- Whether a merge copies the label to the target.
   abbrev takes : Label → Bool
   takes l = l.owner == source && (is_lexical_kind l.kind && not (has_lexical_label labels target l.tag l.text))
 

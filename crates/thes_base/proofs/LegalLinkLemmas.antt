@@ -67,7 +67,7 @@ module _ (Few Many : Link → Type 0) (each : (l : Link) → Few l → Many l) w
             (joined_more disjoint_direction x y apart);
       }
 
--- A link stays legal if the resources change, but keep at its ends what a link requires.
+-- A link stays legal when resources change, if its ends keep the properties that a legal link requires of them.
 module _ (rs new : List Resource) (l : Link) where
   pub record StaysAt (n : ℕ) : Type 0 where
     pub concept : IsConcept rs n → IsConcept new n

@@ -118,7 +118,7 @@ module _ (rs : List Resource) (hs : List History) (key rec : List ℕ) (concept 
             (let q = grown in omega (arith, most, q)),
       )
 
-      -- The number of an old move isn't that of a new move.
+      -- No old move has the number of a new move.
       apart : (k n : ℕ) (h : History) → entry_at hs n ≡ Some h → HasMove k h.moves → HasMove k new.moves → ⊥
       apart k n h e old more =
           let below = has_all (λ m. m.number ≤ move_count hs) (λ q. q ≤ move_count hs) (λ m l. l) k h.moves
@@ -330,7 +330,7 @@ module _ (rs : List Resource) (hs : List History) (passes : History → Bool) (t
           (at ∙ is_k) m)
       new_has k i h new hit is_k (inr (miss, is)) = absurd (cc)
 
-      -- Each number up to the count belongs to a move.
+      -- After the moves, each number from 1 to the count of all moves belongs to a move.
       reached_at : (k : ℕ) → 1 ≤ k → k ≤ move_count moved_all → (n : ℕ) × (h : History)
           × (entry_at moved_all n ≡ Some h) × HasMove k h.moves
       reached_at k least most = elim (cases_lt (move_count hs) k) [
@@ -345,8 +345,8 @@ module _ (rs : List Resource) (hs : List History) (passes : History → Bool) (t
             (r.0, f.0, f.1, kept_has k (r.0 - 1) r.1 f.0 f.2 r.3)
       ]
 
-      -- The number of a move in the new histories is that of an old move, or of the new move of a posting that passes
-      -- the test.
+      -- Each move in the new histories has the number of an old move, or of the new move of a posting that passes the
+      -- test.
       whose : (k n : ℕ) (new : History) → entry_at moved_all n ≡ Some new → HasMove k new.moves
           → ((h : History) × (entry_at hs n ≡ Some h) × HasMove k h.moves)
           ⊎ ((i : ℕ) × (n ≡ suc i) × (h : History) × (slice_get hs i ≡ Some h) × (passes h ≡ true)

@@ -289,7 +289,7 @@ module _ (base : List ℕ) (rs : List Resource) (iris : Iris) (n : ℕ) (rep : O
       first x [] y one = (y, one)
       first x (z ∷ zs) y path = (z, path.0)
 
-      -- A path that a further step continues was a path before the death.
+      -- A path of replacements that a further replacement continues was already a path before the death.
       old_path : (x : ℕ) (zs : List ℕ) (y : ℕ) → Path (IsReplacedBy (set_entry_at rs n (resource_after_death rep r))) x
           zs y → (z : ℕ)
           × IsReplacedBy (set_entry_at rs n (resource_after_death rep r)) y z → Path (IsReplacedBy rs) x zs y

@@ -21,7 +21,7 @@ len_grows : (links : Links) (l : Link) → (set.len links ≤ set.len (set.inser
     × (set.len (set.insert links l) ≤ set.len links + 1)
 len_grows links l = grind (arith, common_steps, cases_Bool, len_new, len_old)
 
--- The set of the images of those links of a list that pass a test.
+-- The links of a list that pass a test are mapped by `send`, and collected in a set, the image of the list.
 module _ (passes : Link → Bool) (send : Link → Link) where
   abbrev image : List Link → Links
   image ls = set.from_list (map send (filter passes ls))
@@ -59,7 +59,7 @@ module _ (passes : Link → Bool) (send : Link → Link) where
             ]
       ]
 
--- The set of a set's items is that set.
+-- The set made of the items of a set of links is that set again.
 listed_again : (links : Links) → set.from_list (set.items links) ≡ links
 listed_again links = set.same_set links_total links_exact _ _
     (λ q. set.contains-from_list links_total (set.items links) q ∙ sym (set.contains-items links q))

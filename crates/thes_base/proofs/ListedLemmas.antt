@@ -72,7 +72,7 @@ module _ (n : ℕ) where
       let at = from.0 in
       count_miss h hs (ne_eqb n h.number (omega (arith, at))) ∙ count_above (first + 1) hs from.1 (omega arith)
 
-  -- Each number of the range is that of exactly one history.
+  -- Each number of the range belongs to exactly one history.
   count_once : (first : ℕ) (hs : List History) → NumberedFrom first hs → first ≤ n → n < first + length hs
       → count_by has_number hs ≡ 1
   count_once first [] from least most = absurd (omega arith)

@@ -41,7 +41,7 @@ find_some {A} test (y ∷ ys) x h e = go (λ later. find_some test ys x later e)
     go again (inr later) (inr miss) = let next = again later in
         (next.0, ap (λ b. cond b (Some y) (find test ys)) miss ∙ next.1)
 
--- The text that is found is that of a preferred label of the owner.
+-- If the look-up finds a text, the owner has it as a preferred label in the tag.
 pub preferred_found : (labels : Labels) (owner : ℕ) (tag text : List ℕ) → preferred_label_in labels owner tag
     ≡ Some text → HasLabel labels owner Pref tag text
 preferred_found labels owner tag text e = go (find (is_preferred_label_in owner tag) (set.items labels)) refl e
@@ -52,7 +52,7 @@ preferred_found labels owner tag text e = go (find (is_preferred_label_in owner 
     kind_one Hidden e = absurd (cc)
     kind_one Scope e = absurd (cc)
 
-    -- The label that is found is in the set.
+    -- If the search finds a label, the owner has its text as a preferred label in the tag.
     go : (o : Option Label) → find (is_preferred_label_in owner tag) (set.items labels) ≡ o
         → option_map (λ (l : Label). l.text) o ≡ Some text → HasLabel labels owner Pref tag text
     go None is e = absurd (cc)

@@ -35,7 +35,7 @@ module _ (base : List ℕ) (s : State) (apart : (m n : ℕ) → Exists s.resourc
   holds : UniquePreferred s.resources s.labels → skos.MeetsUniquePreferred T
   holds unique = record { one = λ x y scheme tag text cx cy hx hy. go x y scheme tag text cx cy hx hy }
     where
-      -- The IRIs of a current concept and its scheme are those of a live concept and its scheme.
+      -- The IRIs of a current concept and its scheme belong to a live concept and its scheme.
       current : (x scheme : List ℕ) → skos.IsCurrentConcept T x scheme → (n : ℕ) × (m : ℕ) × IsLiveConcept s.resources
           n × (scheme_of s.resources n ≡ Some m) × Exists s.resources m × (x ≡ iri n) × (scheme ≡ iri m)
       current x scheme c = at c.concept c.within

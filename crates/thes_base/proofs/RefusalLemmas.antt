@@ -349,7 +349,7 @@ known_listed : (histories : List History) (postings : List ℕ) → EachListed (
 known_listed histories [] each = tt
 known_listed histories (n ∷ ns) each = ((each.0.0, each.0.1), known_listed histories ns each.1)
 
--- The refusals of these requests can be read off the triples after them.
+-- The law on the triples after a request, for new concepts, labels, relabellings, links, merges and splits.
 pub refusals_match_triples : RefusalsMatchTriples
 refusals_match_triples setting s legal = record {
   concept = λ scheme tag text is. by_concept setting s legal scheme tag text (inr ((is.0, is.1), inr (is, refl)));

@@ -4,7 +4,7 @@ use Rattle.std.specs.Prelude.{Option, None, Some}
 use Rattle.thes_base.specs.declared.fault.Refusal.{Refusal}
 use Rattle.thes_base.specs.RefusalRules.{Check, ◌when◌, ◌unless◌, ◌for_some◌, IsFirstRefusal}
 
--- Each check that names a number holds for at most one number.
+-- For each check that names a number, the condition holds for at most one number.
 abbrev pub GiveOneAnswer : List Check → Type 0
 GiveOneAnswer [] = Unit {0}
 GiveOneAnswer (name when sentence ∷ checks) = GiveOneAnswer checks

@@ -1,4 +1,4 @@
--- A language tag is split at its hyphens, and its lower case is a tag.
+-- A language tag is split at its hyphens, and is also a tag in lower case.
 use Rattle.std.proofs.lemmas.Grind.{common_steps}
 use Rattle.std.specs.Prelude.{IsTrue, MatchBool, ◌≡◌, ℕ, ◌≤◌, ◌<◌, ◌==◌, ◌↔◌, Bool, true, false, cond, List, [], ◌∷◌}
 use Rattle.std.specs.Prelude.{length, map, All, refl}

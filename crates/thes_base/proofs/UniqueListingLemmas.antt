@@ -27,7 +27,7 @@ module _ {X : Type 0} {cmp : X → X → Ordering} (o : IsTotalOrder cmp) where
       → AllByRecursion (λ z. cmp y z ≡ Less) ys → Contains (y ∷ ys) x → Contains (x ∷ xs) y → x ≡ y
   same_head x y xs ys below above c d = grind (arith, common_steps, Contains-cons_cases, each_of, not_both)
 
-  -- If two sorted lists begin with the same member, a later member of one isn't the first of the other.
+  -- If two sorted lists begin with the same member, a later member of one that the other has is a later member there.
   kept : (x y : X) (xs ys : List X) → x ≡ y → AllByRecursion (λ z. cmp x z ≡ Less) xs → (z : X) → Contains xs z
       → Contains (y ∷ ys) z → Contains ys z
   kept x y xs ys same below z c d = grind (arith, common_steps, Contains-cons_cases, each_of, not_below_itself)

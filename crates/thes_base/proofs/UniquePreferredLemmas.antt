@@ -16,7 +16,7 @@ use Rattle.thes_base.proofs.NumberedLemmas.{push_old, push_new, push_cases, numb
 abbrev Owners : List Resource → Labels → Type 0
 Owners rs labels = (l : Label) → contains labels l ≡ true → (1 ≤ l.owner) × (l.owner ≤ length rs)
 
--- A preferred label after a creation is that of the new resource, or was held before.
+-- A preferred label after a creation belongs to the new resource, or was held before.
 label_cases : (rs : List Resource) (labels : Labels) (tag text : List ℕ) → Owners rs labels → (n : ℕ) (t x : List ℕ)
     → HasLabel (insert labels (label (length rs + 1) Pref tag text)) n Pref t x
     → ((n ≡ length rs + 1) × (t ≡ tag) × (x ≡ text)) ⊎ ((n ≤ length rs) × HasLabel labels n Pref t x)

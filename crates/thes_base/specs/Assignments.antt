@@ -1,4 +1,4 @@
--- The assignment of postings to concepts that every reachable state has.
+-- The assignment of postings to live concepts, which holds in every reachable state.
 use Rattle.std.specs.Prelude.{◌≡◌, ◌+◌, ℕ, zero, suc, List, [], ◌∷◌, false, length, Some, sum_by, filter}
 use Rattle.thes_base.specs.Types.{Number}
 use Rattle.thes_base.specs.declared.data.Resource.{Resource}

@@ -25,7 +25,7 @@ pub record Code : Type 0 where
   pub number : ℕ
   pub name : Bytes
 
--- The code of a fault in a text's form: 1 to 8.
+-- The code of a fault in the form of a text, a number or a request: 1 to 8.
 abbrev pub form_code : FormFault → Code
 form_code BadTag = record { number = 1; name = codes "BadTag" }
 form_code BadText = record { number = 2; name = codes "BadText" }

@@ -1,4 +1,4 @@
--- The names of the kinds of links in requests and views.
+-- The names that requests and views use for the kinds of links.
 use Rattle.std.specs.Prelude.{codes}
 use Rattle.thes_base.specs.Types.{Bytes}
 use Rattle.thes_base.specs.declared.data.LinkKind.{LinkKind}

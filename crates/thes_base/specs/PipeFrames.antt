@@ -1,4 +1,4 @@
--- What a call that reads or writes leaves in the record of its pipe, and what a read or a write does.
+-- The record of a pipe after a call that reads or writes, and the effects of a single read or write.
 use Rattle.std.specs.Prelude.{◌≡◌, ◌≢◌, ◌⊎◌, ◌↔◌, ◌+◌, ◌<◌, ℕ, true, false, Option, Result, IsErrOf, IsTrue, IfErr, IfOk}
 use Rattle.std.specs.Prelude.{OnErr, OnOk}
 use Rattle.std.specs.Io.{ReadsAtMost, WritesAtMost}
@@ -13,22 +13,22 @@ use Rattle.thes_base.specs.declared.pipe.Pipe.{Pipe}
 use Rattle.thes_base.specs.declared.pipe.Stop.{Stop}
 use Rattle.thes_base.specs.declared.pipe.Stop.TheVariants.{Failed, TooLong}
 
--- What a single call of a device leaves: nothing was denied, one call is counted, and the budget fell by one.
+-- The record after a single call of the device: the call was counted and not denied, and the budget fell by one.
 pub record DeviceCallFrame {T : Type 0} (old new : Pipe T) (before after : ℕ) : Type 0 where
   pub denial : denied_of new ≡ denied_of old
   pub count : calls_of new ≡ calls_after (calls_of old) 1
   pub cost : after + 1 ≡ before
 
--- What every call that reads leaves: the reader has failed exactly if the result says so, a denied read is reported as
--- TooLong, and the budget fell by the number of reads.
+-- The record after any call that reads: the reader has failed exactly if the result is Failed, a denied read is
+-- reported as TooLong, and the budget fell by the number of reads.
 pub record ReadFrame {R T : Type 0} (old new : Pipe R) (before after : ℕ) (result : Result T Stop) : Type 0 where
   pub failure : IsErrOf result Failed ↔ (failed_of new ≡ true)
   pub denial : denied_of new ≡ true → IsErrOf result TooLong
   pub calls : PaysCalls old new before after
 
--- What every call that writes leaves: the writer has failed exactly if the result says so, a write was denied exactly
--- if one was before or the result is TooLong, for which the budget is used up, and the budget fell by the number of
--- writes.
+-- The record after any call that writes: the writer has failed exactly if the result is Failed, and the budget fell by
+-- the number of writes. A write was denied exactly if one was before this call or the result is TooLong, which means
+-- that the budget is used up.
 pub record WriteFrame {W T : Type 0} (old new : Pipe W) (before after : ℕ) (result : Result T Stop) : Type 0 where
   pub end : ended_of new ≡ ended_of old
   pub failure : IsErrOf result Failed ↔ (failed_of new ≡ true)

@@ -8,12 +8,12 @@ use Rattle.thes_base.specs.declared.fault.Refusal.{Refusal}
 abbrev pub RefusalRule : Type 1
 RefusalRule = Option Refusal → Type 0
 
--- Refuses with the name if the condition holds, or else decides by the remaining rule.
+-- Refuses with the refusal `name` if the condition holds, or else decides by the remaining rule.
 abbrev pub refused_if : Type 0 → Refusal → RefusalRule → RefusalRule
 refused_if condition name rest answer =
     (condition × (answer ≡ Some name)) ⊎ ((¬ condition) × rest answer)
 
--- Refuses with the name unless the condition holds, or else decides by the remaining rule.
+-- Refuses with the refusal `name` if the condition doesn't hold, or else decides by the remaining rule.
 abbrev pub refused_unless : Type 0 → Refusal → RefusalRule → RefusalRule
 refused_unless condition name rest answer =
     ((¬ condition) × (answer ≡ Some name)) ⊎ (condition × rest answer)

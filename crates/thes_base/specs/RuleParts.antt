@@ -29,17 +29,17 @@ unless_within_limits setting before after =
 abbrev pub unless_unique : List Resource → Labels → RefusalRule → RefusalRule
 unless_unique resources labels = refused_unless (UniquePreferred resources labels) no.PreferredTaken
 
--- Refuses unless the number is that of a resource of the right kind.
+-- Refuses unless the number belongs to a resource of the right kind.
 abbrev pub unless_resource : (Number → Type 0) → List Resource → Number → RefusalRule → RefusalRule
 unless_resource is_right resources n rest =
     refused_unless (Exists resources n) no.UnknownResource
     (refused_unless (is_right n) no.WrongKind rest)
 
--- Refuses unless the number is a scheme's.
+-- Refuses unless the number belongs to a scheme.
 abbrev pub unless_scheme : List Resource → Number → RefusalRule → RefusalRule
 unless_scheme resources scheme = unless_resource (IsScheme resources) resources scheme
 
--- Refuses unless the number is a concept's, live or not.
+-- Refuses unless the number belongs to a concept, live or not.
 abbrev pub unless_concept : State → Number → RefusalRule
 unless_concept s n = unless_resource (IsConcept s.resources) s.resources n accepted
 
@@ -49,7 +49,7 @@ unless_new_foreign_iri base iris iri rest =
     refused_if (BeginsWith iri base) no.WrongKind
     (refused_for (λ n. dict.get iris n ≡ Some iri) no.OutsideKnown rest)
 
--- Refuses unless the number is that of a live scheme, concept or collection.
+-- Refuses unless the number belongs to a live scheme, concept or collection.
 abbrev pub unless_owner : List Resource → Number → RefusalRule → RefusalRule
 unless_owner resources owner rest =
     unless_resource (CanOwn resources) resources owner
@@ -87,19 +87,19 @@ unless_ends resources l rest =
     (refused_unless (HaveSchemes resources (form_of l.kind) l.a l.b) no.OtherScheme
     rest))))
 
--- Refuses unless the number is a live concept's.
+-- Refuses unless the number belongs to a live concept.
 abbrev pub unless_live_concept : List Resource → Number → RefusalRule → RefusalRule
 unless_live_concept resources n rest =
     unless_resource (IsConcept resources) resources n
     (refused_unless (IsLive resources n) no.NotLive rest)
 
--- Refuses unless the number is a concept's, and the concept, or the last of its replacements if it has any, is live.
+-- Refuses unless the number belongs to a concept that is live or, if it was replaced, whose last replacement is live.
 abbrev pub unless_forwardable : List Resource → Number → RefusalRule → RefusalRule
 unless_forwardable resources n rest =
     unless_resource (IsConcept resources) resources n
     (refused_unless (IsLive resources (path_end n (replacements resources n))) no.NotLive rest)
 
--- Refuses unless the numbers are those of two live concepts of one scheme.
+-- Refuses unless the numbers belong to two live concepts of one scheme.
 abbrev pub unless_pair : List Resource → Number → Number → RefusalRule → RefusalRule
 unless_pair resources source target rest =
     refused_unless (Exists resources source × Exists resources target) no.UnknownResource
@@ -109,7 +109,7 @@ unless_pair resources source target rest =
     (refused_unless (scheme_of resources source ≡ scheme_of resources target) no.OtherScheme
     rest))))
 
--- Refuses unless the numbers listed are those of different postings assigned to the source.
+-- Refuses unless the numbers listed are different, and belong to postings assigned to the source.
 abbrev pub unless_split_postings : List History → Number → List Number → RefusalRule → RefusalRule
 unless_split_postings histories source postings rest =
     refused_unless (EachOnce postings) no.ListedTwice
@@ -118,7 +118,7 @@ unless_split_postings histories source postings rest =
     (refused_unless (EachListed (IsPlacedAt histories source) postings) no.NotAtSource
     rest)))
 
--- Refuses unless the number is that of a posting not withdrawn.
+-- Refuses unless the number belongs to a posting that isn't withdrawn.
 abbrev pub unless_assigned : List History → Number → RefusalRule → RefusalRule
 unless_assigned histories posting rest =
     refused_unless (IsKnownPosting histories posting) no.UnknownPosting

@@ -54,6 +54,7 @@ pub record StateHasForms (base : Iri) (s : State) : Type 0 where
   pub labels : (l : Label) → set.contains s.labels l ≡ true → IsLabelForm l.kind l.tag l.text
   pub postings : (n : Number) (h : History) → entry_at s.histories n ≡ Some h → IsPostingForm h.key h.rec
 
--- `StateHasForms` as one fact, which proof search doesn't take apart.
+-- The texts of the state and the base have their forms: `StateHasForms`, as one fact that proof search doesn't take
+-- apart.
 unfoldable pub HasLegalTexts : Iri → State → Type 0
 HasLegalTexts base s = StateHasForms base s

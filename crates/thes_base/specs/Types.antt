@@ -22,7 +22,7 @@ Iri = Bytes
 abbrev pub Key : Type 0
 Key = Bytes
 
--- The name of a catalogue record, which has no meaning to the machine.
+-- The name of a catalogue record, which the machine doesn't interpret.
 abbrev pub RecordName : Type 0
 RecordName = Bytes
 

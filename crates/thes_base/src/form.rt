@@ -173,7 +173,7 @@ impl Form for BaseForm {
     }
 }
 
-// Checks for 1 to `most` bytes without a control character.
+// Checks for 1 to `most` bytes without an ASCII control character, so without a line end.
 fn is_line(most: usize, text: &str) -> bool
     ensures { IsTrue result ↔ IsLine most text.now }
 {

@@ -1,4 +1,4 @@
-//! The names of the kinds of links in requests and views.
+//! The names that requests and views use for the kinds of links.
 ghost use Rattle.std.specs.Prelude.{◌≡◌};
 ghost use Rattle.thes_base.specs.KindNames.{link_kind_name, typed_kind_name};
 

@@ -43,7 +43,7 @@ pub struct Pipe<T> {
     failed: bool,
     ended: bool,
     denied: bool,
-    // The number of reads and writes, which saturates.
+    // The number of reads and writes, which saturates at `u64::MAX`.
     calls: u64,
 }
 
@@ -52,7 +52,7 @@ pub struct Pipe<T> {
 pub enum Stop {
     /// The device failed to read or to write.
     Failed,
-    /// The budget of reads and writes was used up.
+    /// The budget of reads and writes was used up, or the input, or a line of it, is too long.
     TooLong,
 }
 

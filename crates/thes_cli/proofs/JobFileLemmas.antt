@@ -44,7 +44,8 @@ if_some : {A : Type 0} (o : Option A) (P : A → Type 0) → IsSomeAnd o P → I
 if_some None P is = tt
 if_some (Some x) P is = is
 
--- What holds of each connection that was closed holds of the files that are left.
+-- If the files of a closed connection have the property `Q` whenever the connection has `P`, the files that are left
+-- have `Q`.
 of_closed : {A C : Type 0} (conn : Option A) (files : Option C) (Closes : A → C → Type 0) (P : A → Type 0)
     (Q : C → Type 0)
     → ((a : A) (f : C) → P a → Closes a f → Q f) → IfSome conn P
@@ -56,7 +57,7 @@ of_closed {A} {C} (Some a) (Some f) Closes P Q so is closes = so a f is closes
 module _ {S : Type 0} (g : Ghosts S) (image : Image) {E C : Type 0} (err : E → Option (List ℕ))
     (is_clean : C → Type 0) (holds : C → Schema → Tables → Type 0)
     (keeps : Cause → C → Type 0) where
-  -- A job leaves nothing in files if it has none.
+  -- For a job that leaves no files, nothing needs to be shown of what they hold.
   pub leads_without_files : (planned : Result Job EarlyExit) (old new : Pipe E) (status : ℕ) (closed : Closed C)
       → LeavesNoFiles closed → LeadsIfClosed err image is_clean holds planned old new status closed
   leads_without_files (Err early_exit) old new status closed none = tt
@@ -104,7 +105,7 @@ module _ {S : Type 0} (g : Ghosts S) (image : Image) {E C : Type 0} (err : E →
       let closing = closes clean in
       let store = serves closing.was_up schema t held in closing.leaves store.0 schema t store.1)) serves closes.files
 
-  -- A migration leaves the tables of a store of version 2.
+  -- A migration doesn't change the tables of a store of version 2.
   unwritten : (conn back : Held S) (result : Result ℕ Fault) (schema : Schema) (t : Tables)
       → Migrates g conn back result → IsUp (state g back) → KeepsIn schema (state g conn).now t
       → KeepsIn schema (state g back).now t
@@ -121,7 +122,7 @@ module _ {S : Type 0} (g : Ghosts S) (image : Image) {E C : Type 0} (err : E →
       let doubt = migrates.crash.clean in
       let clean = up.0 in (omega (arith, doubt, clean), migrates.was up)
 
-  -- Files whose store was migrated hold a store of version 2 as before.
+  -- Files that held a store of version 2 hold it unchanged after a migration.
   pub leads_by_migration : {R W : Type 0} (O : Type 0) (out : W → Option (List ℕ)) (planned : Result Job EarlyExit)
       (old new : Streams R W E) (status : ℕ) (file : String Global) (conn : Held S) (closed : Closed C)
       → OpensPlan g image keeps {O = O} planned (Ok (Migration file conn))
@@ -140,7 +141,7 @@ module _ {S : Type 0} (g : Ghosts S) (image : Image) {E C : Type 0} (err : E →
       (if_some closed.files (λ files. is_clean files → ClosesStore (holds files) (state g migrates.conn_after))
       migrates.closes_it.files)
 
-  -- The files of a job whose work was done end as those of this work.
+  -- The files of a job whose work was done hold what the work over the store has left in them.
   pub leads_by_work : {R W O : Type 0} (given : File → Option (List ℕ)) (remaining : R → Option (List ℕ))
       (out : W → Option (List ℕ)) (planned : Result Job EarlyExit) (old new : Streams R W E) (status : ℕ)
       (work : DatabaseWork S O _ File TcpListener) (closed : Closed C)

@@ -44,7 +44,7 @@ held_in_store raw limits copy P is so base s x =
     subst (P base) one.1 (subst (λ (b : List ℕ). P b is.state) one.0 (so is.state is.holds))
 
 module _ {K : Type 0} (view : K → StorageView) where
-  -- What holds of the result of `ready` holds of an equal one.
+  -- The contract of `ready` holds also for a result that is equal to the one returned.
   ready_with : (old new : OfficeView K) (result same : Result (Bor core.CoreView) Fault)
       → ReadyResult view old result new → result ≡ same → ReadyResult view old same new
   ready_with old new result same ready is =
@@ -78,7 +78,7 @@ module _ {K : Type 0} (view : K → StorageView) where
 
   module _ {W A : Type 0} (Writes : List ℕ → State → Pipe W → Pipe W → Result A PipeFault → Type 0)
       (output output' : Pipe W) where
-    -- What is written of each state that the office's core holds is written of the state that the tables encode.
+    -- Output that is right for each state that the office's core holds is right for the state that the tables encode.
     pub state_written : (old new : OfficeView K) (result : Result (Bor core.CoreView) Fault)
         (copy : Bor core.CoreView) (ended : Result A PipeFault) → ReadyResult view old result new → result ≡ Ok copy
         → ((s : State) → IsViewOf copy.now s → Writes copy.now.setting.base s output output' ended)

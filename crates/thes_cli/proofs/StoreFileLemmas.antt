@@ -1,4 +1,4 @@
--- Proves that files hold the store with which the work over them began, after this work.
+-- Proves that after work over a store in files, the files hold the store to which the work led.
 use Rattle.std.proofs.Common.{◌≡◌, ◌∙◌, ◌⊎◌, inl, inr, refl, sym, ap, subst, ℕ, List, Option, Some, None, false}
 use Rattle.std.specs.Prelude.{IfSome, IsSomeAnd, MatchOption, string_bytes}
 use Rattle.sqlite.specs.Held.{Held, state}
@@ -39,7 +39,8 @@ module _ {S : Type 0} (g : Ghosts S) where
   open_first None up = up
   open_first (Some k) up = up.1
 
-  -- Storage whose first connection is returned and up: it is up itself, and its rows are those of the database.
+  -- If the first connection is returned by a storage, and is up, so is the storage, and its rows are those of the
+  -- database.
   pub record ServesReturned (schema : Schema) (keeper : ReopeningView S) (conn : Held S) : Type 0 where
     pub is_up : IsKeeperStillUp g keeper
     pub same : (state g conn).now ≡ (state g conn).committed
@@ -165,7 +166,7 @@ module _ {S : Type 0} (g : Ghosts S) where
             holds_after = closing.leaves end.same schema end.tables end.keeps;
           }
 
-      -- Work over the store of files, and the closing of its database, leave the store in the files.
+      -- After work over a store in files, closing its database leaves the store after the work in the files.
       pub works_to_closing : (closed : Closed C) → ClosesLeft g is_clean holds left None closed
           → WorksToClosing given remaining out err g image is_clean holds job old status closed new
       works_to_closing closed closes = record {

@@ -1,4 +1,4 @@
--- The end of a script, and the lines of sizes and of counts.
+-- The exit status of a script, and the lines of a store's sizes and of an import's counts.
 use Rattle.std.specs.Prelude.{◌++◌, ℕ, List, Bool, if◌then◌else◌, Option, Some, None, option_map}
 use Rattle.std.specs.Prelude.{Result, Ok, Err, codes, decimal}
 use Rattle.thes_base.specs.declared.fault.PipeFault.{PipeFault}
@@ -12,7 +12,7 @@ abbrev pub last_fault : Result ScriptEnd PipeFault → Option PipeFault
 last_fault (Err fault) = Some fault
 last_fault (Ok ended) = option_map faults.Fault ended.fault
 
--- The status: 3 for a fault, even after refusals; 1 for a refusal; and else 0.
+-- The status: 3 for a fault, even after refusals; 1 for a refusal or a form fault; and else 0.
 abbrev pub status_with : Option PipeFault → Bool → ℕ
 status_with (Some fault) refused = 3
 status_with None refused = if refused then 1 else 0

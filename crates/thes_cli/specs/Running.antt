@@ -41,9 +41,9 @@ pub record PrintsStartFault {E : Type 0} (err : E → Option (List ℕ)) (old ne
   pub prints_it : Prints err old new text
   pub status_is : status ≡ 3
 
--- What the files of a job hold at its end, if its work began with the tables `t` in this schema. They hold a store with
--- tables to which a run of the machine leads from `t`; or `t` itself, after the fault of opening the store, or a
--- migration. If the work couldn't begin, files that held a store hold it still.
+-- The contents of a job's files at its end, if its work began with the tables `t` in this schema: a store with tables
+-- to which a run of the machine leads from `t`; or with `t` itself, after a fault of opening the store, or after a
+-- migration. If the work couldn't begin, files that held a store still hold it.
 pub data EndsInFiles {E : Type 0} (err : E → Option (List ℕ)) (image : Image) (job : Job) (old new : Pipe E)
     (status : ℕ) (holds : Schema → Tables → Type 0) (schema : Schema) (t : Tables) : Type 0 where
   by_work : LeadsInFiles err old new status t (holds schema) → EndsInFiles err image job old new status holds schema t
@@ -51,8 +51,8 @@ pub data EndsInFiles {E : Type 0} (err : E → Option (List ℕ)) (image : Image
   without_work : PrintsStartFault err old new status → (HoldsStore image schema t → holds schema t)
       → EndsInFiles err image job old new status holds schema t
 
--- If no failure has shut the database of a job, and its files are clean now, they end as `EndsInFiles` says of the
--- store with which its work began: theirs, or an empty one in new files.
+-- If no failure has shut the database of a job, and its files are clean now, they hold what `EndsInFiles` says for the
+-- store with which the job's work began: the one that the files held, or an empty one in new files.
 abbrev pub LeadsIfClosed : {E C : Type 0} → (E → Option (List ℕ)) → Image → (C → Type 0)
     → (C → Schema → Tables → Type 0) → Result Job EarlyExit → Pipe E → Pipe E → ℕ → Closed C → Type 0
 LeadsIfClosed err image is_clean holds planned old new status closed =
@@ -84,8 +84,8 @@ module _ {R W E S : Type 0} (out : W → Option (List ℕ)) (err : E → Option 
 module _ {R W E S C : Type 0} (given : File → Option (List ℕ)) (remaining : R → Option (List ℕ))
     (out : W → Option (List ℕ)) (err : E → Option (List ℕ)) (store : Ghosts S) (image : Image) (is_clean : C → Type 0)
     (holds : C → Schema → Tables → Type 0) (keeps : Cause → C → Type 0) where
-  -- The work of the job that was opened was done and its store closed, or the reason why none was opened is reported,
-  -- and the database was closed if that was opened.
+  -- The work of the job that was opened was done, and its store was closed; or the reason why no job was opened is
+  -- reported, and the database was closed if it was opened.
   abbrev pub DoesOpened : {O : Type 0} → Result (OpenJob S O) (FailedStart S C) → Streams R W E → ℕ → Closed C
       → Streams R W E → Type 0
   DoesOpened (Ok (InFile work)) old status closed new =
@@ -100,8 +100,8 @@ module _ {R W E S C : Type 0} (given : File → Option (List ℕ)) (remaining : 
       × ClosesLeft store is_clean holds (open_leaving failed.conn) failed.rest closed
 
   -- The job of a command line was opened as the command line says, and done. The database of work over a store is the
-  -- one that was opened in files with these contents. If it couldn't be opened, what is left of them keeps what they
-  -- held.
+  -- one that was opened in files with the contents `image`. If it couldn't be opened, what is left of the files keeps
+  -- what they held.
   pub record RunsPlan (O : Type 0) (planned : Result Job EarlyExit) (old : Streams R W E) (status : ℕ)
       (closed : Closed C) (new : Streams R W E) : Type 0 where
     pub open_job : Result (OpenJob S O) (FailedStart S C)

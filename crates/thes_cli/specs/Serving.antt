@@ -35,8 +35,8 @@ abbrev pub EndsUnserved : {E : Type 0} → (E → Option (List ℕ)) → Error �
 EndsUnserved err error old new status = PrintsUnserved err error old new × (status ≡ 3)
 
 module _ {K E : Type 0} (view : K → StorageView) (err : E → Option (List ℕ)) where
-  -- Connections were served, one after another; the requests of their clients are a run of the machine. They are
-  -- exactly `count`, unless one couldn't be accepted or memory ran out. Plans are taken, or aren't.
+  -- Connections were served, one after another, by a run of the machine: exactly `count` connections, unless one
+  -- couldn't be accepted or memory ran out. `takes` says whether plans are taken.
   pub record ServesAll (takes : Bool) (count : ℕ) (old_office : OfficeView K) (errors errors' : Pipe E)
       (connections status : ℕ) (new_office : OfficeView K) : Type 0 where
     pub served : LeadsBy (office_behaviour view takes) count old_office new_office
@@ -44,8 +44,8 @@ module _ {K E : Type 0} (view : K → StorageView) (err : E → Option (List ℕ
     pub ends : EndsWell count errors errors' connections status
         ⊎ ((error : Error) × EndsUnserved err error errors errors' status)
 
-  -- The command `serve`: the address is printed, and connections are served; or printing the address failed, and none
-  -- are.
+  -- The command `serve`: the address is printed, and connections are served; or printing the address failed, and no
+  -- connection is served.
   abbrev pub ServesStore : {W : Type 0} → (W → Option (List ℕ)) → Bool → ℕ → ℕ → OfficeView K → Pipe W → Pipe W
       → Pipe E → Pipe E → ℕ → ℕ → OfficeView K → Type 0
   ServesStore out takes port count old_office output output' errors errors' connections status new_office =

@@ -39,17 +39,17 @@ use Rattle.thes_cli.specs.declared.streams.Streams.{Streams}
 abbrev pub storage_in_memory : Tables → StorageView
 storage_in_memory t = record { rows = cells_of_tables t; is_up = Unit {0}; failures = 0 }
 
--- A run of the machine leads from these tables to those.
+-- A run of the machine leads from the tables `t` to the tables `t'`.
 abbrev pub RunLeads : Limits → Tables → Tables → Type 0
 RunLeads limits t t' = (commands : List Command) × (answers : List Answer)
     × TablesAfterRun limits (cells_of_tables t) commands answers (cells_of_tables t')
 
--- If an office was opened, a run of the machine leads from these tables to those; else they are the same.
+-- If an office was opened, a run of the machine leads from the tables `t` to the tables `t'`; else they are the same.
 abbrev pub RunsIfOpened : {A B : Type 0} → A ⊎ B → Limits → Tables → Tables → Type 0
 RunsIfOpened (inl opened) limits t t' = RunLeads limits t t'
 RunsIfOpened (inr unopened) limits t t' = t' ≡ t
 
--- A fault of opening a store is printed with the reason that some cause gives, and the status is 3.
+-- The fault of a store that couldn't be opened is printed with the reason that its cause gives, and the status is 3.
 pub record PrintsUnopened {E : Type 0} (err : E → Option (List ℕ)) (old new : Pipe E) (status : ℕ) : Type 0 where
   pub file : Option (List ℕ)
   pub fault : Fault
@@ -57,8 +57,8 @@ pub record PrintsUnopened {E : Type 0} (err : E → Option (List ℕ)) (old new 
   pub prints_it : Prints err old new (fault_lines file (trouble_of cause Unreadable) fault)
   pub status_is : status ≡ 3
 
--- The files, whose work began with the tables `t`, hold a store with tables to which a run of the machine leads from
--- `t`; or a fault of opening the store is printed, and they hold these tables.
+-- The files, over which work began with the tables `t`, hold a store with tables to which a run of the machine leads
+-- from `t`; or the fault of a store that couldn't be opened is printed, and the files hold `t`.
 pub record LeadsInFiles {E : Type 0} (err : E → Option (List ℕ)) (old new : Pipe E) (status : ℕ) (t : Tables)
     (holds : Tables → Type 0) : Type 0 where
   pub limits : Limits
@@ -66,20 +66,20 @@ pub record LeadsInFiles {E : Type 0} (err : E → Option (List ℕ)) (old new : 
   pub run : RunLeads limits t tables_after ⊎ (PrintsUnopened err old new status × (tables_after ≡ t))
   pub holds_after : holds tables_after
 
--- If no failure has shut the database, and its files are clean now, `Ends` is true of them and of the store with which
--- the work began: the one that the files held, or, in new files, an empty one with this base.
+-- If no failure has shut the database, and its files are clean now, `Ends` is true of the files and of the store with
+-- which the work began: the one that the files held, or, in new files, an empty one with this base.
 abbrev pub EndsIfClosed : {C : Type 0} → Image → List ℕ → (C → Type 0) → Closed C → (C → Schema → Tables → Type 0)
     → Type 0
 EndsIfClosed image base is_clean closed Ends =
     closed.is_reopened ≡ false → IfSome closed.files (λ files. is_clean files → (schema : Schema) (t : Tables)
     → IsInitialStore image base schema t → Ends files schema t)
 
--- What a job leaves if no failure has shut its database: this connection, if there is one.
+-- The connection that a job leaves, if there is one, when no failure has shut its database.
 abbrev pub open_leaving : {S : Type 0} → Option (Held S) → Leaving S
 open_leaving conn = record { conn = conn; is_in_doubt = false; is_reopened = false }
 
 module _ {S : Type 0} (store : Ghosts S) where
-  -- The database was closed, if there is one. `rest` is what an opening that failed has left.
+  -- The database was closed, if there is one. `rest` is what a failed opening has left of the files.
   pub record ClosesLeft {C : Type 0} (is_clean : C → Type 0) (holds : C → Schema → Tables → Type 0)
       (left : Leaving S) (rest : Option C) (closed : Closed C) : Type 0 where
     pub is_reopened : closed.is_reopened ≡ left.is_reopened
@@ -87,9 +87,9 @@ module _ {S : Type 0} (store : Ghosts S) where
     pub files : ClosesIfOpen store is_clean holds left.conn closed.files
     pub rest_is : closed.rest ≡ rest
 
-  -- The storage was up to the end of the work, so that all promises of the work hold. The files hold the tables that it
-  -- then had; if an office was opened, a run of the machine leads to these from the tables with which the work began,
-  -- and else they are the same.
+  -- The storage was up to the end of the work, so that all promises of the work hold, and the files hold the tables
+  -- that the storage had then. If an office was opened, a run of the machine leads to these from the tables with which
+  -- the work began; else they are the same.
   pub record LeavesInFiles {A B : Type 0} (works : A ⊎ B) (limits : Limits) (t : Tables) (keeper : ReopeningView S)
       (holds : Tables → Type 0) : Type 0 where
     pub is_up : IsKeeperStillUp store keeper
@@ -107,8 +107,8 @@ module _ {F R W E : Type 0} (given : F → Option (List ℕ)) (remaining : R →
     pub prints_it : Prints err old.errors new.errors (fault_line (pipe.Fault OutOfMemory))
     pub status_is : status ≡ 3
 
-  -- The work was done over a new store in memory, with this base and these limits, whose state is empty; or memory for
-  -- it ran out.
+  -- The work was done over a new store in memory, whose state is empty, with the base and the limits of the job; or
+  -- memory for the store ran out.
   pub record WorksInMemory {P L : Type 0} (job : MemoryWork P F L) (old : Streams R W E) (status : ℕ)
       (new : Streams R W E) : Type 0 where
     pub shows : TablesOfState (cells_of_tables (empty_tables job.setting.base)) job.setting.base empty_state
@@ -130,10 +130,11 @@ module _ {F R W E : Type 0} (given : F → Option (List ℕ)) (remaining : R →
       -- The first connection is returned, unless a failure has shut it.
       pub back_is : IfSome keeper.first (λ k. (left.conn ≡ Some k.conn) × (left.is_reopened ≡ false))
       pub returns : left.is_reopened ≡ false → ReturnsFirst store image keeper left.conn
-      -- A connection to a database that began as that of the files was lost only since a failure had shut it.
+      -- If the database was reopened, the first connection, to the database of the files, was lost because a failure
+      -- had shut it, unless the disk has failed silently.
       pub loses : IsTrue left.is_reopened → (k : KeeperView S) × LosesShut store image k
       pub certain : left.is_reopened ≡ false → left.is_in_doubt ≡ false
-      -- A request is in doubt if it is so for the storage at the end.
+      -- A request is in doubt exactly if the storage has one in doubt at the end.
       pub doubt : left.is_in_doubt ≡ keeper.is_in_doubt
 
     -- The work was done on the tables of the database, and the database was closed. If no failure has shut it, and the

@@ -27,8 +27,8 @@ use Rattle.thes_jobs.specs.declared.work.Work.TheVariants.{Script, Output}
 
 module _ {K F W E : Type 0} (view : K → StorageView)
     (given : F → Option (List ℕ)) (out : W → Option (List ℕ)) (err : E → Option (List ℕ)) (connections : ℕ) where
-  -- The effect of work that reads no standard input over an open store, by its command, with the number of connections
-  -- that it served.
+  -- The effect over an open store of work that doesn't read standard input, by its command; `connections` is the number
+  -- of connections that were served.
   abbrev pub DoesOutputWork : {L : Type 0} → OutputWork F L → OfficeView K → Pipe W → Pipe W → Pipe E → Pipe E → ℕ
       → OfficeView K → Type 0
   DoesOutputWork Check old_office output output' errors errors' status new_office =
@@ -66,7 +66,7 @@ module _ {K F R W E : Type 0} (view : K → StorageView)
     pub does : DoesWork work old_office old status new_office new
     pub back_is : back ≡ new_office.keeper
 
-  -- The store couldn't be opened, the fault is printed with the reason that some cause gives, and the status is 3.
+  -- The store couldn't be opened, the fault is printed with the reason that its cause gives, and the status is 3.
   pub record ReportsUnopened (file : Option (List ℕ)) (keeper : K) (old : Streams R W E) (status : ℕ)
       (back : K) (new : Streams R W E) : Type 0 where
     pub fault : Fault
@@ -80,13 +80,13 @@ module _ {K F R W E : Type 0} (view : K → StorageView)
 module _ {K F R W E : Type 0} (view : K → StorageView) (is_open : K → Type 0) (finds : K → Raw → Type 0)
     (given : F → Option (List ℕ)) (remaining : R → Option (List ℕ)) (out : W → Option (List ℕ))
     (err : E → Option (List ℕ)) where
-  -- What a load found at the start, in tables that may have anything: rows that encode a state, if the store was
-  -- opened, or else rows on which the fault is the verdict.
+  -- If the store was opened, the load at the start found rows that encode a legal state, in tables that may have held
+  -- anything; else the fault is OutOfMemory, Store, or the verdict on the rows found.
   abbrev pub FindsAtStart : {A B : Type 0} → A ⊎ B → (A → K) → (B → Fault) → K → K → Type 0
   FindsAtStart (inl opened) storage fault start back = is_open (storage opened) → FindsLegalState (finds start)
   FindsAtStart (inr unopened) storage fault start back = is_open back → IsFaultOfFound (finds start) (fault unopened)
 
-  -- The work over a storage, or the fault of opening its store, and what the opening found.
+  -- The work over a storage, or the fault of opening its store, and the rows that the opening found.
   abbrev pub WorksOverKeeper : {L : Type 0} → Work F L → Option (List ℕ) → Limits → K → Streams R W E → ℕ → K
       → Streams R W E → Type 0
   WorksOverKeeper work file limits start old status back new =

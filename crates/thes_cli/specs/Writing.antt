@@ -1,4 +1,4 @@
--- What a command writes of the state that the tables of a store encode.
+-- The effect of a command that writes, in some form, the state that the tables of a store encode.
 use Rattle.std.specs.Prelude.{◌≡◌, ℕ, List, Result, Ok, Err}
 use Rattle.thes_base.specs.Pipe.{KeepsCallLimit}
 use Rattle.thes_base.specs.State.{State}
@@ -17,8 +17,8 @@ InStore raw P = (base : List ℕ) (s : State) → TablesOfState raw base s → P
 
 module _ {K W A : Type 0} (view : K → StorageView)
     (Writes : List ℕ → State → Pipe W → Pipe W → Result A PipeFault → Type 0) where
-  -- What was written is what `Writes` says of the base and the state that the tables encode; or nothing was written,
-  -- since the tables couldn't be loaded.
+  -- The output is as `Writes` says for the base and the state that the tables encode; or nothing was written, since the
+  -- tables couldn't be loaded.
   abbrev pub WritesIfReady : OfficeView K → Pipe W → Pipe W → Result (Unit {0}) Fault → Result A PipeFault → Type 0
   WritesIfReady new_office output output' (Ok ready) result =
       ((view new_office.keeper).is_up → InStore (view new_office.keeper).rows

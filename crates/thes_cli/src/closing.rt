@@ -1,11 +1,12 @@
-//! Closes the database of a store when its work has ended.
+//! Closes the database of a store when the work over the store has ended.
 ghost use Rattle.thes_cli.specs.Stores.{ClosesLeft, open_leaving};
 
 use sqlite::Connection;
 use thes_jobs::databases::Databases;
 use thes_sqlite::reopening::Leaving;
 
-/// What closing the database of a store leaves.
+/// The result of closing the database of a store: what is left of its files, and whether failures
+/// have cast doubt on a request or shut a database.
 #[derive(Drop)]
 pub struct Closed<C> {
     /// What is left of the files; None if no database is open at the end.
@@ -19,7 +20,7 @@ pub struct Closed<C> {
 }
 
 /// Closes the database that work over a store leaves, if there is one. `rest` is what a failed
-/// opening has left.
+/// opening has left of the files.
 pub fn close_left<D: Databases>(
     databases: &D,
     left: Leaving<D::Engine>,
@@ -42,7 +43,7 @@ pub fn close_left<D: Databases>(
 }
 
 /// Closes a database that no failure has shut, if there is one. `rest` is what a failed opening has
-/// left.
+/// left of the files.
 pub fn close_open<D: Databases>(
     databases: &D,
     conn: Option<Connection<D::Engine>>,

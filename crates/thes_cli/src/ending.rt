@@ -1,4 +1,4 @@
-//! The end of a script, and the lines of sizes and of counts.
+//! The exit status of a script, and the lines of a store's sizes and of an import's counts.
 ghost use Rattle.std.specs.Prelude.{◌≡◌, ◌++◌, string_bytes, IfOk, OnOk, MatchOption};
 ghost use Rattle.thes_base.specs.Pipe.{IsFresh};
 ghost use Rattle.thes_cli.specs.Ending as ends;

@@ -61,7 +61,8 @@ fn report_import<E: Write>(
 }
 
 /// Imports a posting file, writes the outcomes of its rows, prints their counts if `prints_it`, and
-/// returns the exit status.
+/// returns the exit status: 1 if a row was refused or the file is malformed, 3 after a fault, which
+/// is printed, and else 0.
 pub fn import_file<T: Devices, K: Keeper>(
     given: &mut Given<'_, T>,
     file: T::PostingFile,

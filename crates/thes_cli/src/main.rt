@@ -50,7 +50,8 @@ fn plan_command_line<R: Env + Alloc<A = Global>>(rt: &R) -> Result<Job, EarlyExi
     plan_args(rt.alloc(), std::env::args(rt)?)
 }
 
-// Returns whether the output escapes what a terminal may obey: a display does, on a terminal.
+// Returns whether characters that a terminal may obey are escaped in the output: those of a display
+// that is written to a terminal.
 fn escapes_output(rt: &HostRuntime, planned: &Result<Job, EarlyExit>) -> bool
     ensures { IsTrue result → AsksForDisplay planned.now }
 {

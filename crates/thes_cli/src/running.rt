@@ -23,8 +23,8 @@ use thes_jobs::migrating::{migrate_in_database, print_version};
 use thes_jobs::starting::{FailedStart, OpenJob, open_job};
 use thes_jobs::store_files::ReopenedImage;
 
-// Migrates the store in a database, closes it, and returns the exit status with what is left of its
-// files.
+// Migrates the store in a database, closes the database, and returns the exit status with what is
+// left of its files.
 fn migrate<T: Devices, D: Databases>(
     given: &mut Given<'_, T>,
     databases: &D,
@@ -41,8 +41,8 @@ fn migrate<T: Devices, D: Databases>(
     (status, close_open(databases, Some(conn), None))
 }
 
-// Reports why no job was opened, and closes the database of its store if that was opened. Returns
-// the exit status with what is left of the files.
+// Reports why no job was opened, and closes the database of the store if it was opened. Returns the
+// exit status with what is left of the files.
 fn report_no_job<T: Devices, D: Databases>(
     given: &mut Given<'_, T>,
     databases: &D,
@@ -64,7 +64,7 @@ fn report_no_job<T: Devices, D: Databases>(
     (status, close_open(databases, conn, rest))
 }
 
-// Returns what a job without a store in files leaves.
+// Returns what a job without a store in files leaves: no files, and no request in doubt.
 fn without_files<L>() -> Closed<L>
     ensures { LeavesNoFiles result }
 {
@@ -76,8 +76,8 @@ fn without_files<L>() -> Closed<L>
     }
 }
 
-// Opens the store of a job, does its work, and closes it. Returns the exit status with what is left
-// of the store's files, if they were opened.
+// Opens the store of a job, does the job's work, and closes the store. Returns the exit status with
+// what is left of the store's files, if they were opened.
 fn run_job<'r, C: Console, D: Databases>(
     given: &mut Given<'r, SystemDevices<'r, C>>,
     databases: &D,
@@ -103,11 +103,13 @@ fn run_job<'r, C: Console, D: Databases>(
     }
 }
 
-/// Opens the store of a job in its files, which held `image`, does its work, and closes it. Returns
-/// the exit status with what is left of the files, if they were opened. If the disk has returned
-/// what was written, and no failure has shut the database, the files hold the store that the
-/// requests make of the one that they held, or of an empty one if they were new, even after a
-/// crash. Files whose database can't be opened hold what they held.
+/// Opens the store of a job in its files, which held `image`, does the job's work, and closes the
+/// store. Returns the exit status with what is left of the files, if they were opened.
+///
+/// If the disk has returned what was written, and no failure has shut the database, then even after
+/// a crash the files hold the store to which the requests lead from the one that they held before,
+/// or from an empty one if they were new. Files whose database can't be opened hold what they held
+/// before.
 pub fn run_in_files<'r, C: Console, S: Start + ReopenedImage>(
     given: &mut Given<'r, SystemDevices<'r, C>>,
     image: S,

@@ -65,7 +65,7 @@ fn report_served<E: Write>(
 }
 
 /// Prints the address, serves the connections in this mode, and returns the exit status with the
-/// office. If the address can't be printed, it serves none.
+/// office. If the address can't be printed, no connection is served.
 pub fn serve_store<T: Devices, K: Keeper, M: PlanMode + Copy>(
     given: &mut Given<'_, T>,
     listening: &Listening<<T::System as Net>::Listener>,

@@ -13,10 +13,10 @@ use thes_jobs::work::{DatabaseWork, MemoryWork};
 use thes_sqlite::reopening::ReopeningKeeper;
 use thes_store::mem::MemKeeper;
 
-/// Works over the store in a database, and closes it. Returns the exit status with what is left of
-/// its files. If the disk has returned what was written, and no failure has shut the database, the
-/// files hold the store after the work. The fault of a store that can't be opened is printed after
-/// the name of its file.
+/// Does the work of a job over the store in a database, and closes the database. Returns the exit
+/// status with what is left of its files. If the disk has returned what was written, and no failure
+/// has shut the database, the files hold the store after the work. The fault of a store that can't
+/// be opened is printed after the name of its file.
 pub fn work_in_database<T: Devices, D: Databases>(
     given: &mut Given<'_, T>,
     databases: &D,
@@ -47,7 +47,8 @@ pub fn work_in_database<T: Devices, D: Databases>(
     (status, close_left(databases, keeper.leave(), None))
 }
 
-/// Works over a new store in memory with this base and these limits, and returns the exit status.
+/// Does the work of a job over a new store in memory, which has the base and the limits of the job,
+/// and returns the exit status.
 pub fn work_in_memory<T: Devices>(
     given: &mut Given<'_, T>,
     job: MemoryWork<T::Listener, T::PostingFile, <T::System as Net>::Listener>,

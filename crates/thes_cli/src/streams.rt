@@ -1,4 +1,4 @@
-//! The standard streams of the program, and what each of its tasks is given.
+//! The standard streams of the program, and the arguments that its tasks share.
 use std::alloc::Global;
 use std::fs::File;
 use std::io::{Read, Write};
@@ -10,8 +10,8 @@ use thes_http::connection_count::ConnectionCount;
 use thes_jobs::screen::Screen;
 use thes_sqlite::progress::Progress;
 
-/// The types of what the program reads, writes and calls: one parameter of each task in place of
-/// six.
+/// The types of the devices that the program reads, writes and calls. A task has this one type
+/// parameter in place of six.
 pub trait Devices {
     /// Standard input.
     type Input: Read;
@@ -32,8 +32,9 @@ pub trait Devices {
     type Listener: Progress;
 }
 
-/// The types of the standard streams of a process, the devices that `run_in_files` leaves open.
-/// (Generic over `Devices`, with bounds that fix the others, it isn't proved within antt's steps.)
+/// The types of the standard streams of a process, the only devices for which `run_in_files` is
+/// generic. (If it were generic over `Devices`, with bounds that fix the other types, its proof
+/// would exceed the checker's limit of steps.)
 pub trait Console {
     /// Standard input.
     type Input: Read;
@@ -46,7 +47,7 @@ pub trait Console {
 }
 
 /// The devices of a process with these standard streams: its files, its sockets and its clock, and
-/// a listener that prints.
+/// a listener that prints progress.
 #[derive(Drop)]
 pub struct SystemDevices<'r, C> {
     rt: PhantomData<&'r HostRuntime>,
@@ -77,8 +78,8 @@ pub struct Streams<R, W, E> {
     pub connections: ConnectionCount,
 }
 
-/// What each task is given: an allocator, the sockets and the clock of the system, and the
-/// streams.
+/// The arguments that all tasks share: an allocator, the sockets and the clock of the system, and
+/// the streams.
 pub struct Given<'a, T: Devices> {
     pub alloc: Global,
     pub system: &'a T::System,

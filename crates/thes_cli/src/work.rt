@@ -21,7 +21,7 @@ use thes_service::plan_mode::{NoPlans, WithPlans};
 use thes_sqlite::cause::FaultCause;
 use thes_store::keeper::Keeper;
 
-// Does work that reads no standard input over an office, and returns the exit status with the
+// Does, over an office, work that doesn't read standard input, and returns the exit status with the
 // office.
 fn do_output_work<T: Devices, K: Keeper>(
     given: &mut Given<'_, T>,

@@ -36,7 +36,7 @@ module _ (links : Links) (terms : List Term) (b : ℕ) where
   pub children_none : (children : List Child) → children ≡ [] → AreChildren [] children
   children_none children e = grind (arith, common_steps)
 
-  -- The concept is the home of a narrower one that has none before it, and not of another one.
+  -- The concept is the home of each narrower concept that has no home in the list, and of no other.
   kind_of : (homes : List (Option ℕ)) → AreHomes links terms b homes → (k : ℕ) (h : Bool)
       → IsNarrowerTerm links terms k b → (h ≡ true → rank_at homes k ≡ None)
       → (h ≡ false → (home : ℕ) × (rank_at homes k ≡ Some home)) → IsChildAt links terms h k b
@@ -70,7 +70,7 @@ module _ (links : Links) (terms : List Term) (b : ℕ) where
   concept_is : (n k : ℕ) → HasRank terms n k → concept_at k ≡ n
   concept_is n k h = ap (λ o. option_map_or (λ (t : Term). t.concept) o 0) h.term_at ∙ h.concept
 
-  -- The test of whether the concept has a rank.
+  -- Whether the concept has a rank.
   abbrev has_rank : (ℕ → Option ℕ) → ℕ → Bool
   has_rank ranks n = is_some (ranks n)
 
@@ -120,7 +120,7 @@ module _ (links : Links) (terms : List Term) (b : ℕ) where
   broader_of_child true k p = p.broader
   broader_of_child false k p = p.broader
 
-  -- The children of the ranks found are exactly the children of `b`.
+  -- The children made from the ranks found are exactly the children of the concept with the rank `b`.
   made_children : (ranks : ℕ → Option ℕ) → AreRanks terms ranks → (n : ℕ) → HasRank terms n b → (xs ks : List ℕ)
       → IsListing nat_cmp (λ a. HasBroader links a n) xs → ks ≡ filter_map ranks xs
       → (made : List Child) → AreChildren ks made → IsListing (λ x y. nat_cmp (concept_at x.rank) (concept_at y.rank))

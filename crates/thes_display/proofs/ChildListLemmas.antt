@@ -1,4 +1,4 @@
--- Proves that the lists of children, computed rank by rank, are those of each concept.
+-- Proves that the lists computed rank by rank have the children of each concept.
 use Rattle.std.proofs.Common.{◌≡◌, ◌∙◌, ◌<◌, ◌+◌, sym, ap, refl, subst, ℕ, zero, suc, List, [], ◌∷◌, ◌++◌, length}
 use Rattle.std.proofs.Common.{length-append, arith, Vec, ⊎_elim}
 use Rattle.std.specs.declared.alloc.Global.{Global}

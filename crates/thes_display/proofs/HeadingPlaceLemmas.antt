@@ -1,4 +1,4 @@
--- Proves that the places of the headings of concepts, sorted, are those of the terms of the concepts.
+-- Proves that the sorted places of concepts' headings have the terms of these concepts, in alphabetical order.
 use Rattle.std.proofs.lemmas.Grind.{common_steps}
 use Rattle.std.proofs.Common.{◌≡◌, ◌∙◌, ◌<◌, ◌≤◌, ◌+◌, sym, ap, ap₂, refl, subst, ℕ, List, [], ◌∷◌, map, length, Option, Some}
 use Rattle.std.proofs.Common.{None, arith, inl, inr, Ordering, Less, Equal, Greater, false, Bool, get_or}
@@ -44,7 +44,7 @@ module _ (f : ℕ → Option ℕ) (at : ℕ → ℕ) (ok : (n k : ℕ) → f n �
   back_one x xs None e l rest = let few = found_few f xs in absurd (omega (arith, l, few))
   back_one x xs (Some k) e l rest = ap₂ ◌∷◌ (ok x k e) (rest (omega (arith, l)))
 
-  -- If all are found, the concepts at the places are the concepts themselves.
+  -- If every concept has a place, the concepts at the places found are the same concepts, in order.
   back : (xs : List ℕ) → length xs ≤ length (filter_map f xs) → map at (filter_map f xs) ≡ xs
   back [] l = refl
   back (x ∷ xs) l = back_one x xs (f x) refl l (back xs)
@@ -195,7 +195,7 @@ module _ (s : State) (tag : List ℕ) (index : HeadingIndex) (is : IsHeadingInde
     };
   }
 
--- The places of linked concepts, sorted, are those of the terms for the symbol.
+-- The sorted places of linked concepts are those of the terms for the symbol.
 pub places_are : (s : State) (tag : List ℕ) (index : HeadingIndex) → IsHeadingIndex s tag index → (n : ℕ) (z : Symbol)
     (xs ks : List ℕ) → AreLinkedUnder s.links n z xs → AreSortedPlaces (rank_at index.places.items) xs ks
     → AreTermPlaces index.headings.items (IsUnder s tag n z) ks
@@ -205,7 +205,7 @@ places_are s tag index is n (symbol.Broader type) xs ks listed are = are_places 
 places_are s tag index is n (symbol.Narrower type) xs ks listed are = are_places s tag index is _ xs ks listed are
 places_are s tag index is n symbol.Related xs ks listed are = are_places s tag index is _ xs ks listed are
 
--- The term of the heading that is read at a place.
+-- The term at a place is that of the heading read there.
 pub term_read : (headings : List Heading) (k : ℕ) (h : Heading) → k < length headings → h ≡ get_or headings k h
     → term_at headings k ≡ h.term
 term_read headings k h l e = ap (λ x. option_map_or (λ (z : Heading). z.term) x (record { text = []; concept = 0 }))

@@ -24,7 +24,8 @@ use Rattle.thes_display.specs.Hierarchical.{IsHierarchicalDisplay}
 use Rattle.thes_display.specs.HierarchyParts.{IsGathered, IsChildAt, IsChild, IsClosed, IsRoot}
 use Rattle.thes_display.proofs.WalkLemmas.{among_from, rises_none}
 
--- If the relations that define the lines of one hierarchy imply those of another, its lines are lines of the other.
+-- If the relations that define one hierarchy's lines imply those that define another's, the lines of the first are
+-- lines of the second.
 module _ (T : ℕ → Type 0) (H A : ℕ → ℕ → Type 0) (Y : Types → ℕ → ℕ → Type 0) (T' : ℕ → Type 0)
     (H' A' : ℕ → ℕ → Type 0) (Y' : Types → ℕ → ℕ → Type 0)
     (t : (k : ℕ) → T k → T' k) (h : (k b : ℕ) → H k b → H' k b) (a : (k b : ℕ) → A k b → A' k b)

@@ -47,7 +47,7 @@ pub rank_to : (f : ℕ → Option ℕ) (ks xs : List ℕ) (x k : ℕ) → ks ≡
     → IsOneOf k ks
 rank_to f ks xs x k e a g = subst (IsOneOf k) (sym e) (found_of f xs x k a g)
 
--- One more child is set, if it is at home.
+-- One more child's home is set, if the child is at home.
 module _ (rank : ℕ) (seen more : List Child) (c : Child) (e : more ≡ seen ++ c ∷ []) (old mid new : List (Option ℕ))
     (a : AreHomesSet rank seen old mid) where
   in_more : (d : Child) → Contains seen d → Contains more d
@@ -86,7 +86,7 @@ module _ (links : Links) (terms : List Term) where
   pub homes_none : (homes : List (Option ℕ)) → homes ≡ [] → AreHomes links terms 0 homes
   homes_none homes e k = subst (λ hs. IsHomeBelow links terms 0 k (rank_at hs k)) (sym e) (λ b r. omega arith)
 
-  -- The homes below `m`, with that of the children of `m`, are those below the next rank.
+  -- The homes below `m`, with `m` set as the home of its children at home, are the homes below `m + 1`.
   pub homes_more : (m : ℕ) (children : List Child) (old new : List (Option ℕ)) → AreHomes links terms m old
       → IsListing child_cmp (IsChild links terms m) children → AreHomesSet m children old new
       → AreHomes links terms (m + 1) new

@@ -30,7 +30,7 @@ use Rattle.thes_display.proofs.SchemeRankLemmas.{scheme_is_closed, rank_of, one_
 abbrev has_link_test : Links → LinkKind → ℕ → ℕ → Bool
 has_link_test links kind a b = contains links (record { kind = kind; a = a; b = b })
 
--- The test of whether `b` is broader than `a`, by a link within their scheme.
+-- Whether `b` is broader than `a`, by a link within their scheme.
 abbrev is_broader : Links → ℕ → ℕ → Bool
 is_broader links a b =
     has_link_test links kinds.Broader a b || (has_link_test links kinds.BroaderGeneric a b ||
@@ -39,7 +39,7 @@ is_broader links a b =
 broader_from : (links : Links) (a b : ℕ) → is_broader links a b ≡ true → HasBroader links a b
 broader_from links a b e = grind (arith, common_steps, or_cases)
 
--- The test holds of each broader concept.
+-- The test `is_broader` passes for each broader concept.
 broader_to : (links : Links) (a b : ℕ) → HasBroader links a b → is_broader links a b ≡ true
 broader_to links a b h = grind (arith, common_steps, or_left, or_right)
 

@@ -1,5 +1,5 @@
--- Proves that selecting from a concept's labels by kind and language lists their texts, and that the terms with these
--- texts, sorted, are those of the labels.
+-- Proves that selecting a concept's labels by kind and language lists the texts of these labels, and that the terms
+-- with these texts, once sorted, are listed in alphabetical order.
 use Rattle.std.proofs.Common.{◌≡◌, ◌∙◌, ◌≤◌, refl, sym, ap, subst, ℕ, List, true, [], ◌∷◌, map}
 use Rattle.std.proofs.Common.{filter, length, arith, eqb-true, Ordering, Less, Equal, Contains}
 use Rattle.std.proofs.lemmas.Bool.{and_from, and_parts, eq-eqb}
@@ -50,7 +50,7 @@ module _ (kind : LabelKind) (tag : List ℕ) where
   is_in : (text : List ℕ) → is_label_in kind tag (own_label kind tag text) ≡ true
   is_in text = and_from _ _ (eq-eqb _ _ refl) ((bytes_decides tag tag).1 refl)
 
-  -- The label is among the owner's, of the kind and in the language.
+  -- The label is one of the owner's, of the kind and in the language.
   abbrev IsSelected : List LabelData → LabelData → Type 0
   IsSelected own l = Contains own l × (is_label_in kind tag l ≡ true)
 
@@ -60,7 +60,7 @@ module _ (kind : LabelKind) (tag : List ℕ) where
       subst (λ (q : LabelKind × List ℕ). HasLabel labels n q.0 q.1 l.text)
       (λ i. (same_kind l.kind kind (kind_of l p.1) i, tag_of l p.1 i)) (sym (are.each l) ∙ contains_own own l p.0)
 
-  -- The texts of the labels that are selected from an owner's are a listing.
+  -- The texts of the labels selected from an owner's labels are a listing.
   pub texts_listed : (labels : Labels) (n : ℕ) (own : List LabelData) (found : List (Bor LabelData))
       → AreLabelsOf labels n own → map (λ l. l.now) found ≡ filter (is_label_in kind tag) own
       → IsListing text_cmp (HasLabel labels n kind tag) (label_texts found)
@@ -103,7 +103,7 @@ module _ (labels : Labels) (n : ℕ) (kind : LabelKind) (tag : List ℕ) (texts 
   terms_sorted terms are = listing_in_order by_text term_cmp by_text_total term_total text_ties _
       (map (term_with n) texts) terms terms_by_text are.same are.order
 
-  -- At most one term needs no sorting.
+  -- A list of at most one term needs no sorting.
   pub few_terms : length texts ≤ 1 → IsListing term_cmp (IsLabelTerm labels n kind tag) (map (term_with n) texts)
   few_terms few = record {
     rises = few_rise n texts few;

@@ -1,4 +1,4 @@
--- Proves which lines of a hierarchy in lists have paths through a given line.
+-- Proves which lines of a hierarchy, given as lists, have paths through a given line.
 use Rattle.std.proofs.lemmas.Grind.{common_steps}
 use Rattle.std.proofs.Common.{◌≡◌, ◌⊎◌, ◌∙◌, ◌<◌, sym, ap, refl, subst, ℕ, Bool, true, false, List, [], ◌∷◌, map, inl}
 use Rattle.std.proofs.Common.{inr, Less, true≢false, arith}

@@ -1,4 +1,4 @@
--- Proves that a concept without typed links has untyped ones to all concepts on its sides.
+-- Proves that a concept without typed links has untyped links to all its broader and narrower concepts.
 use Rattle.std.proofs.Common.{◌≡◌, ◌<◌, ℕ, List, [], get_or, length, refl, sym, true≢false}
 use Rattle.std.proofs.lemmas.Option.{slice_get-get_or}
 use Rattle.thes_base.specs.declared.data.LinkKind.{LinkKind}

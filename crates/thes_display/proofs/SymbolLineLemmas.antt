@@ -1,4 +1,5 @@
--- Proves that the lines of a symbol are those of the headings at places, of terms made for concepts, or of labels.
+-- Proves that the lines written for headings at places, for terms made for concepts, and for labels are the lines of
+-- the symbol.
 use Rattle.std.proofs.Common.{◌≡◌, ◌∙◌, ◌≢◌, ◌≤◌, ◌++◌, ◌∷◌, [], sym, ap, refl, subst, ℕ, List, map, length, append-nil}
 use Rattle.std.proofs.Common.{Result, Ok, Err, OnOk, rules}
 use Rattle.std.specs.Prelude.{Contains, flat_map}
@@ -122,7 +123,7 @@ lines_of_labels s tag n z kind labels old new is listed few e =
     (subst (λ m. m ≤ 1) (sym (length-map labels (λ (l : Bor LabelData). l.now.text))) few)))
     (e ∙ ap (λ r. old ++ r) (texts_same n (entry_line (symbol_text z)) labels))
 
--- The concepts on a side that are linked by the type are those for the symbol.
+-- The concepts on a side that links of the type join are those for the symbol.
 pub linked_on_side : (links : Links) (side : Side) (type : Hierarchy) (n : ℕ) (ms : List ℕ)
     → IsListing nat_cmp (IsLinkedOnSide links side (hierarchy_kind type) n) ms
     → AreLinkedUnder links n (symbol_on side type) ms
@@ -151,7 +152,7 @@ module _ (s : State) (tag : List ℕ) (n : ℕ) (none : HasNoTypedLink s.links n
   no_under sides.Narrower hier.Partitive e t u = none (typed.NarrowerPartitive, t.concept) u.0
   no_under sides.Narrower hier.Instantial e t u = none (typed.NarrowerInstantial, t.concept) u.0
 
-  -- A typed symbol then has no lines.
+  -- Without typed links a symbol with a type has no lines.
   pub no_lines : (side : Side) (type : Hierarchy) (text : List ℕ) → type ≢ hier.Untyped
       → AppendsText (AreLinesOf s tag n (symbol_on side type)) text text
   no_lines side type text e =

@@ -1,4 +1,4 @@
--- Proves that the top concepts listed are the concepts without a home.
+-- Proves that the list of top concepts has exactly the concepts without a home.
 use Rattle.std.proofs.Common.{◌≡◌, ◌<◌, ◌+◌, ◌∙◌, sym, ap, refl, subst, ℕ, true, List, [], ◌∷◌, ◌++◌, length}
 use Rattle.std.proofs.Common.{Option, Some, None, arith, Less, ⊎_elim, inl, inr, lt-ltb}
 use Rattle.std.specs.Ordering.{nat_cmp}
@@ -46,7 +46,7 @@ module _ (homes : List (Option ℕ)) where
       none_some : None ≡ Some j → ⊥
       none_some q = cc
 
-  -- The list of top concepts doesn't grow by a rank with a home.
+  -- A rank with a home leaves the list of top concepts unchanged.
   pub tops_same : (m : ℕ) (tops new : List Child) → IsListing child_cmp (IsTopByHomes homes m) tops
       → (j : ℕ) × (rank_at homes m ≡ Some j) → new ≡ tops → IsListing child_cmp (IsTopByHomes homes (m + 1)) new
   tops_same m tops new t home e = subst (IsListing child_cmp (IsTopByHomes homes (m + 1))) (sym e)

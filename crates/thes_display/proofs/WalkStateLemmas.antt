@@ -19,7 +19,7 @@ use Rattle.thes_display.proofs.WalkLemmas.{path_onto, child_line, placed_apart, 
 use Rattle.thes_display.proofs.PlaceLemmas.{Homeward, IsPlacedHere, below_away, below_home, children_below}
 use Rattle.thes_display.proofs.PlaceLemmas.{one_home_line, line_known}
 
--- The frame of a waiting line on the stack.
+-- The entry on the stack for a waiting line.
 abbrev pub frame : TreeLine → WaitingLine
 frame l = record { rank = l.rank; depth = length l.above; types = l.types; at_home = l.at_home }
 
@@ -30,7 +30,7 @@ pub record IsUnderWay (terms : List Term) (tops : List Child) (below : List (Lis
   pub text_is : text ≡ lines_text terms written
   pub stack_is : stack ≡ reverse (map frame waiting)
   pub walk : IsWalk (IsLineOfLists tops below) written waiting
-  -- The children of a concept are still in the lists, or its home line is written.
+  -- The children of a concept are still in the lists, or its line at home is written.
   pub left_is : (k : ℕ) → (children_at left k ≡ children_at below k)
       ⊎ ((w : TreeLine) × IsOneOf w written × (w.at_home ≡ true) × (w.rank ≡ k))
   pub depths : (l : TreeLine) → IsOneOf l waiting → length l.above ≤ length text
@@ -218,7 +218,7 @@ module _ (terms : List Term) (tops : List Child) (below : List (List Child)) (n 
           left_size = ap length g ∙ length-set left next.rank [] ∙ s.left_size;
         }
 
-    -- The invariant holds after a line away from home is written.
+    -- The invariant holds after a line that isn't at home is written.
     pub under_way_away : (text' : List ℕ) → next.at_home ≡ false → text' ≡ text ++ placed_text terms next.rank
         next.depth next.types next.at_home → IsUnderWay terms tops below text' rest left
     under_way_away text' away e =

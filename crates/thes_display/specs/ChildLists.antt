@@ -30,7 +30,7 @@ module _ (tops : List Child) (below : List (List Child)) where
   abbrev pub IsTopRank : ℕ → Type 0
   IsTopRank k = Contains tops (child k untyped true)
 
-  -- The lists have a child with the rank `k` below the rank `b`, and `home` states whether that is its home.
+  -- The lists have a child with the rank `k` below the rank `b`, and `home` states whether `b` is its home.
   abbrev pub IsChildOf : Bool → ℕ → ℕ → Type 0
   IsChildOf home k b = (types : Types) × Contains (children_at below b) (child k types home)
 
@@ -38,12 +38,12 @@ module _ (tops : List Child) (below : List (List Child)) where
   abbrev pub IsTypedUnder : Types → ℕ → ℕ → Type 0
   IsTypedUnder types k b = (home : Bool) × Contains (children_at below b) (child k types home)
 
-  -- The line is one of the hierarchy in these lists.
+  -- The line is a line of the hierarchy in these lists.
   abbrev pub IsLineOfLists : TreeLine → Type 0
   IsLineOfLists = IsTreeLine IsTopRank (IsChildOf true) (IsChildOf false) IsTypedUnder
 
   -- The lists are sorted, and their ranks are below `n`; top concepts are at home and untyped; each rank has at most
-  -- one home, and that of a top concept has none.
+  -- one home, and the rank of a top concept has none.
   pub record AreHierarchyLists (n : ℕ) : Type 0 where
     pub size : length below ≡ n
     pub tops_rise : IsStrictlySortedBy child_cmp tops
@@ -65,7 +65,7 @@ total below = sum_by (λ (v : Vec Child Global). vec_len v) below
 abbrev pub waiting_at : ℕ → Child → WaitingLine
 waiting_at depth c = record { rank = c.rank; depth = depth; types = c.types; at_home = c.at_home }
 
--- The text of all lines of the lists, in the order of their paths.
+-- The text consists of all lines of the hierarchy in these lists, in the order of their paths.
 pub record IsHierarchyText (terms : List Term) (tops : List Child) (below : List (List Child)) (text : List ℕ) : Type
     0 where
   pub lines : List TreeLine

@@ -19,12 +19,12 @@ use Rattle.thes_display.specs.Hierarchical.{IsHierarchicalDisplay}
 use Rattle.thes_display.specs.declared.writing.DisplayOutcome.{DisplayOutcome}
 use Rattle.thes_display.specs.declared.writing.DisplayOutcome.TheVariants.{Written, No}
 
--- The text of a display of a scheme in a language.
+-- The text is the scheme's display of this kind, in the language.
 abbrev pub IsDisplay : Display → ℕ → List ℕ → State → List ℕ → Type 0
 IsDisplay which.Alphabetical scheme tag s text = IsAlphabetical s scheme tag text
 IsDisplay which.Hierarchical scheme tag s text = IsHierarchicalDisplay s scheme tag text
 
--- The refusal of a number that isn't a scheme's.
+-- The number isn't a scheme's, and this is its refusal.
 abbrev pub IsSchemeRefusal : List Resource → ℕ → Refusal → Type 0
 IsSchemeRefusal resources n no.UnknownResource = Exists resources n → ⊥
 IsSchemeRefusal resources n no.WrongKind = Exists resources n × (IsScheme resources n → ⊥)

@@ -1,4 +1,4 @@
--- What the entries of an alphabetical display are made of.
+-- The source of all entries of an alphabetical display: a core, a language, and an index of headings.
 use Rattle.std.specs.Prelude.{◌≡◌, ℕ, List, [], false}
 use Rattle.thes_core.specs.CoreView.{with_histories}
 use Rattle.thes_display.specs.Alphabetical.{AreLinesOf}

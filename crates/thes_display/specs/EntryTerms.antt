@@ -24,7 +24,7 @@ use Rattle.thes_display.specs.Order.{Term}
 abbrev pub IsTermOf : Labels → List ℕ → (ℕ → Type 0) → Term → Type 0
 IsTermOf labels tag P t = P t.concept × (t.text ≡ term_text labels tag t.concept)
 
--- The text is a label of concept `n`, of this kind and in this language.
+-- The term is one of concept `n`, and its text is a label of the concept, of this kind and in this language.
 abbrev pub IsLabelTerm : Labels → ℕ → LabelKind → List ℕ → Term → Type 0
 IsLabelTerm labels n kind tag t = (t.concept ≡ n) × HasLabel labels n kind tag t.text
 
@@ -56,7 +56,7 @@ pub record AreSidesOfConcept (links : Links) (sides : Sides) : Type 0 where
       sides.associates.items
   pub no_typed_link : sides.is_typed ≡ false → HasNoTypedLink links sides.concept
 
--- The symbol is for linked concepts, and the list has those of concept `n`.
+-- The symbol is for linked concepts, and the list has the concepts that are listed under it for concept `n`.
 abbrev pub AreLinkedUnder : Links → ℕ → Symbol → List ℕ → Type 0
 AreLinkedUnder links n symbol.ScopeNote ms = ⊥
 AreLinkedUnder links n symbol.UsedFor ms = ⊥
@@ -65,7 +65,7 @@ AreLinkedUnder links n (symbol.Narrower type) ms = IsListing nat_cmp (λ m. HasL
 AreLinkedUnder links n symbol.Related ms = IsListing nat_cmp
     (λ m. HasLink links kinds.Related n m ⊎ HasLink links kinds.Related m n) ms
 
--- The symbol for links of this type on a side.
+-- The symbol for concepts that links of this type join on a side.
 abbrev pub symbol_on : Side → Hierarchy → Symbol
 symbol_on Broader type = symbol.Broader type
 symbol_on Narrower type = symbol.Narrower type

@@ -20,7 +20,7 @@ pub record IsOwnAt (headings : List Heading) (n k : ℕ) : Type 0 where
   pub own : heading.lead_in ≡ false
   pub concept : heading.term.concept ≡ n
 
--- If a concept has a place, that is the place of the concept's own heading.
+-- If a concept has a place, its own heading is at that place.
 abbrev pub ArePlaces : List Heading → (ℕ → Option ℕ) → Type 0
 ArePlaces headings place = (n k : ℕ) → place n ≡ Some k → IsOwnAt headings n k
 
@@ -40,7 +40,8 @@ pub record AreSortedPlaces (place : ℕ → Option ℕ) (concepts ks : List ℕ)
   pub same : IsPermutation (filter_map place concepts) ks
   pub order : IsSorted nat_cmp ks
 
--- The places are within the list of headings, whose terms at these places are those with the property.
+-- The places are within the list of headings, and the terms at them are those with the property `Is`, in alphabetical
+-- order.
 pub record AreTermPlaces (headings : List Heading) (Is : Term → Type 0) (ks : List ℕ) : Type 0 where
   pub bound : (k : ℕ) → Contains ks k → k < length headings
   pub listing : IsListing term_cmp Is (map (term_at headings) ks)

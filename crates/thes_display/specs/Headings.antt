@@ -1,4 +1,5 @@
--- The order in which headings are collected: those of the concepts' terms, and then those of their alternative labels.
+-- The order in which headings are collected: first those of the concepts' terms, and then those of their alternative
+-- labels.
 use Rattle.std.specs.Prelude.{◌≡◌, ◌++◌, ℕ, List, true, false, cond}
 use Rattle.std.specs.declared.cmp.Ordering.{Ordering}
 use Rattle.std.specs.Ordering.{nat_cmp, ordering_then}
@@ -10,7 +11,7 @@ use Rattle.thes_core.specs.Terms.{term_text}
 use Rattle.thes_display.specs.LabelTexts.{text_cmp}
 use Rattle.thes_display.specs.declared.heading.Heading.{Heading}
 
--- The order of headings: the concepts' own before lead-in terms, then by concept, then by text.
+-- The order in which headings are collected: the concepts' own before lead-in terms, then by concept, then by text.
 abbrev pub heading_key : Heading → Heading → Ordering
 heading_key x y =
     ordering_then (nat_cmp (cond x.lead_in 1 0) (cond y.lead_in 1 0))

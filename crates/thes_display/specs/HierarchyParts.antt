@@ -37,7 +37,8 @@ module _ (links : Links) (terms : List Term) where
     pub rank : HasRank terms concept k
     pub none : (b : ℕ) → IsNarrowerTerm links terms k b → ⊥
 
-  -- The option is the home of the rank `k`, if that is below `m`; or None, if no broader concept has a rank below `m`.
+  -- The option is the home of the rank `k`, if that home is below `m`, or None if no broader concept has a rank below
+  -- `m`.
   abbrev pub IsHomeBelow : (m k : ℕ) → Option ℕ → Type 0
   IsHomeBelow m k None = (b : ℕ) → IsNarrowerTerm links terms k b → m ≤ b
   IsHomeBelow m k (Some b) = IsHome links terms k b × (b < m)
@@ -46,12 +47,12 @@ module _ (links : Links) (terms : List Term) where
   abbrev pub AreHomes : ℕ → List (Option ℕ) → Type 0
   AreHomes m homes = (k : ℕ) → IsHomeBelow m k (rank_at homes k)
 
-  -- The concept with the rank `k` is a child of that with the rank `b`; the Boolean states whether that is its home.
+  -- The concept with the rank `k` is a child of that with the rank `b`; the Boolean states whether `b` is its home.
   abbrev pub IsChildAt : Bool → ℕ → ℕ → Type 0
   IsChildAt true k b = IsHome links terms k b
   IsChildAt false k b = IsAway links terms k b
 
-  -- The child is one of the concept with the rank `b`, and has the types of its links to that concept.
+  -- The child is a child of the concept with the rank `b`, and has the types of its links to that concept.
   abbrev pub IsChild : ℕ → Child → Type 0
   IsChild b c = IsChildAt c.at_home c.rank b × AreTypes links terms c.types c.rank b
 

@@ -11,7 +11,7 @@ use Rattle.thes_display.specs.Alphabetical.{entry_line, symbol_text}
 use Rattle.thes_display.specs.Order.{Term, term_cmp}
 use Rattle.thes_display.specs.declared.symbol.Symbol.{Symbol}
 
--- The test of whether the label is of the kind and in the language.
+-- Whether the label is of the kind and in the language.
 abbrev pub is_label_in : LabelKind → List ℕ → LabelData → Bool
 is_label_in kind tag l = is_of_kind kind l && pointwise nat_eq l.tag tag
 

@@ -38,7 +38,8 @@ module _ (IsTop : ℕ → Type 0) (IsHome IsAway : ℕ → ℕ → Type 0) (AreT
   IsHomeward (k ∷ []) = IsTop k
   IsHomeward (k ∷ b ∷ above) = IsHome k b × IsHomeward (b ∷ above)
 
-  -- The ranks are the path of a line at home, or of one directly below the home line of another broader concept.
+  -- The ranks are the path of a line at home, or of a line directly below the line at home of a broader concept that
+  -- isn't the home.
   abbrev pub IsPlaced : Bool → List ℕ → Type 0
   IsPlaced true up = IsHomeward up
   IsPlaced false [] = ⊥

@@ -1,4 +1,4 @@
--- Texts to which others are appended.
+-- Texts to which other texts are appended.
 use Rattle.std.specs.Prelude.{◌≡◌, ◌++◌, ℕ, List}
 
 -- The new text is the old one, with a text that has the property `IsOne` appended.

@@ -38,7 +38,7 @@ fn push_entry_line(text: &mut Vec<u8>, symbol: &[u8], shown: &[u8]) -> Result<()
     Ok(())
 }
 
-// What the entries of a display are made of: the state, the language, and the headings.
+// The source of all entries of a display: the core, the language, and the index of headings.
 #[derive(Clone, Copy)]
 struct EntrySource<'a> {
     alloc: Global,
@@ -47,7 +47,7 @@ struct EntrySource<'a> {
     index: &'a HeadingIndex,
 }
 
-// Appends the lines of one symbol for these terms.
+// Appends a line with the symbol for each of these terms.
 fn write_terms(text: &mut Vec<u8>, terms: &[Term], symbol: Symbol) -> Result<(), AllocError>
     ensures { OnOk result (text.new.items ≡ text.old.items ++ term_lines symbol terms.now) }
 {
@@ -57,7 +57,7 @@ fn write_terms(text: &mut Vec<u8>, terms: &[Term], symbol: Symbol) -> Result<(),
     Ok(())
 }
 
-// Appends the lines of one symbol for these labels.
+// Appends a line with the symbol for each of these labels.
 fn write_texts(text: &mut Vec<u8>, labels: &[&Label], symbol: Symbol) -> Result<(), AllocError>
     ensures { OnOk result (text.new.items ≡ text.old.items ++ label_lines symbol labels.now) }
 {
@@ -67,8 +67,8 @@ fn write_texts(text: &mut Vec<u8>, labels: &[&Label], symbol: Symbol) -> Result<
     Ok(())
 }
 
-// Appends the lines of one symbol for a concept's labels of a kind. A single label needs no sort
-// key.
+// Appends a line with the symbol for each of a concept's labels of a kind, in alphabetical order. A
+// single label needs no sort, so no sort key is computed for it.
 fn write_labels(
     source: &EntrySource<'_>,
     text: &mut Vec<u8>,
@@ -98,7 +98,7 @@ fn text_of(headings: &[Heading], place: usize) -> &[u8]
     headings[place].term.text()
 }
 
-// Appends the lines of one symbol for the terms of the headings at these places.
+// Appends a line with the symbol for the heading at each of these places.
 fn write_places(
     text: &mut Vec<u8>,
     headings: &[Heading],
@@ -115,8 +115,9 @@ fn write_places(
     Ok(())
 }
 
-// Appends the lines of one symbol for these concepts, with the terms of their headings, or, if one
-// has no heading, with terms made for them.
+// Appends a line with the symbol for each of these concepts, in alphabetical order. The terms are
+// those of the concepts' headings; if one of the concepts has no heading, the terms of all are
+// looked up in the core and sorted.
 fn write_concepts(
     source: &EntrySource<'_>,
     text: &mut Vec<u8>,
@@ -139,8 +140,9 @@ fn write_concepts(
     }
 }
 
-// Appends the lines of the symbol for links of this type on a side. If no hierarchical link of the
-// concept has a type, all concepts on the side are listed under the symbol for untyped links.
+// Appends a line for each concept on a side (broader or narrower) that a link of this type joins to
+// the concept of the entry. If no hierarchical link of that concept has a type, all concepts on the
+// side are listed under the symbol for untyped links.
 fn write_side(
     source: &EntrySource<'_>,
     text: &mut Vec<u8>,
@@ -205,7 +207,7 @@ fn write_symbols(
     Ok(())
 }
 
-// Appends the line of a lead-in term of a concept: the term to use (USE).
+// Appends the line below a lead-in term of a concept: USE, and the concept's own term.
 fn write_use(source: &EntrySource<'_>, text: &mut Vec<u8>, n: ResNo) -> Result<(), AllocError>
     requires { IsEntrySource source.now }
     ensures { let used = term_text source.now.core.now.labels source.now.tag.now n in

@@ -1,4 +1,4 @@
-//! The labels and the linked concepts in an entry.
+//! The labels and the linked concepts of an entry, looked up in a core.
 ghost use Rattle.std.specs.Prelude.{◌≡◌, ◌↔◌, false, IfOk, Contains, IsTrue, filter, map};
 ghost use Rattle.std.specs.List.Sorted.{IsStrictlySortedBy};
 ghost use Rattle.std.specs.Ordering.{nat_cmp};
@@ -90,7 +90,7 @@ pub(crate) fn labels_in<'a>(
     Ok(found)
 }
 
-/// Returns the terms of a concept with the texts of these labels, in alphabetical order.
+/// Returns these labels of the concept `n` as terms, in alphabetical order.
 pub(crate) fn sorted_labels(
     alloc: Global,
     labels: &[&Label],
@@ -117,7 +117,7 @@ pub(crate) enum Side {
 }
 
 impl Side {
-    /// Returns the symbol for links of this type on the side.
+    /// Returns the symbol for concepts that links of this type join on this side.
     pub(crate) fn symbol(self, hierarchy: Hierarchy) -> Symbol
         ensures { result ≡ symbol_on self hierarchy }
     {
@@ -128,8 +128,8 @@ impl Side {
     }
 }
 
-/// The concepts that hierarchical links of any kind join to one, on each side, and those related to
-/// it, all in ascending order, and whether one of the hierarchical links has a type.
+/// The broader, narrower and related concepts of a concept, each list in ascending order, and
+/// whether one of the concept's hierarchical links has a type.
 #[derive(Drop)]
 pub struct Sides {
     pub concept: ResNo,
@@ -176,7 +176,8 @@ impl Sides {
     }
 }
 
-// Checks whether `m`, one of the concepts on this side, is there by a link of this kind.
+// Checks whether a link of this kind joins the concept to `m`, which is one of the concepts on this
+// side.
 #[tactic(auto, using(crate::proofs::SideLemmas::untyped_link, crate::proofs::SideLemmas::only_untyped))]
 fn is_linked(core: &Core, sides: &Sides, side: Side, kind: LinkKind, m: ResNo) -> bool
     requires unspent { core.now.spent ≡ false }
@@ -194,7 +195,8 @@ fn is_linked(core: &Core, sides: &Sides, side: Side, kind: LinkKind, m: ResNo) -
     }
 }
 
-// Returns the concepts that are on this side by links of this kind, in ascending order.
+// Returns the concepts on this side that links of this kind join to the concept, in ascending
+// order.
 pub(crate) fn linked_concepts(
     alloc: Global,
     core: &Core,

@@ -25,15 +25,15 @@ pub struct Heading {
 
 impl Heading {
     // Returns 0 for a concept's term and 1 for a lead-in term, so that the term comes first among
-    // the concept's headings with one text.
+    // the concept's headings with the same text.
     fn rank(&self) -> u8
         ensures { result ≡ cond self.now.lead_in 1 0 }
     {
         if self.lead_in { 1 } else { 0 }
     }
 
-    // Compares two headings: alphabetically by text, then by concept, then the term before lead-in
-    // terms.
+    // Compares two headings: by text, alphabetically, then by concept, and then by kind, with the
+    // concept's term before its lead-in terms.
     fn order(&self, other: &Heading) -> Ordering
         ensures { result ≡ heading_cmp self.now other.now }
     {
@@ -122,9 +122,9 @@ fn sort_headings(headings: &mut Vec<Heading>) -> Result<(), AllocError>
     Ok(())
 }
 
-/// Returns the headings of all live concepts of a scheme, in the order of the display. Collects all
-/// terms before the lead-in terms, since each of these two lists is often in order already, and a
-/// sort is then fast.
+/// Returns the headings of all live concepts of a scheme in a language, in the order of the
+/// display. Collects all terms before the lead-in terms, since each of these two lists is often
+/// already sorted, which makes the sort fast.
 pub fn headings_of(
     alloc: Global,
     core: &Core,

@@ -8,7 +8,8 @@ use crate::ranks::{ranks_at, set_rank};
 use std::alloc::{AllocError, Global};
 use thes_base::number::ResNo;
 
-/// The headings of a display, and, at the number of each concept, the place of its own heading.
+/// The headings of a display in order, and, at the number of each concept, the place of the heading
+/// that is its own term, not a lead-in term.
 #[derive(Drop)]
 pub struct HeadingIndex {
     pub headings: Vec<Heading>,

@@ -1,4 +1,6 @@
-//! Computes the hierarchy of a scheme from the links of a core, and the text of its display.
+//! Computes the hierarchy of a scheme from the links of a core, and the text of its display. The
+//! rank of a concept is the index of its term in alphabetical order; the home of a concept is its
+//! broader concept with the least rank.
 ghost use Rattle.std.specs.Prelude.{◌≡◌, ◌<◌, ◌↔◌, [], true, false, OnOk, IsPermutation, IsSorted, ℕ, Some, None, length, IfOk, IsTrue};
 ghost use Rattle.thes_base.specs.Listing.{IsListing};
 ghost use Rattle.thes_base.specs.State.{State};
@@ -33,7 +35,7 @@ fn terms_of(alloc: Global, core: &Core, scheme: ResNo, tag: &Tag) -> Result<Vec<
     Ok(terms)
 }
 
-// Checks whether the list has no home of the concept with the rank `child`.
+// Checks whether `homes` has no home for the concept with the rank `child`.
 fn is_homeless(homes: &[Option<usize>], child: usize) -> bool
     ensures none { result ≡ true → rank_at homes.now child ≡ None }
     ensures some { result ≡ false → (home : ℕ) × (rank_at homes.now child ≡ Some home) }
@@ -65,7 +67,7 @@ fn untyped() -> Types
 }
 
 // Returns the types of the links from the concept with the rank `child` to the broader one with the
-// rank `rank`, which has no typed link if `is_typed` is false.
+// rank `rank`. If `is_typed` is false, the latter has no typed link, and none is looked up.
 #[tactic(auto, using(crate::proofs::RankLemmas::rank_of_term, crate::proofs::SideLemmas::no_type))]
 fn types_at(core: &Core, terms: &[Term], is_typed: bool, child: usize, rank: usize) -> Types
     requires unspent { core.now.spent ≡ false }
@@ -94,7 +96,8 @@ struct RankedTerms<'a> {
 }
 
 // Returns the children of the concept with this rank, sorted by rank: its narrower concepts that
-// have a rank. The children without a home in `homes` are at home here.
+// have a rank. The concept is the home of each child that has none in `homes`, which lists the
+// homes with lesser ranks.
 fn children_of(
     alloc: Global,
     core: &Core,
@@ -112,7 +115,8 @@ fn children_of(
     let n = terms[rank].concept();
     let narrower = core.narrower_of(alloc, n)?;
     let is_typed = has_typed_link(alloc, core, n)?;
-    // Concepts without a rank are left out (DECISIONS.md, Displays and exports).
+    // Narrower concepts without a rank, of which a legal state has none, are left out
+    // (DECISIONS.md, Displays and exports).
     let found = ranks_at(alloc, ranked.ranks, narrower.as_slice())?;
     let mut children = Vec::new(alloc);
     for child in &found {
@@ -128,7 +132,7 @@ fn children_of(
     Ok(children)
 }
 
-// Sets the concept with this rank as the home of those of its children that are at home.
+// Records the concept with this rank as the home of each child that is at home below it.
 fn set_homes(
     homes: &mut Vec<Option<usize>>,
     children: &[Child],
@@ -144,8 +148,8 @@ fn set_homes(
     Ok(())
 }
 
-// Returns the children of each concept, in the order of the concepts' ranks, and lists all homes in
-// `homes`.
+// Returns the children of each concept, in the order of the concepts' ranks, and records the home
+// of each child in `homes`.
 fn below_of(
     alloc: Global,
     core: &Core,

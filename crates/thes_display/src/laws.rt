@@ -1,4 +1,4 @@
-//! Laws of displays, whatever code writes them.
+//! Laws of displays, which hold for any code that writes displays.
 ghost use Rattle.thes_display.specs.Alphabetical.{HasOneAlphabetical};
 ghost use Rattle.thes_display.specs.Hierarchical.{EachHasOneHome, HasOneHierarchical};
 

@@ -35,8 +35,8 @@ pub enum Symbol {
 }
 
 impl Hierarchy {
-    /// Returns the kind of the links that a symbol of this type shows, from the narrower to the
-    /// broader concept.
+    /// Returns the kind of the links of this type, which lead from the narrower to the broader
+    /// concept.
     pub fn kind(self) -> LinkKind
         ensures kind { result ≡ hierarchy_kind self }
         ensures hierarchical { IsHierarchical result }

@@ -1,4 +1,6 @@
-//! Writes a hierarchy line by line, in a depth-first walk.
+//! Writes a hierarchy line by line, in a depth-first walk. A concept has a line below each of its
+//! broader concepts. The line below its home is its line at home, and only there are the concept's
+//! own children written; a top concept's only line is at home.
 ghost use Rattle.std.specs.Prelude.{◌≡◌, ◌+◌, ◌*◌, ◌<◌, ◌++◌, [], length, reverse, map, replicate, slice_set, IfOk, OnOk, vec_len, if◌then◌else◌};
 ghost use Rattle.thes_display.specs.Lines.{line_end, placed_text, types_text};
 ghost use Rattle.thes_display.specs.ChildLists.{children_at, lists, total, waiting_at, AreHierarchyLists, IsHierarchyText};

@@ -1,4 +1,4 @@
-//! Displays of a scheme in a language: the text of each kind, and its writing to a pipe.
+//! Displays of a scheme in a language, made as a text or written to a pipe.
 ghost use Rattle.std.specs.Prelude.{◌≡◌, false, IfOk, MatchOption};
 ghost use Rattle.thes_base.specs.Pipe.{IsFresh};
 ghost use Rattle.thes_base.specs.Resources.{IsScheme};
@@ -20,7 +20,7 @@ use thes_base::text::Tag;
 use thes_core::Core;
 use thes_requests::request::{Display, DisplayRequest};
 
-/// The outcome of writing a display that no fault stopped.
+/// The outcome of writing a display, unless a fault stopped it.
 #[derive(Clone, Copy, Debug, PartialEq, Eq)]
 pub enum DisplayOutcome {
     /// The whole display was written.
@@ -29,8 +29,8 @@ pub enum DisplayOutcome {
     No(Refusal),
 }
 
-/// Checks that the number is a scheme's: returns None if it is, or else UnknownResource or
-/// WrongKind.
+/// Checks that the number is a scheme's: returns `None` if it is, or else `UnknownResource` or
+/// `WrongKind`.
 pub fn check_scheme(core: &Core, scheme: ResNo) -> Option<Refusal>
     requires { core.now.spent ≡ false }
     ensures { let resources = core.now.resources in

@@ -69,7 +69,7 @@ one_details s n c d x y =
       typed = typed i;
     }
 
--- The line that answers the query in the state.
+-- The text is the line that answers the query in the state.
 abbrev IsLine : State → Query → List ℕ → Type 0
 IsLine s asked.Totals text = text ≡ line_text (totals_data (totals_of s.histories))
 IsLine s (asked.Concept n) text = (c : ConceptDetails) × unless_concept s n None × AreDetailsOf s n c

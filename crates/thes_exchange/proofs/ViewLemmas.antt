@@ -21,7 +21,7 @@ map_map : {A B C : Type 0} (f : A → B) (g : B → C) (xs : List A) → map g (
 map_map f g [] = refl
 map_map f g (x ∷ xs) = ap (λ ys. g (f x) ∷ ys) (map_map f g xs)
 
--- An array of elements that are converted before they are shown.
+-- Converting each element as it is shown makes the same array as converting all elements first.
 pub array_of_converted : {A B : Type 0} (convert : A → B) (show : B → Data) (xs : List A) → array_data
     (λ x. show (convert x)) xs ≡ array_data show (map convert xs)
 array_of_converted convert show xs = rw (map_map convert show xs) refl

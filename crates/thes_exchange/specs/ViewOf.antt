@@ -12,7 +12,7 @@ use Rattle.thes_requests.specs.declared.request.Query.TheVariants as asked
 use Rattle.thes_exchange.specs.declared.view.View.{View}
 use Rattle.thes_exchange.specs.declared.view.View.TheVariants as views
 
--- The rule that the number is that of a posting, with its refusal.
+-- The rule that the number is that of a posting, or else the refusal is `UnknownPosting`.
 abbrev pub unless_posting : State → ℕ → RefusalRule
 unless_posting s n = refused_unless (IsKnownPosting s.histories n) no.UnknownPosting accepted
 

@@ -49,11 +49,11 @@ typed_data m = keyword_data (typed_kind_name m.0) m.1
 abbrev pub move_data : Move → Data
 move_data m = array (item (number_data m.number) (item (number_data m.source) (item (number_data m.target) no_items)))
 
--- A posting of a list as an array of its number, its key and its record name.
+-- A posting's entry in a list, as an array of its number, its key and its record name.
 abbrev pub entry_data : ℕ → List ℕ → List ℕ → Data
 entry_data n key rec = array (item (number_data n) (item (string key) (item (string rec) no_items)))
 
--- A posting as its entry in a list.
+-- The entry in a list for a posting with this history.
 abbrev pub row_data : History → Data
 row_data h = entry_data h.number h.key h.rec
 

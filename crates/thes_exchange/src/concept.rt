@@ -15,7 +15,8 @@ use thes_base::fault::Refusal;
 use thes_base::number::ResNo;
 use thes_core::Core;
 
-// Returns the concept with this number, live or not, or the refusal UnknownResource or WrongKind.
+// Returns the concept with this number, live or not, or the refusal `UnknownResource` or
+// `WrongKind`.
 fn concept_at<'a>(core: &'a Core, number: ResNo) -> Result<&'a Resource, Refusal>
     requires { core.now.spent ≡ false }
     ensures judges { (s : State) → IsViewOf core.now s → MatchResult result

@@ -1,4 +1,4 @@
-//! The law of views, whatever code makes them.
+//! The law of views, which holds for any code that makes views.
 ghost use Rattle.thes_exchange.specs.Laws.{HasOneView};
 
 /// No effect; states for the proof that a state has at most one answer to a query: one line, byte

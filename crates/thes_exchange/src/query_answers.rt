@@ -1,4 +1,4 @@
-//! Answers to queries, built from views; and views, written to a pipe.
+//! Builds the answers to queries from views, and writes views to a pipe.
 ghost use Rattle.std.specs.Prelude.{◌≡◌, IfErr, IfOk, Ok, OnOk};
 ghost use Rattle.std.specs.Io.KnownBytes.{Appends};
 ghost use Rattle.thes_base.specs.Pipe.{written_bytes, IsFresh, KeepsCallLimit};

@@ -188,7 +188,7 @@ impl Element for Move {
     }
 }
 
-// Returns a posting of a list as a JSON array of its number, key and record name.
+// Returns the entry of a posting in a list: a JSON array of its number, key and record name.
 pub(crate) fn entry_value(
     alloc: Global,
     number: PostNo,
@@ -211,7 +211,7 @@ impl Element for &History {
     }
 }
 
-// Appends a value to a JSON array; fails if memory runs out, or if it ran out for the value.
+// Appends a value to a JSON array; fails if memory runs out, or already ran out for the value.
 fn push_value(list: &mut Vec<Value>, value: Result<Value, AllocError>) -> Result<(), AllocError>
     ensures { (d : Data) → IfOk value (λ v. view v ≡ d) → OnOk result
         (map view list.new.items ≡ map view list.old.items ++ d ∷ []) }
@@ -246,7 +246,7 @@ fn rows_value(alloc: Global, rows: &[&History]) -> Result<Value, AllocError>
     array_value(alloc, rows)
 }
 
-// Puts a member into a JSON object; fails if memory runs out, or if it ran out for the value.
+// Puts a member into a JSON object; fails if memory runs out, or already ran out for the value.
 fn put_value(
     members: &mut Map<String, Value>,
     alloc: Global,
@@ -373,7 +373,7 @@ fn place_of(history: &History) -> ResNo
     }
 }
 
-// Returns a JSON string of a text of a view.
+// Returns a text as a JSON string.
 fn text_value(alloc: Global, text: &str) -> Result<Value, AllocError>
     ensures { IfOk result (λ v. view v ≡ string text.now) }
 {
@@ -429,7 +429,8 @@ fn posting_value(alloc: Global, history: &History) -> Result<Value, AllocError>
     Ok(Value::Object(members))
 }
 
-// Returns a JSON value, which has no floating-point number, as one compact line with a line feed.
+// Returns a JSON value as one compact line with a line feed. The text is specified only for a value
+// without floating-point numbers, and no view has any.
 #[tactic(auto, unfolding(crate::specs::ViewTexts::line_text))]
 pub(crate) fn value_line(alloc: Global, value: &Value) -> Result<Vec<u8>, AllocError>
     ensures { IfOk result (λ text. has_float (view value.now) ≡ false →

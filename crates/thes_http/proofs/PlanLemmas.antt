@@ -1,4 +1,4 @@
--- Proves that what a handler does for plans is what its service does for them.
+-- Proves that whatever a handler does for a plan, its service does for it.
 use Rattle.std.proofs.Common.{inl, inr, ℕ, List, Result, Ok, Err}
 use Rattle.thes_base.specs.declared.fault.Fault.{Fault}
 use Rattle.thes_requests.specs.RequestBehaviour.{RequestBehaviour}

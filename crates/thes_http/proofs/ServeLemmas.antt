@@ -42,7 +42,7 @@ pub answer_memory_more : {S : Type 0} (d : ServiceBehaviour S) (known mid left :
 answer_memory_more d known mid left old bytes t k = answer_memory d known left old (bytes ++ k.more)
     (Consumes-trans known mid left bytes k.more t k.taken)
 
--- Bytes have the outcome of a prefix with a complete head.
+-- If a head is complete within the first 8,192 bytes, all of the bytes have its outcome.
 pub head_outcome_all : (takes_plans : Bool) (bytes : List ℕ) (len : ℕ) (outcome : Result HeadRequest Problem) → len
     ≤ length (take head_limit bytes) → HeadOutcome takes_plans (take head_limit bytes)
     (drop len (take head_limit bytes)) outcome
@@ -68,7 +68,7 @@ pub head_outcome_front : (takes_plans : Bool) (bytes front : List ℕ) (len : �
 head_outcome_front takes_plans bytes front len outcome e l a = head_outcome_all takes_plans bytes len outcome l
     (subst (λ (t : List ℕ). HeadOutcome takes_plans t (drop len t) outcome) e a)
 
--- The outcome of a head depends only on whether plans are taken.
+-- A head has the same outcome for two services that both take plans, or both don't.
 pub outcome_taken : {a b : Bool} {bytes rest : List ℕ} {outcome : Result HeadRequest Problem} → a ≡ b
     → HeadOutcome a bytes rest outcome → HeadOutcome b bytes rest outcome
 outcome_taken {a} {b} {bytes} {rest} {outcome} e h = subst (λ (t : Bool). HeadOutcome t bytes rest outcome) e h
@@ -143,7 +143,7 @@ cut_all takes_plans known mid left bytes front start len w t e l a s c =
     (head_outcome_front takes_plans bytes front len (Ok w) e l a)
     (subst (λ (x : List ℕ). CutsBody mid left x w.body) s c)
 
--- A response is the outcome of a request.
+-- A request that was answered has the response as its outcome.
 pub outcome_of_answer : {R S : Type 0} {remaining : R → Option (List ℕ)} {d : ServiceBehaviour S}
     {reader reader' : Pipe R}
     {before after : ℕ} {old new : S} {response : Response}

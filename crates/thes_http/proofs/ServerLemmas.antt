@@ -10,7 +10,7 @@ use Rattle.thes_http.specs.ServiceBehaviour.{ServiceBehaviour}
 use Rattle.thes_http.specs.Serving.{Answers}
 
 module _ {S : Type 0} (d : ServiceBehaviour S) where
-  -- A state leads to itself by no connection.
+  -- Without an exchange, a state leads to itself.
   pub leads_nowhere : (most : ℕ) (old new : S) → new ≡ old → LeadsBy d most old new
   leads_nowhere most old new same = record { exchanges = []; few = omega arith; answered = same }
 
@@ -29,7 +29,7 @@ module _ {S : Type 0} (d : ServiceBehaviour S) where
   both_answered old mid new (e ∷ later) sooner first then =
       (then.0, both_answered old mid then.0 later sooner first then.1, then.2)
 
-  -- Connections that follow other connections add to their number.
+  -- If at most `m` exchanges lead to a state, and at most `n` from there to another, at most `m + n` lead to that one.
   pub leads_on : (m n : ℕ) {old mid new : S} → LeadsBy d m old mid → LeadsBy d n mid new → LeadsBy d (m + n) old new
   leads_on m n {old} {mid} {new} a b = record {
     exchanges = b.exchanges ++ a.exchanges;
@@ -58,6 +58,6 @@ module _ {S : Type 0} (d : ServiceBehaviour S) where
   leads_by_end remaining contents before after ReadFault (_, same) =
       leads_nowhere 1 before.handler after.handler same.0
 
-  -- One more connection leads on from where those before it led.
+  -- If fewer than `n` exchanges lead to a state, and at most one from there to another, at most `n` lead to that one.
   pub leads_more : (m n : ℕ) (old mid new : S) → LeadsBy d m old mid → LeadsBy d 1 mid new → m < n → LeadsBy d n old new
   leads_more m n old mid new led is more = leads_within (m + 1) n (omega (arith, more)) (leads_on m 1 led is)

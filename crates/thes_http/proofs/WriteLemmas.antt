@@ -1,4 +1,4 @@
--- Proves that two writes, of which one may fail, append a prefix of both texts.
+-- Proves that two writes, of which one may fail, append a prefix of the first text followed by the second.
 use Rattle.std.proofs.Common.{◌≡◌, refl, ℕ, List, ◌++◌, append_assoc, [], Option, Result, Ok, Err, OnErr, arith}
 use Rattle.std.proofs.Common.{length-append}
 use Rattle.std.proofs.lemmas.List.{take-append-le}

@@ -27,7 +27,7 @@ pub record IsConnectionAnswer {S : Type 0} (d : ServiceBehaviour S) (known left 
   pub taken : Consumes known left bytes
   pub answers : Answers d old response new bytes
 
--- The input ended inside a request, after these bytes; whether plans are taken may matter.
+-- The input ended inside a request. Whether the request has a body may depend on whether plans are taken.
 pub record IsCutOff (takes_plans : Bool) (known left : Option (List ℕ)) : Type 0 where
   pub bytes : List ℕ
   pub taken : Consumes known left bytes
@@ -73,8 +73,8 @@ module _ {R W S : Type 0} (remaining : R → Option (List ℕ)) (contents : W �
     pub answer : IsAnsweredBy response
     pub text : WritesPrefix contents response old.writer new.writer
 
-  -- What each outcome means: the response was written; the input ended inside the request, or the reader stopped, and
-  -- nothing was performed or written; or the writer stopped, and a prefix of the response was written.
+  -- The meaning of each outcome: the response was written; the input ended inside the request, or the reader stopped,
+  -- and nothing was performed or written; or the writer stopped, and a prefix of the response was written.
   abbrev pub EndsAs : ConnectionEnd → Type 0
   EndsAs (Answered status) = IsAnsweredWith status
   EndsAs Cut =

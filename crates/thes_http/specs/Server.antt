@@ -22,21 +22,21 @@ is_wait TimedOut = true
 is_wait Interrupted = true
 is_wait kind = false
 
--- The outcome of an accept: its stream; None if the client closed the connection before it was accepted; any other
--- error.
+-- The outcome of accepting a connection: its stream; None if the client closed the connection before it was accepted;
+-- or any other error.
 abbrev pub IsAcceptOutcome : {T A : Type 0} → Result (T × A) Error → Result (Option T) Error → Type 0
 IsAcceptOutcome (Ok (stream, address)) result = result ≡ Ok (Some stream)
 IsAcceptOutcome (Err e) result =
     (error_kind e ≡ ConnectionAborted → result ≡ Ok None)
     × (¬ (error_kind e ≡ ConnectionAborted) → result ≡ Err e)
 
--- The two ends of a connection, given its stream and the clone of it; None if it can't be cloned.
+-- The two ends of a connection, given its stream and the clone of its stream; None if the stream couldn't be cloned.
 abbrev pub cloned_ends : {T : Type 0} → T → Result T Error → Option (Ends T)
 cloned_ends stream (Ok input) = Some (record { input = input; output = stream })
 cloned_ends stream (Err e) = None
 
--- The request was read from the one end of a connection, and the response written to the other, through a reader and
--- a writer that had not failed before; their failures are the reasons for the outcome.
+-- The request was read from the one end of a connection, and the response was written to the other, through a reader
+-- and a writer that had not failed before; a failure of either is the reason for the outcome that reports it.
 pub record IsServedBy {C T S : Type 0} (remaining contents : T → Option (List ℕ)) (d : ServiceBehaviour S)
     (ends : Ends T) (old : S) (served : ServedStream C T) (new : S) : Type 0 where
   pub reader : Pipe (TimedStream C T)

@@ -10,16 +10,16 @@ use Rattle.thes_requests.specs.declared.handler.QueryAnswer.{QueryAnswer}
 use Rattle.thes_requests.specs.declared.request.Query.{Query}
 use Rattle.thes_requests.specs.declared.request.Display.{Display}
 
--- What a service does: for commands, queries and plans, for a posting file, for an export, and for a
--- display of a scheme in the language of a tag. Each is a relation of the state before, what is
--- asked for, the answer, and the state after.
+-- The behaviour of a service: for commands, queries and plans, for a posting file, for an export, and for a display of
+-- a scheme in the language of a tag. Each part is a relation between the state before, what is asked for, the answer,
+-- and the state after.
 pub record ServiceBehaviour (S : Type 0) : Type 1 where
   pub requests : RequestBehaviour S
   pub imports : S → List ℕ → Result (Option (List ℕ)) Fault → S → Type 0
   pub exports : S → Result (List ℕ) Fault → S → Type 0
   pub displays : S → Display → ℕ → List ℕ → Result QueryAnswer Fault → S → Type 0
 
--- All that a handler does for requests is what the service does for them.
+-- Whatever a handler does for a request, the service does for it.
 pub record DoesRequests {S : Type 0} (handler : RequestBehaviour S) (service : ServiceBehaviour S) : Type 0 where
   pub performs : (old : S) (command : Command) (result : Result Answer Fault) (new : S)
       → handler.performs old command result new → service.requests.performs old command result new

@@ -74,8 +74,8 @@ module _ {S : Type 0} (d : ServiceBehaviour S) (old : S) (r : Response) (new : S
   QueryEffect query =
       (answer : Result QueryAnswer Fault) × d.requests.shows old query answer new × (r ≡ query_response Json answer)
 
-  -- The effect for the number whose numeral is the text; if the text is no numeral of a number,
-  -- `BadNumber` and no effect.
+  -- The effect `Next` of the number that the text states in decimal; if the text is no number's numeral, the response
+  -- is `BadNumber`, and there is no effect.
   abbrev pub WithNumber : List ℕ → (ℕ → Type 0) → Type 0
   WithNumber text Next =
       (IsNoNumeral text × RespondsUnchanged (form_response BadNumber))
@@ -85,8 +85,8 @@ module _ {S : Type 0} (d : ServiceBehaviour S) (old : S) (r : Response) (new : S
   abbrev pub NumberQueryEffect : (ℕ → Query) → List ℕ → Type 0
   NumberQueryEffect query text = WithNumber text (λ n. QueryEffect (query n))
 
-  -- The effect of a display in a language, whose tag is converted to lower case; `BadTag`, and no
-  -- effect, if it isn't a tag.
+  -- The effect of a display in a language, whose tag is converted to lower case; if the text isn't a tag, the response
+  -- is `BadTag`, and there is no effect.
   abbrev pub DisplayEffect : Display → ℕ → List ℕ → Type 0
   DisplayEffect which scheme lang =
       ((¬ IsTag lang) × RespondsUnchanged (form_response BadTag))
@@ -118,8 +118,8 @@ module _ {S : Type 0} (d : ServiceBehaviour S) (old : S) (r : Response) (new : S
   abbrev pub EndpointEffectOrFailure : Endpoint → List ℕ → List ℕ → List ℕ → Type 0
   EndpointEffectOrFailure endpoint number query body = OrOutOfMemory (EndpointEffect endpoint number query body)
 
-  -- The effect of a request with a complete body; if there is a problem with its head, the response to that, and no
-  -- effect.
+  -- The effect of a request with a complete body, and its response; if there is a problem with its head, the response
+  -- reports the problem, and there is no effect.
   abbrev pub AnswersHead : Result HeadRequest Problem → List ℕ → Type 0
   AnswersHead (Err problem) rest = RespondsUnchanged (problem_response problem)
   AnswersHead (Ok w) rest = (w.body ≤ length rest) × EndpointEffect w.endpoint w.number w.query (take w.body rest)

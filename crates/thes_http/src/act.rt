@@ -1,4 +1,4 @@
-//! Performs the request of a head with its body, by the endpoint that it names.
+//! Performs a request of HTTP whose head and body were read, by the endpoint that the head names.
 ghost use Rattle.std.specs.Prelude.{◌≡◌, if◌then◌else◌, true};
 ghost use Rattle.thes_http.specs.Serving.{CommandEffect, PlanEffect, QueryEffect, NumberQueryEffect, DisplayQueryEffect, OrOutOfMemory, EndpointEffectOrFailure};
 ghost use Rattle.thes_http_request.specs.Queries.{display_query_of};

@@ -28,7 +28,8 @@ pub enum ConnectionEnd {
     Cut,
     /// The reader failed, or no read was left in the budget; nothing was performed or written.
     ReadFault,
-    /// The writer failed, or no write was left in the budget, within the response.
+    /// The writer failed, or no write was left in the budget, before all of the response was
+    /// written.
     WriteFault,
 }
 

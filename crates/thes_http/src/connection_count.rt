@@ -1,4 +1,4 @@
-//! A listener's connections, one after another, and the number of those that are done with.
+//! A listener's connections, one after another, and the number of those that are finished.
 ghost use Rattle.std.specs.Prelude.{◌≡◌, ◌≢◌, ◌+◌, ◌<◌, ◌⊎◌, IfOk, MatchOption};
 ghost use Rattle.thes_http.specs.Server.{IsAcceptOutcome, cloned_ends};
 
@@ -9,10 +9,11 @@ use std::marker::Model;
 use std::net::{Net, OpenListener, OpenStream, SocketAddr};
 use std::rt::Clock;
 
-/// The number of connections that were accepted and served; one that its client closed before it
-/// was accepted, or whose stream can't be cloned, counts as well. Contracts see the number alone,
-/// which can't be copied or set: only an accept that yields no stream, and closing a stream that
-/// was served, raise it. So a server that drops its streams doesn't reach the number asked for.
+/// The number of connections that were accepted and served; a connection that its client closed
+/// before it was accepted, or whose stream can't be cloned, counts as well. Contracts see the
+/// number alone, which can't be copied or set: only an accept that yields no stream, and closing a
+/// stream that was served, raise it. So a server that drops its streams doesn't reach the number
+/// asked for.
 #[derive(Drop)]
 pub struct ConnectionCount {
     count: u32,
@@ -26,8 +27,8 @@ impl Model for ConnectionCount {
     ghost view = { λ connections. connections.count };
 }
 
-// Returns the stream of an accept, or `None` if the client closed its connection before it was
-// accepted; any other error is final.
+// Returns the stream of an accepted connection, or `None` if the client closed the connection
+// before it was accepted; returns any other error.
 fn accepted_stream<T: Drop>(accept: io::Result<(T, SocketAddr)>) -> io::Result<Option<T>>
     ensures { IsAcceptOutcome accept result }
 {
@@ -38,8 +39,8 @@ fn accepted_stream<T: Drop>(accept: io::Result<(T, SocketAddr)>) -> io::Result<O
     }
 }
 
-// Returns the two ends of a connection, given its stream and the clone of it, or `None` if it can't
-// be cloned.
+// Returns the two ends of a connection, given its stream and the clone of its stream, or `None` if
+// the stream couldn't be cloned.
 fn ends_of<T: Drop>(stream: T, clone: io::Result<T>) -> Option<Ends<T>>
     ensures { result ≡ cloned_ends stream clone }
 {
@@ -53,7 +54,7 @@ fn ends_of<T: Drop>(stream: T, clone: io::Result<T>) -> Option<Ends<T>>
 }
 
 impl ConnectionCount {
-    /// Returns the number before the first connection.
+    /// Returns the number before the first connection, 0.
     pub fn new() -> ConnectionCount
         ensures { result ≡ 0 }
     {

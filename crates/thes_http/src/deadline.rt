@@ -16,8 +16,8 @@ const SECONDS: u64 = 30;
 // The number of bytes for which the client gets one more second.
 const BYTES_A_SECOND: u64 = 100_000;
 
-// Returns the time in which a client has to have sent or read more than this number of bytes: 30
-// seconds, and one more for each 100,000 bytes.
+// Returns the time within which a client that has sent or read this number of bytes has to send or
+// read the next one: 30 seconds, and one more for each 100,000 bytes.
 fn time_allowed(bytes: u64) -> Duration
     ensures { as_nanos result ≡ (30 + bytes / 100_000) * 1_000_000_000 }
 {
@@ -54,8 +54,8 @@ fn after_wait(error: io::Error) -> io::Error
     }
 }
 
-/// A stream that fails once its client has taken too long, by the clock. Contracts state only its
-/// bytes.
+/// A stream that fails once its client has taken too long, by the clock. Contracts state only which
+/// bytes are read and written, not when.
 #[derive(Drop)]
 pub(crate) struct TimedStream<'a, C, T> {
     stream: T,
@@ -107,14 +107,15 @@ impl<'a, C: Clock, T> TimedStream<'a, C, T> {
         self.start = Some(start);
         match time_left(time_allowed(self.bytes), now.duration_since(start)) {
             Some(left) => Ok(wait_within(left)),
-            // The read or write fails like any other, since no contract of a connection has a clock
-            // (DECISIONS.md, HTTP).
+            // The time-out is an ordinary error of the read or write, since no contract of a
+            // connection mentions a clock (DECISIONS.md, HTTP).
             None => Err(io::Error::from(ErrorKind::TimedOut)),
         }
     }
 }
 
-/// Reads within the client's time: `TimedOut` once that is over, `Interrupted` if one wait ended.
+/// Reads within the client's time. Fails with `TimedOut` once that is over, and with `Interrupted`
+/// when a single wait ends, so that the caller tries again.
 impl<C: Clock, T: Read + OpenStream> Read for TimedStream<'_, C, T> {
     ghost remaining = { λ s. T.remaining s.stream };
 
@@ -131,7 +132,8 @@ impl<C: Clock, T: Read + OpenStream> Read for TimedStream<'_, C, T> {
     }
 }
 
-/// Writes within the client's time: `TimedOut` once that is over, `Interrupted` if one wait ended.
+/// Writes within the client's time. Fails with `TimedOut` once that is over, and with `Interrupted`
+/// when a single wait ends, so that the caller tries again.
 impl<C: Clock, T: Write + OpenStream> Write for TimedStream<'_, C, T> {
     ghost contents = { λ s. T.contents s.stream };
 

@@ -3,15 +3,16 @@ ghost use Rattle.thes_http.specs.Laws.{HasOneCall, HasOneAnswer, CutHasNoAnswer}
 
 use crate::service::Service;
 
-/// No effect; states for the proof that the same bytes make the same call of a service, or no call
-/// and have the same response, unless memory runs out. It doesn't matter how the bytes are cut into
-/// reads.
+/// No effect; states for the proof that the same bytes make the same call of a service, or make no
+/// call and get the same response, unless memory runs out. It doesn't matter how many reads the
+/// bytes take.
 pub fn one_call<S: Service>()
     ensures { HasOneCall S.behaviour }
 {}
 
 /// No effect; states for the proof that the bytes and the state before determine the response and
-/// the state after it, faults aside, if they do so for each call of the service.
+/// the state after it, faults aside, if each call of the service has one answer and one state after
+/// it.
 pub fn one_answer<S: Service>()
     ensures { HasOneAnswer S.behaviour }
 {}

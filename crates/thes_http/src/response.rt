@@ -132,7 +132,8 @@ fn allow_line(endpoint: Endpoint) -> &'static str
     }
 }
 
-// Returns the status for the reply to a plan.
+// Returns the status for the reply to a plan: 200 for answers, 409 for a refusal, or 400 for a text
+// that isn't a plan.
 fn plan_status(reply: &PlanReply) -> Status
     ensures { result ≡ plan_status reply.now }
 {

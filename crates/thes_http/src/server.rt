@@ -13,14 +13,13 @@ use std::rt::Clock;
 use thes_http_request::endpoint::Routes;
 
 /// Takes `count` connections from the listener and serves them, one after another, and returns
-/// their number; one that its client closed before it was accepted, or whose stream can't be
-/// cloned, counts as well. A client has 30 seconds to send its request and 30 to read the response,
-/// by the clock, and one more second for each 100,000 bytes.
+/// their number; a connection that its client closed before it was accepted, or whose stream can't
+/// be cloned, counts as well. A client has 30 seconds to send its request and 30 to read the
+/// response, by the clock, and one more second for each 100,000 bytes.
 ///
-/// A client that closes its connection early loses only its own response. An error is that of
-/// accepting a connection, or `OutOfMemory`: memory for the routes ran out before the first
-/// connection, or running out of memory has closed the service. `Ok` means that the service is
-/// open.
+/// A client that closes its connection early loses only its own response. Returns the error of
+/// accepting a connection, or `OutOfMemory` if memory for the routes ran out before the first
+/// connection, or if running out of memory has closed the service. After `Ok` the service is open.
 #[tactic(auto, using(crate::proofs::ServerLemmas::leads_more, crate::proofs::ServerLemmas::leads_within))]
 pub fn serve<N: Net + Clock, S: Service>(
     alloc: Global,
@@ -34,7 +33,8 @@ pub fn serve<N: Net + Clock, S: Service>(
     ensures leads { LeadsBy S.behaviour count service.old service.new }
     ensures open { OnOk result (S.is_open service.new ≡ true) }
 {
-    // Made once, so that OutOfMemory never takes the place of NoSuchPath (DECISIONS.md, HTTP).
+    // The routes are made before any connection, so that a request is never answered with
+    // OutOfMemory in place of NoSuchPath (DECISIONS.md, HTTP).
     let Ok(routes) = Routes::new(alloc) else {
         return Err(io::Error::from(ErrorKind::OutOfMemory));
     };

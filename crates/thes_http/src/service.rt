@@ -10,8 +10,8 @@ use thes_requests::request::DisplayRequest;
 
 /// A request handler that also imports posting files, exports the vocabulary, and displays schemes.
 pub trait Service: RequestHandler {
-    // What each call does, those of a request handler included. (A trait, so that the proofs of a
-    // connection see no office and no storage: DECISIONS.md, The office.)
+    // The behaviour of each call, including those of a request handler. (`Service` is a trait, so
+    // that the proofs of a connection see no office and no storage: DECISIONS.md, The office.)
     ghost behaviour: { ServiceBehaviour Self };
 
     /// Imports a posting file, and returns the outcomes of its rows as CSV; None if it isn't a
@@ -25,12 +25,12 @@ pub trait Service: RequestHandler {
         requires { Self.is_open self.old ≡ true }
         ensures { behaviour.exports self.old result self.new };
 
-    /// Displays a scheme, or returns the refusal of its number.
+    /// Displays a scheme in a language, or returns the refusal of the scheme's number.
     fn display(&mut self, alloc: Global, wanted: &DisplayRequest<'_>) -> Result<QueryAnswer, Fault>
         requires { Self.is_open self.old ≡ true }
         ensures { let asked = wanted.now in
             behaviour.displays self.old asked.kind asked.scheme asked.tag.now result self.new };
 
-    // The service does for requests what its request handler does for them.
+    // The calls of `RequestHandler` do for requests what `behaviour` says.
     ghost does_requests: { DoesRequests Self.requests behaviour };
 }

@@ -115,12 +115,13 @@ fn has_waited(kind: ErrorKind) -> bool
     )
 }
 
-/// Closes a connection; if the response was written, it first discards what the client still sends.
+/// Closes a connection. If the response was written, first discards what the client still sends.
 pub(crate) fn close_stream<C: Clock, T: Read + OpenStream + Drop>(
     clock: &C,
     served: ServedStream<'_, C, T>,
 ) {
-    // Else an early answer would be lost while the client still sends (DECISIONS.md, HTTP).
+    // Otherwise a response that is written while the client still sends would be lost
+    // (DECISIONS.md, HTTP).
     if served.end.is_answered() {
         drain_input(clock, served.reader.into_device().into_stream());
     }

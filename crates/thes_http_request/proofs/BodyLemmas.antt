@@ -6,7 +6,7 @@ use Rattle.std.specs.Io.KnownBytes.{Consumes}
 use Rattle.std.proofs.KnownBytes.{Consumes-trans}
 use Rattle.thes_http_request.specs.Inbox.{BufferGrowth, ConsumesSome, HasBoundedCapacity}
 
--- The bytes consumed so far; the body is a prefix of `start` followed by them.
+-- The body so far is the first `count` bytes of `start` followed by the bytes consumed, or all of these if fewer.
 pub record BodySoFar (old new : Option (List ℕ)) (start : List ℕ) (count : ℕ) (body : List ℕ) : Type 0 where
   pub more : List ℕ
   pub taken : Consumes old new more

@@ -167,7 +167,7 @@ module _ (limit : ℕ) (text digits : List ℕ) (h : is_length text ≡ true) (s
   pub length_unread : ¬ (IsParsed digits) → limit < 2 ^ 32 → length_of limit text ≡ Err TooLong
   length_unread unread l = let k = not_small unread in length_long limit text h (omega (arith, k, l))
 
--- The first field with a name determines the length.
+-- The length of the body, if no field has the name, if several have it, and if exactly one has it.
 module _ {X : Type 0} (name : List ℕ) (f : X → List ℕ × List ℕ) (xs : List X) where
   abbrev first : ℕ
   first = position_or_len (λ x. is_named name (f x)) xs

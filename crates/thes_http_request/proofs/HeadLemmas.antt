@@ -42,7 +42,7 @@ bad_either front bytes e (inl long) h = bad_before front bytes e long h
 bad_either front bytes e (inr short) h =
     bad_at bytes (subst (λ (t : List ℕ). IsNoHead t ⊎ HasTooManyLines t) (e ∙ take_all head_limit bytes short) h)
 
--- A prefix that begins no head makes all of the bytes a bad head.
+-- If the first 8,192 bytes can't begin a head or have too many lines, all of the bytes are a bad head.
 pub bad_front : (front bytes : List ℕ) → front ≡ take head_limit bytes → IsNoHead front ⊎ HasTooManyLines front
     → IsBadHead bytes
 bad_front front bytes e h = bad_either front bytes e (cases_lt head_limit (length bytes)) h

@@ -84,7 +84,7 @@ fields_lines front rest h r =
     let c = many_lines h in
     omega (arith, same, a, b, c)
 
--- Bytes whose kind excludes line feeds have no complete line.
+-- If all bytes pass a test that a line feed doesn't pass, they have no complete line.
 
 no_feeds : (test : ℕ → Bool) → test 10 ≡ false → (bytes : List ℕ) → AllPass test bytes → lines_in bytes ≡ 0
 no_feeds test none [] all = refl

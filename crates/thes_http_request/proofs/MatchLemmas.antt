@@ -52,8 +52,8 @@ matches_byte b t path m = by (b == param_token) refl (b == catch_all_token)
 abbrev pub is_byte : ℕ → Bool
 is_byte x = ltb x param_token
 
--- A path that matches a pattern which begins with bytes begins with the same bytes, and the rests
--- match.
+-- If a pattern begins with some bytes, a path that matches it begins with the same bytes, and the rest of the path
+-- matches the rest of the pattern.
 pub matches_word : (w t path : List ℕ) → list_all is_byte w ≡ true → Matches (w ++ t) path
     → (rest : List ℕ) × (path ≡ w ++ rest) × Matches t rest
 matches_word [] t path h m = (path, refl, m)
@@ -122,8 +122,8 @@ module _ {K : Type 0} where
     no_slash : has_slash (take n path) ≡ false
     rows : AnyRow P left → AnyRow P rs
 
-  -- The number of bytes that a parameter takes and the rows that remain, given the suffix, whether
-  -- the suffix is there, and whether the path has a slash.
+  -- The number of bytes that a parameter takes and the rows that remain, given the suffix that follows the parameter,
+  -- whether there is one, and whether the path has a slash.
   abbrev taken_by : RowsOf K → List ℕ → List ℕ → Bool → Bool → ℕ × RowsOf K
   taken_by rs path s u v =
       cond {A = ℕ × RowsOf K} u (length (segment path) - length s, with_suffix s rs)
@@ -198,7 +198,7 @@ module _ {K : Type 0} where
       (or_cases _ _ key y))
       (or_cases _ _ key e)
 
-  -- A route that is found matches the path after the bytes skipped.
+  -- A route that is found after `n` bytes were skipped matches the rest of the path.
   pub found_matches : (n : ℕ) (rs : RowsOf K) (path : List ℕ) (key : K) → seek n rs path ≡ Some key
       → AnyRow (IsMatch key (drop n path)) rs
   unfolding seek
@@ -207,7 +207,7 @@ module _ {K : Type 0} where
   found_matches (suc n) rs (b ∷ path) key e = found_matches n rs path key e
   found_matches zero rs (b ∷ path) key e = match_here rs key b path (λ m qs x. found_matches m qs path key x) e
 
-  -- If a search with an alternative finds nothing, neither of the two finds anything.
+  -- If a search with an alternative finds nothing, neither the search nor the alternative finds anything.
 
   none_of : (x y : Option K) → or_else x y ≡ None → (x ≡ None) × (y ≡ None)
   none_of x y e = grind (arith, common_steps)
@@ -217,7 +217,7 @@ module _ {K : Type 0} where
   steps [] rs = rs
   steps (b ∷ w) rs = steps w (step b rs)
 
-  -- If no route matches a path, none of those after its first bytes matches the rest.
+  -- If no route matches a path, none of the rows that remain after its first bytes matches the rest.
   pub none_after : (w : List ℕ) (rs : RowsOf K) (path : List ℕ) → seek 0 rs (w ++ path) ≡ None
       → seek 0 (steps w rs) path ≡ None
   unfolding seek
@@ -235,7 +235,7 @@ module _ {K : Type 0} where
   seek_skip [] rs rest = refl
   seek_skip (b ∷ v) rs rest = seek_skip v rs rest
 
-  -- If no route matches, none after a parameter ends where the path does.
+  -- If no route matches a path without a slash, no route consists of a parameter alone.
   pub none_end : (rs left : RowsOf K) (b : ℕ) (v : List ℕ) → step param_token rs ≡ left
       → longest_suffix (segment (b ∷ v)) left ≡ []
       → has_slash (b ∷ v) ≡ false → seek 0 rs (b ∷ v) ≡ None → own left ≡ None
@@ -244,7 +244,8 @@ module _ {K : Type 0} where
       let after : seek (length v) left v ≡ None = rw (s, l, h, one_less (length v)) at (none_param rs b v e) in
       sym (seek_skip v left []) ∙ (ap (seek (length v) left) (append-nil v) ∙ after)
 
-  -- If no route matches, none after a parameter and this suffix matches the rest.
+  -- If no route matches a path, no route whose parameter ends at the path's first slash matches the path from that
+  -- slash on.
   pub none_suffix : (rs left : RowsOf K) (b : ℕ) (v rest : List ℕ) → step param_token rs ≡ left
       → longest_suffix (segment (b ∷ (v ++ slash ∷ rest))) left ≡ slash ∷ []
       → length (segment (b ∷ (v ++ slash ∷ rest))) ≡ length v + 2

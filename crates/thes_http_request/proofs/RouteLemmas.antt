@@ -90,8 +90,8 @@ no_slash_parts : (path : List ℕ) → NoSlashes (slice_split is_slash path)
 no_slash_parts [] = (refl, tt)
 no_slash_parts (b ∷ path) = grind (arith, common_steps, no_slash_onto, no_slash_parts path)
 
--- The walk of a pattern arrives at its parameter after the bytes before it, and the parameter takes
--- the bytes up to its end.
+-- Walking along a pattern and a path reaches the parameter after the bytes that precede it, and the parameter takes the
+-- bytes of the path up to where it stops.
 
 param_after : (w t : List ℕ) (len token at : ℕ) → list_all is_byte w ≡ true → at + length w ≤ len
     → wild_from (w ++ param_token ∷ t) len token at ≡ (token + length w, at + length w)
@@ -112,7 +112,7 @@ walk_one w t text path name v rest h e stop = grind (arith, common_steps, param_
 abbrev pub number_in : RouteOf Endpoint → List ℕ → List ℕ
 number_in r path = unwrap_or (named (codes "n") (walk r.pattern r.text path r.names 0 0)) []
 
--- The route is that of the endpoint that the path names, and its parameter is a text.
+-- The route is that of the endpoint that the path names. If the path is UTF-8, so is the text that the parameter took.
 pub record IsPlaceOf (path : List ℕ) (r : RouteOf Endpoint) : Type 0 where
   pub endpoint : endpoint_of_path path ≡ Some (record { endpoint = r.value; number = number_in r path })
   pub text : IsUtf8 path → AllText (walk r.pattern r.text path r.names 0 0)
@@ -240,12 +240,12 @@ pub route_found : (rows : RouteRows) (path : List ℕ) (r : RouteOf Endpoint) �
 route_found rows path r e f =
     place_found_in path r (found_matches 0 ten_rows path r (rw (e ∙ ten_rows_are) at f))
 
--- A choice by a name is None if its second branch is, and its first whenever the name is chosen.
+-- A choice by a name is None if its second branch is None, and its first branch is None for a part with that name.
 unless_named : (a w : List ℕ) (x y : Option EndpointMatch) → (a ≡ w → x ≡ None) → y ≡ None
     → cond (bytes_eq a w) x y ≡ None
 unless_named a w x y f e = grind (arith, common_steps, bytes_eq-Decides)
 
--- A path that leads to a row of its own has a route.
+-- A path that is exactly the pattern of a row has a route.
 misses : {Q : Type 0} (w : List ℕ) (r : RouteOf Endpoint) → first ten_rows w ≡ None → own (steps w ten_rows) ≡ Some r
     → Q
 unfolding matchit_on_literals

@@ -7,7 +7,7 @@ use Rattle.thes_http_request.specs.declared.endpoint.Endpoint.{Endpoint}
 use Rattle.thes_http_request.specs.declared.endpoint.Endpoint.TheVariants.{Requests, Plans, Import, Totals, Concept, Postings}
 use Rattle.thes_http_request.specs.declared.endpoint.Endpoint.TheVariants.{Posting, Export, Alphabetical, Hierarchical}
 
--- An endpoint, and the text in its path where a number is expected, or an empty text.
+-- An endpoint, and the text in its path where a number is expected; empty if none is expected.
 pub record EndpointMatch : Type 0 where
   pub endpoint : Endpoint
   pub number : List ℕ
@@ -66,7 +66,7 @@ is_slash b = b == 47
 abbrev pub is_question_mark : ℕ → Bool
 is_question_mark b = b == 63
 
--- The endpoint that a path names, if there is one, where plans are taken.
+-- The endpoint that a path names, if there is one, for a service that takes plans.
 unfoldable pub endpoint_of_path : List ℕ → Option EndpointMatch
 endpoint_of_path path = endpoint_of_parts (slice_split is_slash path)
 
@@ -75,7 +75,7 @@ abbrev pub is_plans : Endpoint → Bool
 is_plans Plans = true
 is_plans _ = false
 
--- The endpoint found, but not that of plans unless they are taken.
+-- The endpoint found, if any; None for that of plans unless they are taken.
 abbrev pub endpoint_taken : Bool → Option EndpointMatch → Option EndpointMatch
 endpoint_taken takes_plans None = None
 endpoint_taken takes_plans (Some found) =
@@ -93,7 +93,7 @@ path_of target = before_first is_question_mark target
 abbrev pub query_of : List ℕ → List ℕ
 query_of target = after_first is_question_mark target
 
--- The method of an endpoint.
+-- The name of the only method that an endpoint allows.
 abbrev pub method_of : Endpoint → List ℕ
 method_of Requests = codes "POST"
 method_of Plans = codes "POST"

@@ -1,4 +1,4 @@
--- Defines the request in a head, or the first problem that the checks of the head find.
+-- The request in a head, or the first problem that the checks of the head find.
 use Rattle.std.specs.Prelude.{ℕ, if◌then◌else◌, Bool, List, codes, Option, Some, None, Result, Ok, Err}
 use Rattle.std.specs.Str.{bytes_eq}
 use Rattle.thes_http_request.specs.declared.endpoint.Endpoint.{Endpoint}

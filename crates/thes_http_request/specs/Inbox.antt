@@ -29,7 +29,7 @@ pub record IsHeadAt (bytes : List ℕ) (headers : List HeaderSpan) (spans : Requ
   pub within : IsRequestWithin bytes headers spans
   pub few : length head.fields ≤ fields_limit
 
--- Whether the spans of a field cover this name, whatever the case of its letters.
+-- Whether the field at these spans of the bytes has this name, whatever the case of its letters.
 abbrev pub spans_named : List ℕ → List ℕ → HeaderSpan → Bool
 spans_named name bytes header = is_named (map to_ascii_lowercase name) (header_bytes bytes header)
 
@@ -63,7 +63,7 @@ pub record BufferGrowth (old new : Option (List ℕ)) (before after : List ℕ) 
   pub taken : Consumes old new more
   pub all : after ≡ before ++ more
 
--- The whole body arrived: it is the first `count` bytes of the text that is `start` and then the bytes consumed.
+-- The whole body arrived: it is the first `count` bytes of `start` followed by the bytes consumed.
 pub record ReadsBody (old new : Option (List ℕ))
     (start : List ℕ) (count : ℕ) (body : List ℕ) : Type 0 where
   pub more : List ℕ
@@ -88,7 +88,8 @@ HasBoundedCapacity count came room = (room ≤ count) × (room ≤ 2 * came + 40
 abbrev pub HasGrowingCapacity : ℕ → ℕ → ℕ → Type 0
 HasGrowingCapacity count came room = (count ≤ room) ⊎ (2 * came + 4096 ≤ room)
 
--- Room is made in the buffer of a body of `count` bytes. A full buffer gets a growing capacity.
+-- The buffer of a body of `count` bytes has room for at least one more byte. If it was full, its capacity grows with
+-- the number of bytes that arrived (`HasGrowingCapacity`).
 pub record GainsRoom {A T E : Type 0} (count : ℕ) (old new : Vec ℕ A) (result : Result T E) : Type 0 where
   pub items : new.items ≡ old.items
   pub same_length : vec_len new ≡ vec_len old

@@ -40,8 +40,8 @@ impl From<InputFault> for BodyStop {
 }
 
 // Reserves capacity if none is left: for as many more bytes as the body has, plus 4,096, but at
-// most for the `count` bytes announced. Not for all at once, as a client may announce what it never
-// sends (DECISIONS.md, Memory).
+// most for the `count` bytes announced. These aren't all reserved at once, since a client may
+// announce bytes that it never sends (DECISIONS.md, Memory).
 fn reserve_body(body: &mut Vec<u8>, count: usize) -> Result<(), AllocError>
     requires short { vec_len body.old < count }
     requires room { HasBoundedCapacity count (vec_len body.old) (vec_capacity body.old) }
@@ -54,7 +54,7 @@ fn reserve_body(body: &mut Vec<u8>, count: usize) -> Result<(), AllocError>
     body.reserve_exact(len.saturating_add(4096).min(count - len))
 }
 
-// Appends bytes to the body of an HTTP request, whose capacity suffices for them.
+// Appends bytes to a body, within its capacity.
 fn add(body: &mut Vec<u8>, bytes: &[u8])
     requires { vec_len body.old + length bytes.now ≤ vec_capacity body.old }
     ensures items { body.new.items ≡ body.old.items ++ bytes.now }
@@ -90,10 +90,10 @@ fn read_more<R: Read>(
     }
 }
 
-/// Reads a body of `count` bytes into an empty buffer; its first bytes are those of `start`.
+/// Reads a body of `count` bytes into an empty buffer. Its first bytes are taken from `start`,
+/// which was read with the head; only the others are read from the connection.
 ///
-/// The buffer grows with the bytes that arrive, not with the length announced, even if the body
-/// ends early.
+/// The buffer grows with the bytes that arrive, not with the length announced.
 pub fn read_body<R: Read>(
     reader: &mut Pipe<R>,
     budget: &mut Budget,

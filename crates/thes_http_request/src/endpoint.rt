@@ -48,7 +48,7 @@ impl Endpoint {
         }
     }
 
-    /// Returns whether this is the name of the endpoint's method; allocates nothing, since names of
+    /// Returns whether `name` is that of the endpoint's method; allocates nothing, since names of
     /// more than 15 bytes aren't parsed.
     pub fn has_method(self, alloc: Global, name: &[u8]) -> bool
         ensures { result ≡ bytes_eq name.now (method_of self) }
@@ -77,14 +77,14 @@ impl Endpoint {
     }
 }
 
-/// An endpoint, and the text in its path where a number is expected, or an empty text.
+/// An endpoint, and the text in its path where a number is expected; empty if none is expected.
 #[derive(Clone, Copy, Drop)]
 pub struct EndpointMatch<'a> {
     pub endpoint: Endpoint,
     pub number: &'a str,
 }
 
-/// The routes to all endpoints, also to that of plans.
+/// The routes to all endpoints. That of plans is among them, whether or not plans are taken.
 #[derive(Drop)]
 pub struct Routes {
     router: Router<Endpoint>,
@@ -101,7 +101,7 @@ impl Model for Routes {
     ghost invariant = { λ routes. routes.router ≡ route_rows };
 }
 
-// Adds a route to an endpoint. Each error counts as running out of memory: the routes are well
+// Adds a route to an endpoint. Any error means that memory ran out, since the routes are well
 // formed and don't conflict.
 #[tactic(auto, using(crate::proofs::RouteLemmas::rows_with_new_route))]
 fn add_route(
@@ -150,8 +150,8 @@ impl Routes {
     }
 }
 
-/// The routes by which paths are looked up, and whether plans are taken: else `/plans` names no
-/// endpoint.
+/// The routes by which paths are looked up, and whether plans are taken; if they aren't, `/plans`
+/// names no endpoint.
 #[derive(Clone, Copy)]
 pub struct Paths<'r> {
     pub routes: &'r Routes,
@@ -159,7 +159,8 @@ pub struct Paths<'r> {
 }
 
 impl<'r> Paths<'r> {
-    /// Returns the endpoint that a path names, if there is one; allocates nothing.
+    /// Returns the endpoint that a path names, if there is one, where `/plans` names one only if
+    /// plans are taken; allocates nothing.
     pub fn find<'p>(self, path: &'p str) -> Option<EndpointMatch<'p>>
         ensures { MatchOption result (endpoint_at self.entry.takes_plans path.now ≡ None)
             (λ f. endpoint_at self.entry.takes_plans path.now ≡ Some

@@ -21,7 +21,7 @@ pub fn has_field(bytes: &[u8], headers: &[HeaderSpan], name: &[u8]) -> bool
 
 /// Returns the length of the body in bytes: that of `Content-Length`, or 0 if `limit` is `None`,
 /// since then no body is read. `NoLength` if the field is missing, `BadHead` if there are several
-/// or its value isn't a number, and `TooLong` if it exceeds the limit.
+/// such fields or the value isn't in decimal digits, and `TooLong` if it exceeds the limit.
 pub fn body_length(bytes: &[u8], headers: &[HeaderSpan], limit: Option<u32>) -> Result<u32, Problem>
     requires { All (IsHeaderWithin (length bytes.now)) headers.now }
     ensures { result ≡ body_length limit (map (header_bytes bytes.now) headers.now) }
@@ -75,8 +75,8 @@ fn is_named(bytes: &[u8], header: HeaderSpan, name: &[u8]) -> bool
     header.name.of(bytes).eq_ignore_ascii_case(name)
 }
 
-// Parses the length of a body in decimal; `BadHead` if the text isn't one, and `TooLong` if the
-// length exceeds the limit.
+// Parses the length of a body in decimal; `BadHead` if the text isn't one or more digits, and
+// `TooLong` if the length exceeds the limit.
 fn length_of(text: &[u8], limit: u32) -> Result<u32, Problem>
     ensures { result ≡ length_of limit text.now }
 {

@@ -22,8 +22,8 @@ pub enum Head {
     Bad,
 }
 
-/// Decides whether bytes begin with a head, may with more bytes, or can't; if they do, `headers`
-/// has the spans of its fields.
+/// Decides whether bytes begin with a head, may do so when more bytes follow, or can't. If they do,
+/// the spans of the head's fields are put into `headers`.
 pub fn head_of(bytes: &[u8], headers: &mut [HeaderSpan]) -> Head
     requires { length headers.old ≡ 64 }
     ensures whole { (spans : _) → result ≡ Head.Whole spans → IsHeadAt bytes.now headers.new spans }

@@ -17,7 +17,7 @@ use std::alloc::Global;
 #[derive(Clone, Copy, Drop)]
 pub struct HeadRequest<'a> {
     pub endpoint: Endpoint,
-    /// The text in the path where a number is expected, or an empty text.
+    /// The text in the path where a number is expected; empty if none is expected.
     pub number: &'a str,
     pub query: &'a str,
     /// The length of the body in bytes.

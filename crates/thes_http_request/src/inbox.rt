@@ -40,7 +40,7 @@ pub enum InputFault {
 /// The reason why no head was read.
 #[derive(Clone, Copy, Debug, PartialEq, Eq)]
 pub enum HeadStop {
-    /// The head is malformed or too long.
+    /// The head is malformed or exceeds the limits.
     Bad,
     /// The input ended or failed inside the head.
     InputFault(InputFault),

@@ -6,8 +6,8 @@ pub fn cut_is_not_bad()
     ensures { CutIsNotBad }
 {}
 
-/// No effect; states for the proof that bytes which begin with a head within the limits aren't
-/// incomplete, and that no prefix of them is a bad head.
+/// No effect; states for the proof that bytes which begin with a head within the limits aren't an
+/// incomplete head, and that no prefix of them is a bad head.
 pub fn head_is_whole()
     ensures { HeadIsWhole }
 {}

@@ -1,4 +1,4 @@
-//! Problems with an HTTP request, before its body is read as a request.
+//! The problems that the head of an HTTP request can have.
 use crate::endpoint::Endpoint;
 
 /// The reason why a request is rejected, found in its head or target.

@@ -36,7 +36,7 @@ pub fn read_query(alloc: Global, query: &str) -> Result<Option<DisplayQuery<'_>>
     Ok(display_query_in(first?, second?))
 }
 
-// Returns the values of the two pairs, if their names are `scheme` and `lang`.
+// Returns the values of the two pairs if their names are `scheme` and `lang`, in either order.
 fn display_query_in<'a>(
     first: (CowStr<'a>, CowStr<'a>),
     second: (CowStr<'a>, CowStr<'a>),

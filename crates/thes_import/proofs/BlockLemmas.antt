@@ -30,7 +30,7 @@ use Rattle.thes_posting_files.proofs.AnsweredRowLemmas.{rows_answered, some_left
 use Rattle.thes_posting_files.proofs.ReportLemmas.{adds_none}
 use Rattle.thes_posting_files.proofs.RowReadingLemmas.{rows_left}
 
--- The rows of a block can be counted.
+-- With the rows of one more block, the number of rows counted is still below 2^64.
 pub block_fits : (reader reader' : RowReader) (counts : Counts) (rows : List CsvRow) → CountsRowsRead reader counts
     → ((bytes : List ℕ) (all first : List CsvRow) → HasReadRows bytes all first reader
     → HasReadRows bytes all (first ++ rows) reader') → row_count counts + length rows < 2 ^ 64
@@ -210,7 +210,7 @@ module _ {K : Type 0} (view : K → StorageView) where
         reports = adds_none report report' text counts;
       }
 
-  -- The result of the rows of a block determines the result of the block.
+  -- A block that was read has the result of performing and reporting its rows.
   pub block_result : (old new : OfficeView K) (reader reader' : RowReader) (report report' : Report)
       (rows : List CsvRow) (result : Result (Unit {0}) Fault) → ((bytes : List ℕ) (all first : List CsvRow)
       → HasReadRows bytes all first reader → HasReadRows bytes all (first ++ rows) reader')

@@ -163,7 +163,7 @@ module _ {K : Type 0} (view : K → StorageView) where
         count_is = omega (arith, a, b, c);
       }
 
-  -- One more block leaves fewer rows that can be counted.
+  -- Each block lowers the number of rows that can still be counted, so the import ends.
   pub fewer_left : (old mid new : OfficeView K) (file : List ℕ) (reader reader' : RowReader) (report report' : Report)
       (so_far : ImportInvariant old mid file reader report.counts)
       → ReportsBlock view mid reader report report' reader' new

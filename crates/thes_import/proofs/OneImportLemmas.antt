@@ -57,7 +57,7 @@ run_from_state limits base s old new commands answers shows ran =
     subst (λ (p : List ℕ × State). (t : State) × Run (setting_of p.0 limits) p.1 commands answers t
     × TablesOfState new p.0 t) (λ i. (one.0 i, one.1 i)) (ran.state_after, ran.run, ran.shows)
 
--- The import of a file leads from the one state to the other: a run of the machine over the postings of its rows.
+-- The import of a file leads from `s` to `t`, by a run of the machine over the postings of its rows.
 abbrev pub IsImportOf : Setting → State → List ℕ → Option Report → State → Type 0
 IsImportOf setting s file (Some report) t =
     (rows : List CsvRow) × (outcomes : List Outcome) × IsPostingFile file rows × AllZip IsOutcome rows outcomes

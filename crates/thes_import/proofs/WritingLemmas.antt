@@ -30,7 +30,7 @@ use Rattle.thes_posting_files.proofs.ReportLemmas.{text_of_more}
 use Rattle.thes_posting_files.proofs.RowReadingLemmas.{rows_left}
 
 module _ {W : Type 0} (contents : W → Option (List ℕ)) where
-  -- A prefix of the heading is part of the text of no outcomes.
+  -- If a prefix of the heading was written, that is part of the report of no outcomes.
   pub heading_cut : (old new : Pipe W)
       → AppendsPrefix (written_bytes contents old) (written_bytes contents new) (outcomes_text [])
       → WritesPartOf contents old new []
@@ -45,7 +45,7 @@ module _ {W : Type 0} (contents : W → Option (List ℕ)) where
     prefix = cut.front;
   }
 
-  -- After all earlier lines, a prefix of the lines of a block is part of the text of all outcomes.
+  -- If a prefix of a block's lines was written after all earlier lines, part of the text of all outcomes was written.
   pub block_cut : (old mid new : Pipe W) (outcomes_written outcomes_lost : List Outcome) (lines : List ℕ)
       → Appends (written_bytes contents old) (written_bytes contents mid) (outcomes_text outcomes_written)
       → AppendsPrefix (written_bytes contents mid) (written_bytes contents new) lines
@@ -97,7 +97,7 @@ module _ {W : Type 0} (contents : W → Option (List ℕ)) where
         record { others = others; result = result; some = some; first = first; cause = cause; writes = writes }
     stopped_by_writer old new before after file outcomes others result (Fault f) some first cause writes = absurd cause
 
-    -- The faults of an import are those of its last block.
+    -- If no earlier block ended with a fault, the faults of the import are those of its last block.
     pub faults_of_last : (old mid new : OfficeView K) (result : Result (Unit {0}) OfficeFault)
         → mid.limits ≡ old.limits → ((view mid.keeper).is_up → (view old.keeper).is_up) → (view mid.keeper).failures
         ≡ (view old.keeper).failures

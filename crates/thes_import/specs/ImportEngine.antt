@@ -36,7 +36,7 @@ module _ {W : Type 0} (contents : W → Option (List ℕ)) (old new : Pipe W) wh
     pub appends_text : Appends (written_bytes contents old) (written_bytes contents new) text
     pub not_failed : failed_of new ≡ false
 
-  -- The fault of a writer: `Write` if its device failed, `TooLong` if a write was denied.
+  -- The fault of a writer: `Write` if its device failed, `TooLong` if a write was denied because no budget was left.
   abbrev pub IsWriterFault : PipeFault → Type 0
   IsWriterFault Write = failed_of new ≡ true
   IsWriterFault TooLong = (failed_of new ≡ false) × (denied_of new ≡ true)
@@ -127,7 +127,8 @@ module _ {W K : Type 0} (contents : W → Option (List ℕ)) (view : K → Stora
     pub counts_are : counts ≡ counts_of outcomes
     pub writes : WritesWhole contents old new (outcomes_text outcomes)
 
-  -- The import of a file whose bytes were read.
+  -- The import of a file whose bytes were read: of all its rows; of none, since it has no header; or of the rows before
+  -- a fault.
   abbrev pub ImportsBytes : List ℕ → Result ImportEnd ImportStop → Type 0
   ImportsBytes file (Ok (ended.Rows counts)) = ImportsRows file counts
   ImportsBytes file (Ok ended.Malformed) = HasNoHeader file × (after ≡ before) × (new ≡ old)

@@ -18,13 +18,13 @@ use Rattle.thes_posting_files.specs.declared.report.Counts.{Counts}
 use Rattle.thes_posting_files.specs.declared.report.Report.{Report}
 
 -- A run of the machine over the requests of the rows has the answers in these outcomes, and leads
--- to the new tables. The tables are unchanged if no answer changes anything.
+-- to the new tables. The tables are unchanged if each answer is a refusal or the number of an earlier posting.
 pub record PerformsRows (limits : Limits) (old : Raw) (rows : List CsvRow) (outcomes : List Outcome)
     (new : Raw) : Type 0 where
   pub goes_on : TablesAfterRun limits old (posts_of rows) (answers_of outcomes) new
   pub same : AllByRecursion ChangesNothing (answers_of outcomes) → new ≡ old
 
--- The number of rows counted is that of the rows that the reader has read of some file.
+-- As many rows are counted as the reader has read of its file.
 pub record CountsRowsRead (reader : RowReader) (counts : Counts) : Type 0 where
   pub file : List ℕ
   pub rows : List CsvRow

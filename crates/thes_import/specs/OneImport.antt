@@ -9,7 +9,7 @@ use Rattle.thes_office.specs.TablesOfState.{TablesOfState}
 use Rattle.thes_import.specs.Imports.{Imports}
 use Rattle.thes_posting_files.specs.declared.report.Report.{Report}
 
--- Both tables encode one state, with this base.
+-- The tables of two stores, `first` and `second`, encode the same state, with this base.
 pub record EncodeOneState (base : List ℕ) (first second : Raw) : Type 0 where
   pub state : State
   pub one : TablesOfState first base state
@@ -30,8 +30,8 @@ module _ {K : Type 0} (view : K → StorageView) where
     pub imports : Imports view old file (Ok done) new
     pub is_up : (view new.keeper).is_up
 
--- Two offices with the same limits, whose tables encode the same state, report the same of a file, and their tables
--- then encode the same state, unless a fault halts an import.
+-- Two offices with the same limits, whose tables encode the same state, make the same report of a file, and their
+-- tables encode the same state afterwards, unless a fault halts an import.
 abbrev pub HasOneImport : {K L : Type 0} → (K → StorageView) → (L → StorageView) → Type 0
 HasOneImport {K} {L} view other =
     (base : List ℕ) (s : State) (file : List ℕ) (old new : OfficeView K) (old' new' : OfficeView L)

@@ -101,9 +101,9 @@ fn import_bytes<W: Write, K: Keeper>(
     let mut block = Block::new(alloc);
     while reader.has_more {
         let done = import_block(alloc, office, &mut reader, &mut block, &mut report);
-        // Written before the next block, so that a killed import has reported all blocks but one,
-        // and before a fault of the office is returned, since a fault of the writer comes first
-        // (DECISIONS.md, Posting files and The office).
+        // The outcomes are written before the next block is read, so that a killed import has
+        // reported all blocks but one; and before a fault of the office is returned, since a fault
+        // of the writer is returned in its place (DECISIONS.md, Posting files and The office).
         write_report(writer, budget, &mut report)?;
         if let Err(fault) = done {
             return Err(ImportStop {
@@ -120,9 +120,9 @@ fn import_bytes<W: Write, K: Keeper>(
 ///
 /// A file has at most 16,777,216 bytes. If it is longer, can't be read, or has no header, or if
 /// memory to read it runs out, nothing is performed or written. If a fault of the office halts the
-/// import, the outcomes of the rows performed are written. If the writer fails or is denied a
-/// write, a prefix of the outcomes may have been written. Reads and writes together number at most
-/// 100,000,000.
+/// import, the outcomes of the rows performed are written. If the writer fails, or the budget for
+/// calls is used up, a prefix of the outcomes may have been written. The budget is 100,000,000
+/// reads and writes together.
 pub fn import<R: Read, W: Write, K: Keeper>(
     alloc: Global,
     reader: &mut Pipe<R>,

@@ -12,8 +12,8 @@ use thes_posting_files::report::Report;
 use thes_store::keeper::Keeper;
 
 /// Reads the next block of rows, performs them, and appends their outcomes to the report. On a
-/// fault, the report has the outcomes of the rows performed before it. The block's rows are
-/// replaced by those that were read, which take its memory.
+/// fault, the report has the outcomes of the rows performed before it. `block` is passed for its
+/// memory: the rows read replace those that it had.
 pub(crate) fn import_block<K: Keeper>(
     alloc: Global,
     office: &mut Office<K>,
@@ -30,7 +30,7 @@ pub(crate) fn import_block<K: Keeper>(
     // No effect; states for the proof that the tables encode a state.
     let _ = office.is_stale();
     read_block(alloc, reader, block)?;
-    // Room for the lines is made before the posts, so that none is performed without its line.
+    // Room for the lines is made first, so that no row is performed without its line.
     report.make_room(block.faults.len())?;
     let mut answers = Vec::new(alloc);
     let ran = office.run(block.posts.as_slice(), &mut answers);

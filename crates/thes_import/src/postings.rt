@@ -1,6 +1,6 @@
 //! Performs the postings of a file over an office, and keeps the report in memory, for HTTP.
-//! `import` over a vector as its writer wouldn't do: its contract, which is about any writer, can't
-//! exclude the writer's faults (DECISIONS.md, Posting files).
+//! `import` with a vector as its writer wouldn't do: the contract of `import`, which is about any
+//! writer, can't exclude the writer's faults (DECISIONS.md, Posting files).
 ghost use Rattle.thes_import.specs.Imports.{Imports, fault_in};
 ghost use Rattle.thes_office.specs.Office.{FaultBehaviour};
 
@@ -18,7 +18,8 @@ use thes_store::keeper::Keeper;
 /// posting changes nothing. A fault ends the import before some row; exactly the rows in the report
 /// were performed.
 ///
-/// Returns None if the file has no header; then nothing is performed. A fault comes with a report.
+/// Returns None if the file has no header; then nothing is performed. A fault is returned with the
+/// report so far, which is empty if memory ran out before the heading was made.
 pub fn import_postings<K: Keeper>(
     alloc: Global,
     file: &[u8],

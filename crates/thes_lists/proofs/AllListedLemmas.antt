@@ -34,6 +34,6 @@ module _ {A : Type 0} where
       × Contains (listed_at lists n) x
   listed_under lists = found_in_some lists.lists.items
 
-  -- A value that is listed under a number is one of all values.
+  -- A value that is listed under a number is among the values of all lists.
   pub all_have : (lists : Lists A) (n : ℕ) (x : A) → Contains (listed_at lists n) x → Contains (all_listed lists) x
   all_have lists = found_in_all lists.lists.items

@@ -1,4 +1,4 @@
--- The effects of writing the list of one number.
+-- The effects of writing a list in place of the one that a number has.
 use Rattle.std.proofs.Common.{ltb, ◌≡◌, ◌≢◌, ◌<◌, ◌≤◌, length, set, get_or, inl, inr, ℕ, true, [], Vec, Global, sym}
 use Rattle.std.proofs.Common.{ap, subst, ◌∙◌, arith}
 use Rattle.std.specs.Prelude.{Some, vec_len, slice_get}

@@ -115,7 +115,7 @@ module _ {A : Type 0} (c : A → A → Ordering) (o : IsTotalOrder c) (exact : I
         (remove_keeps xs x m p.1 (Has-from xs m (is.complete m p.0)));
   }
 
-  -- Assumes that the lists of the old index are the listings of P.
+  -- Assumes that the old index has, under each number n, the listing of the values with the property P n.
   module _ (P Q : ℕ → A → Type 0) (old new : Lists A) (n : ℕ) (x : A) (are : AreListings c P old) where
     pub listings_insert : ChangesOnlyAt old new n (insert_key c (listed_at old n) x) → Q n x
         → ((m : ℕ) (y : A) → P m y → Q m y) → ((m : ℕ) (y : A) → Q m y → P m y ⊎ ((m ≡ n) × (y ≡ x)))

@@ -1,4 +1,4 @@
--- Rising lists after an insertion and a removal, and the place at which a binary search ends.
+-- Sorted lists after an insertion and a removal, and the place at which a binary search ends.
 use Rattle.std.proofs.Common.{◌≡◌, ◌+◌, ◌<◌, ◌≤◌, ◌⊎◌, inl, inr, ℕ, zero, suc, List, [], ◌∷◌, Bool, true, false, cond}
 use Rattle.std.proofs.Common.{length, get_or, Ordering, Less, Equal, Greater, refl, sym, ap, subst, ◌∙◌, arith}
 use Rattle.std.specs.List.{HoldsAt, insert, remove}
@@ -69,7 +69,7 @@ module _ {A : Type 0} (c : A → A → Ordering) (o : IsTotalOrder c) where
   pub never_below_itself : (x : A) → c x x ≡ Less → ⊥
   never_below_itself x e = let tied = tied_itself o x in cc
 
-  -- A rising list still rises after an insertion.
+  -- A sorted list is still sorted after an insertion.
   pub insert_sorted : (ks : List A) (x : A) → IsStrictlySortedBy c ks → IsStrictlySortedBy c (insert_key c ks x)
   insert_sorted [] x sorted = sorted_cons c x [] (λ y none. absurd none) (sorted_none c)
   insert_sorted (y ∷ ys) x sorted = go (c x y) refl (insert_sorted ys x (sorted_tail c y ys sorted))
@@ -128,7 +128,7 @@ module _ {A : Type 0} (c : A → A → Ordering) (o : IsTotalOrder c) where
       ∙ sym (ap (λ r. match_ordering r (x ∷ y ∷ ys) (y ∷ ys) (y ∷ insert_key c ys x))
       (turn y x Less (is.0 0 y (omega arith) (omega arith))))
 
-  -- A value that compares equal to a later entry of a rising list is greater than the first entry.
+  -- A value that compares equal to a later entry of a sorted list is greater than the first entry.
   before_found : (y : A) (ys : List A) (i : ℕ) (x : A) → i < length ys → IsStrictlySortedBy c (y ∷ ys)
       → HoldsAt (λ z. c z x ≡ Equal) ys i → c x y ≡ Greater
   before_found y ys i x within sorted is =

@@ -1,4 +1,4 @@
--- The test for a value in a rising list, after a search, an insertion and a removal.
+-- The test for a value in a sorted list, after a search, an insertion and a removal.
 use Rattle.std.proofs.Common.{◌≡◌, ◌<◌, ◌≤◌, ℕ, arith, length, get_or, List, [], ◌∷◌, Bool, true, false, not, cond}
 use Rattle.std.proofs.Common.{◌||◌, ◌&&◌, inl, inr, Ordering, Less, Equal, Greater, refl, sym, ap, ◌∙◌}
 use Rattle.std.specs.Ordering.{is_eq, eq_by_cmp, match_ordering, ordering_reverse}

@@ -20,7 +20,7 @@ pub struct Lists<T> {
 }
 
 impl<T: Ord + Drop> Lists<T> {
-    /// Creates an empty index, without allocating.
+    /// Creates an index in which no number has a list, without allocating.
     pub fn new(alloc: Global) -> Lists<T>
         ensures { (n : ℕ) → listed_at result n ≡ [] }
     {
@@ -41,7 +41,8 @@ impl<T: Ord + Drop> Lists<T> {
         }
     }
 
-    /// Returns the number of lists. Numbers from this count on have no list.
+    /// Returns the number of lists: none, or one more than the greatest number that has one, since
+    /// the list at index 0 stays empty. Numbers from this count on have no list.
     #[tactic(auto, using(std::proofs::lemmas::Option::slice_get_past))]
     pub fn list_count(&self) -> usize
         ensures { (n : ℕ) → result ≤ n → listed_at self.now n ≡ [] }
@@ -49,8 +50,8 @@ impl<T: Ord + Drop> Lists<T> {
         self.lists.len()
     }
 
-    /// Returns the values of the list at an index below `list_count`, which are those listed under
-    /// that number; an empty slice from there on.
+    /// Returns the values listed under the number `index`, as `at` does, for loops over all lists;
+    /// an empty slice from `list_count` on.
     pub fn list(&self, index: usize) -> &[T]
         ensures { result.now ≡ listed_at self.now index }
     {

@@ -1,4 +1,4 @@
--- Proves the laws of lists of requests and plans.
+-- The laws of lists of requests and plans.
 use Rattle.std.proofs.Common.{◌≡◌, ◌∷◌, [], ◌∙◌, List, refl, sym, ap, ap₂, subst, arith, inl, inr}
 use Rattle.thes_base.specs.declared.request.Answer.{Answer}
 use Rattle.thes_base.specs.Legal.{IsLegalState}
@@ -36,7 +36,7 @@ module _ (setting : Setting) (fit : IsSetting setting) where
   entries_legal s t (entry ∷ entries) (outcome ∷ outcomes) forms legal run = entries_legal run.0 t entries outcomes
       forms.1 (entry_legal s run.0 entry outcome forms.0 legal run.1) run.2
 
-  -- A plan that is accepted has one list of answers.
+  -- An accepted plan has at most one list of answers, and at most one state after it.
   one_acceptance : (s t u : State) (plan : List PlanRequest) (xs ys : List Answer) → PlanHasForms plan
       → IsLegalState setting.base s → PlanAccepted setting s plan xs t → PlanAccepted setting s plan ys u
       → (xs ≡ ys) × (t ≡ u)
@@ -45,7 +45,7 @@ module _ (setting : Setting) (fit : IsSetting setting) where
       let f = y.each in
       runs_agree setting fit [] plan xs ys s t u forms legal (omega (arith, e, f)) (omega (arith, e)) x.run y.run
 
-  -- An entry has one outcome, and one state after it.
+  -- An entry has at most one outcome, and at most one state after it.
   one_entry : (s t u : State) (entry : Entry) (x y : EntryOutcome) → EntryHasForms entry
       → IsLegalState setting.base s → EntryStep setting s entry x t → EntryStep setting s entry y u
       → (x ≡ y) × (t ≡ u)

@@ -1,4 +1,4 @@
--- Proves the laws of plans.
+-- The laws of a plan of one request, and of the states after plans.
 use Rattle.std.proofs.Common.{◌≡◌, ◌++◌, ◌∷◌, [], ◌∙◌, ℕ, List, length, take, refl, sym, ap, subst}
 use Rattle.std.proofs.Common.{arith}
 use Rattle.std.specs.Prelude.{None, Some}
@@ -27,7 +27,7 @@ own_numbers : (answers : List Answer) (owns : List ℕ) → resolved_numbers ans
 own_numbers answers [] = refl
 own_numbers answers (n ∷ owns) = refl
 
--- Without references the command stays.
+-- A command whose request has no references stays unchanged.
 own_command : (answers : List Answer) (c : Command) → with_numbers (resolved_number answers None)
     (resolved_number answers None) (resolved_numbers answers []) c ≡ c
 own_command answers (request.Scheme tag text) = refl
@@ -128,7 +128,7 @@ single_plan_is_request setting s t asked (Refused place r) none = (
       (subst (λ (a : Answer). Step setting s asked.command a t) given.2.1 given.1),
 )
 
--- Other numbers leave the texts of a command as they are.
+-- If the texts of a command have their forms, they keep them when the command's numbers are replaced.
 pub forms_stay : (f g : ℕ → ℕ) (h : List ℕ → List ℕ) (c : Command) → CommandHasForms c
     → CommandHasForms (with_numbers f g h c)
 forms_stay f g h (request.Scheme tag text) forms = forms

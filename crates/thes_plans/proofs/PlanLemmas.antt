@@ -1,4 +1,4 @@
--- Proves what one more request of a plan adds to it, and that a refused request changes nothing.
+-- The commands of a plan with one more request, and that a refused request changes nothing.
 use Rattle.std.proofs.lemmas.Grind.{common_steps}
 use Rattle.std.proofs.Common.{◌≡◌, ◌++◌, ◌∷◌, [], ◌∙◌, List, length, sym, ap, arith, inl, inr, append-nil}
 use Rattle.std.proofs.Common.{append_assoc}
@@ -13,7 +13,7 @@ use Rattle.thes_base.specs.State.{State}
 use Rattle.thes_plans.specs.declared.plan.PlanRequest.{PlanRequest}
 use Rattle.thes_plans.specs.Resolving.{resolved_command, resolved_commands}
 
--- The answer to an accepted request is no refusal.
+-- The answer to an accepted request isn't a refusal.
 no_refusal_answer : (command : Command) (s : State) (r : Refusal) → reply.No r ≡ answer_of command s → ⊥
 no_refusal_answer command s r e = grind (arith, common_steps)
 
@@ -24,7 +24,7 @@ refused_stays setting s t command r (inl known) = known.1
 refused_stays setting s t command r (inr (new, inl refused)) = refused.3
 refused_stays setting s t command r (inr (new, inr accepted)) = absurd (no_refusal_answer command s r accepted.1)
 
--- The commands of a plan with one more request.
+-- The commands of a plan with one more request are those of the plan, followed by that of the request.
 pub resolved_push : (before : List Answer) (done : List PlanRequest) (answers : List Answer) (asked : PlanRequest)
     (answer : Answer) → length answers ≡ length done → resolved_commands before (done ++ asked ∷ [])
     (answers ++ answer ∷ []) ≡ resolved_commands before done answers ++ resolved_command (before ++ answers) asked ∷ []
@@ -38,7 +38,7 @@ resolved_push before (d ∷ done) (a ∷ answers) asked answer same =
     ∙ ap (λ (xs : List Answer). resolved_commands (before ++ a ∷ []) done answers ++ resolved_command xs asked ∷ [])
     (append_assoc before (a ∷ []) answers))
 
--- What holds of each element and of one more.
+-- If a property holds of all elements of a list and of x, it holds of all elements of the list with x appended.
 pub all_push : {A : Type 0} (P : A → Type 0) (xs : List A) (x : A) → AllByRecursion P xs → P x
     → AllByRecursion P (xs ++ x ∷ [])
 all_push P [] x all one = (one, tt)

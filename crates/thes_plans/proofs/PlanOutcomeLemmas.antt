@@ -1,4 +1,4 @@
--- Proves that a plan has one outcome.
+-- A plan has at most one outcome, and it isn't the case that it has none.
 use Rattle.std.proofs.Common.{◌≡◌, ◌⊎◌, ◌<◌, ◌≤◌, ◌+◌, ◌++◌, ◌∷◌, [], ◌∙◌, ℕ, zero, suc, List, length, take, refl, sym, ap}
 use Rattle.std.proofs.Common.{subst, arith, inl, inr, append_assoc, append-nil}
 use Rattle.std.specs.Prelude.{Some, slice_get}
@@ -24,7 +24,7 @@ use Rattle.thes_plans.specs.Resolving.{resolved_command, resolved_commands, reso
 use Rattle.thes_plans.proofs.PlanLawLemmas.{forms_stay, run_legal}
 use Rattle.thes_plans.proofs.PlanLemmas.{refused_stays}
 
--- The commands of a prefix of a plan, as far as there are answers, are those of the plan.
+-- The resolved commands of the requests that have answers don't depend on the requests after them.
 resolved_front : (before : List Answer) (plan : List PlanRequest) (answers : List Answer)
     → resolved_commands before (take (length answers) plan) answers ≡ resolved_commands before plan answers
 resolved_front before [] [] = refl
@@ -60,7 +60,7 @@ module _ (setting : Setting) (fit : IsSetting setting) where
       (forms_stay (resolved_number before asked.first) (resolved_number before asked.second)
       (resolved_numbers before asked.postings.items) asked.command forms) legal step
 
-  -- Runs of the same number of requests of a plan agree.
+  -- Two runs of the same number of requests of a plan have the same answers, and lead to the same state.
   pub runs_agree : (before : List Answer) (plan : List PlanRequest) (xs ys : List Answer) (s t u : State)
       → PlanHasForms plan → IsLegalState setting.base s → length xs ≡ length ys → length xs ≤ length plan
       → Run setting s (resolved_commands before plan xs) xs t → Run setting s (resolved_commands before plan ys) ys u
@@ -78,7 +78,7 @@ module _ (setting : Setting) (fit : IsSetting setting) where
       (λ i. (sym one.0 i, sym one.1 i)) y.2) in
       ((λ i. one.0 i ∷ rest.0 i), rest.1)
 
-  -- No longer run of a plan accepts a request that is refused after a shorter one.
+  -- If a request of a plan is refused after those before it, a run of the plan that includes it has a refusal.
   refusal_ends : (before : List Answer) (plan : List PlanRequest) (xs ys : List Answer) (s t u v : State)
       (asked : PlanRequest) (r : Refusal) → PlanHasForms plan → IsLegalState setting.base s
       → length xs < length ys → length ys ≤ length plan → slice_get plan (length xs) ≡ Some asked
@@ -173,12 +173,13 @@ one_plan_outcome setting fit s t u plan (Refused place r) (Done ys) forms legal 
 one_plan_outcome setting fit s t u plan (Refused place r) (Refused other q) forms legal x y =
     (refusals_agree setting fit s plan forms legal place other r q x.0 y.0, x.1 ∙ sym y.1)
 
--- A plan from a state, of which requests with the answers `before` are done, is accepted.
+-- The requests are accepted one after another from the state. They are the rest of a plan, whose earlier requests have
+-- the answers `before`.
 abbrev AcceptedFrom : Setting → List Answer → List PlanRequest → State → Type 0
 AcceptedFrom setting before plan s = (answers : List Answer) × (t : State) × (length answers ≡ length plan)
     × Run setting s (resolved_commands before plan answers) answers t × AllByRecursion IsNoRefusal answers
 
--- .. or one of its requests is refused.
+-- One of the requests, which are the rest of a plan as in AcceptedFrom, is refused after those before it are accepted.
 abbrev RefusedFrom : Setting → List Answer → List PlanRequest → State → Type 0
 RefusedFrom setting before plan s = (answers : List Answer) × (asked : PlanRequest) × (mid : State) × (r : Refusal)
     × (slice_get plan (length answers) ≡ Some asked) × Run setting s (resolved_commands before plan answers) answers mid

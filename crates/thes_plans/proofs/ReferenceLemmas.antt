@@ -1,4 +1,4 @@
--- Proves what the check of references finds: of one reference, of a request, and of the requests up to an index.
+-- The check of references is right for one reference, for a request, and for the requests up to an index.
 use Rattle.std.proofs.Common.{◌≡◌, ◌++◌, ◌∷◌, [], ◌<◌, ◌≤◌, ◌+◌, ◌∙◌, ℕ, suc, List, refl, sym, ap, subst, take, length}
 use Rattle.std.proofs.Common.{arith, inl, inr}
 use Rattle.std.proofs.lemmas.List.{take_more, take_all, take-append-le}
@@ -12,7 +12,7 @@ use Rattle.thes_plans.specs.declared.plan.PlanRequest.{PlanRequest}
 use Rattle.thes_plans.specs.References.{AreGoodReferences, HasGoodReferences, IsGoodReference, IsFirstBadReference}
 use Rattle.thes_plans.specs.References.{MakesFirst, MakesResource}
 
--- A reference to a request is good exactly when that makes what is asked for.
+-- A reference to a request is good exactly when `Makes` holds of the command of that request.
 pub reference_at : (Makes : Command → Type 0) (earlier : List PlanRequest) (reference : Option ℕ) (place : ℕ)
     (made : PlanRequest) (b : Bool) → reference ≡ Some place → entry_at earlier place ≡ Some made
     → IsTrue b ↔ Makes made.command → IsTrue b ↔ IsGoodReference Makes earlier reference
@@ -23,14 +23,14 @@ reference_at Makes earlier reference place made b to at is =
           subst (λ (p : PlanRequest). Makes p.command) same good.2),
     )
 
--- The first number of a command other than a Withdraw is a resource's.
+-- The reference for the first number of a command other than a Withdraw must be to a request that creates a resource.
 pub good_first : (c : Command) (earlier : List PlanRequest) (reference : Option ℕ) (b : Bool)
     → ((posting : ℕ) → c ≡ request.Withdraw posting → ⊥) → IsTrue b ↔ IsGoodReference MakesResource earlier reference
     → IsTrue b ↔ IsGoodReference (MakesFirst c) earlier reference
 good_first (request.Withdraw posting) earlier reference b other is = absurd (other posting refl)
 good_first _ earlier reference b other is = is
 
--- No requests have good references.
+-- The empty prefix of a plan has good references.
 pub good_empty : (plan : List PlanRequest) → AreGoodReferences (take 0 plan)
 good_empty plan index asked at = absurd (cc)
 
@@ -54,18 +54,18 @@ good_push xs r good new i asked at = elim (push_cases xs r asked (suc i) at) [
       (subst (HasGoodReferences xs) (sym last.1) new)
 ]
 
--- The requests up to and including the one at the index have good references.
+-- If the first n requests have good references, and so has the one at index n, the first n + 1 have good references.
 pub good_more : (plan : List PlanRequest) (n : ℕ) (asked : PlanRequest) → slice_get plan n ≡ Some asked
     → HasGoodReferences (take n plan) asked → AreGoodReferences (take n plan) → AreGoodReferences (take (n + 1) plan)
 good_more plan n asked at new good =
     subst AreGoodReferences (sym (take_got plan n asked at)) (good_push (take n plan) asked good new)
 
--- All requests have good references.
+-- If a plan has at most n requests, and its first n have good references, all have.
 pub good_all : (plan : List PlanRequest) (n : ℕ) → length plan ≤ n → AreGoodReferences (take n plan)
     → AreGoodReferences plan
 good_all plan n past good = subst AreGoodReferences (take_all n plan past) good
 
--- The request at the index is the first with a reference that isn't good.
+-- If the first n requests have good references, and the one at index n hasn't, it is the first with a bad reference.
 pub bad_at : (plan : List PlanRequest) (n : ℕ) (asked : PlanRequest) → slice_get plan n ≡ Some asked
     → AreGoodReferences (take n plan) → (HasGoodReferences (take n plan) asked → ⊥) → IsFirstBadReference plan (n + 1)
 bad_at plan n asked at good bad = record {

@@ -1,4 +1,4 @@
--- Proves that the numbers of a list are replaced one after another.
+-- The numbers of a list can be replaced one after another.
 use Rattle.std.proofs.Common.{◌≡◌, ◌++◌, ◌∷◌, [], ◌<◌, ◌≤◌, ◌+◌, ◌∙◌, ℕ, zero, suc, List, refl, sym, ap, take, length}
 use Rattle.std.proofs.Common.{arith, add-one, get_or}
 use Rattle.std.proofs.lemmas.List.{take_all}
@@ -34,7 +34,7 @@ one_more answers [] (x ∷ owns) (suc n) own within is =
 one_more answers (r ∷ references) (x ∷ owns) (suc n) own within is =
     ap (λ (ys : List ℕ). resolved_number answers r x ∷ ys) (one_more answers references owns n own (omega arith) is)
 
--- The numbers replaced so far, and one more.
+-- Appending the replacement of the number at index n to those of the first n numbers gives those of the first n + 1.
 pub replaced_more : (answers : List Answer) (references : List (Option ℕ)) (owns : List ℕ) (n own : ℕ)
     → n < length owns → own ≡ get_or owns n own
     → resolved_numbers answers references (take n owns) ++ resolved_number answers (reference_of references n) own ∷ []
@@ -42,7 +42,7 @@ pub replaced_more : (answers : List Answer) (references : List (Option ℕ)) (ow
 replaced_more answers references owns n own within is = one_more answers references owns n own within is
     ∙ ap (λ (k : ℕ). resolved_numbers answers references (take k owns)) (sym (add-one n))
 
--- All numbers are replaced.
+-- If a list has at most n numbers, replacing the first n replaces all.
 pub replaced_all : (answers : List Answer) (references : List (Option ℕ)) (owns : List ℕ) (n : ℕ) → length owns ≤ n
     → resolved_numbers answers references (take n owns) ≡ resolved_numbers answers references owns
 replaced_all answers references owns n past = ap (resolved_numbers answers references) (take_all n owns past)

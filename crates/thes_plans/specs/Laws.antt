@@ -23,12 +23,12 @@ pub record HasNoReferences (asked : PlanRequest) : Type 0 where
   pub second : asked.second ≡ None
   pub postings : asked.postings.items ≡ []
 
--- The outcome of a plan of one request that gets this answer.
+-- A plan of one request has this outcome if the request gets this answer.
 abbrev pub IsOutcomeOfAnswer : PlanOutcome → Answer → Type 0
 IsOutcomeOfAnswer (Done answers) answer = (answers.items ≡ answer ∷ []) × IsNoRefusal answer
 IsOutcomeOfAnswer (Refused place refusal) answer = (place ≡ 1) × (answer ≡ reply.No refusal)
 
--- A plan of one request without references is that request.
+-- A plan of one request without references has the outcome of that request, and leads to the same state.
 abbrev pub SinglePlanIsRequest : Type 0
 SinglePlanIsRequest =
     (setting : Setting) (s t : State) (asked : PlanRequest) (outcome : PlanOutcome) → HasNoReferences asked

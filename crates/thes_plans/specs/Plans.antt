@@ -44,7 +44,7 @@ abbrev pub IsPlanOutcome : Setting → State → List PlanRequest → PlanOutcom
 IsPlanOutcome setting s plan (Done answers) t = PlanAccepted setting s plan answers.items t
 IsPlanOutcome setting s plan (Refused place refusal) t = PlanRefused setting s plan place refusal × (t ≡ s)
 
--- An outcome that isn't a refusal has one answer for each request; a refusal is that of a request of the plan.
+-- An outcome that isn't a refusal has one answer for each request; a refusal has the place of a request of the plan.
 abbrev pub HasEachAnswer : List PlanRequest → PlanOutcome → Type 0
 HasEachAnswer plan (Done answers) = length answers.items ≡ length plan
 HasEachAnswer plan (Refused place refusal) = (0 < place) × (place ≤ length plan)

@@ -1,4 +1,4 @@
--- References are replaced by the numbers in the answers to earlier requests.
+-- The replacement of references by the numbers in the answers to earlier requests.
 use Rattle.std.specs.Prelude.{ℕ, zero, suc, List, [], ◌∷◌, ◌++◌, Option, None, Some, slice_get}
 use Rattle.thes_base.specs.Types.{Number}
 use Rattle.thes_base.specs.Resources.{entry_at}
@@ -25,12 +25,12 @@ abbrev pub answer_number_at : List Answer → Number → ℕ → Number
 answer_number_at answers own place =
     elim (entry_at answers place) [ None ↦ own | Some answer ↦ number_or own (answer_number answer) ]
 
--- The number to which the reference refers; `own` if there is no reference.
+-- The number to which the reference refers; `own` if there is no reference, or no answer with a number for it.
 abbrev pub resolved_number : List Answer → Option ℕ → Number → Number
 resolved_number answers None own = own
 resolved_number answers (Some place) own = answer_number_at answers own place
 
--- The reference at an index; None beyond the references.
+-- The reference at an index; None for a number without one, and beyond the end of the list.
 abbrev pub reference_of : List (Option ℕ) → ℕ → Option ℕ
 reference_of references index = elim (slice_get references index) [ None ↦ None | Some reference ↦ reference ]
 
@@ -60,13 +60,13 @@ with_numbers first second listed (request.Split source tag text postings) =
 with_numbers first second listed (request.Post key rec concept) = request.Post key rec (first concept)
 with_numbers first second listed (request.Withdraw posting) = request.Withdraw (first posting)
 
--- The command of a request, with each reference replaced by the number that the answers have for it.
+-- The command of a request, with each reference replaced by the number that the answers have for it, if they have one.
 abbrev pub resolved_command : List Answer → PlanRequest → Command
 resolved_command answers asked =
     with_numbers (resolved_number answers asked.first) (resolved_number answers asked.second)
     (resolved_numbers answers asked.postings.items) asked.command
 
--- The commands of a plan, as far as there are answers: each resolved by the answers to those before it. `before` are
+-- The commands of the requests that have answers, each resolved by the answers to the requests before it. `before` are
 -- the answers to the requests before the list.
 abbrev pub resolved_commands : List Answer → List PlanRequest → List Answer → List Command
 resolved_commands before [] answers = []

@@ -1,4 +1,4 @@
-//! The requests of a plan, and what becomes of a plan.
+//! The requests of a plan, and its outcome.
 use thes_base::fault::Refusal;
 use thes_base::request::{Answer, Command};
 
@@ -9,7 +9,8 @@ pub const REQUEST_LIMIT: usize = 128;
 /// make.
 #[derive(Debug, Drop)]
 pub struct PlanRequest {
-    /// The command. A number that a reference replaces is filled in when the plan is performed.
+    /// The command. If one of its numbers has a reference below, that number is replaced when the
+    /// plan is performed.
     pub command: Command,
     /// The place (from 1) of the request that makes the resource or posting for the command's first
     /// number; `None` if that number stays.
@@ -22,7 +23,7 @@ pub struct PlanRequest {
     pub postings: Vec<Option<u32>>,
 }
 
-/// What becomes of a plan.
+/// The outcome of a plan, which is accepted or refused as a whole.
 #[derive(Debug, Drop)]
 pub enum PlanOutcome {
     /// All requests are accepted or repeat a known key: the answer to each, in order.

@@ -1,4 +1,4 @@
-//! Checks of the references of a plan, by its requests alone.
+//! Checks of the references in a plan, which need only its requests, and no state.
 ghost use Rattle.std.specs.Prelude.{◌≡◌, ◌↔◌, IsTrue};
 ghost use Rattle.std.specs.Option.{option_copied};
 ghost use Rattle.thes_base.specs.Resources.{entry_at};
@@ -75,8 +75,8 @@ fn has_good_first(earlier: &[PlanRequest], asked: &PlanRequest) -> bool
     }
 }
 
-// Returns whether each reference of the request is to an earlier request that makes what is asked
-// for.
+// Returns whether each reference of the request is to an earlier request that creates a resource
+// or, for the number of a posting, makes or finds a posting.
 fn has_good_references(earlier: &[PlanRequest], asked: &PlanRequest) -> bool
     ensures { IsTrue result ↔ HasGoodReferences earlier.now asked.now }
 {
@@ -88,8 +88,9 @@ fn has_good_references(earlier: &[PlanRequest], asked: &PlanRequest) -> bool
             .all(|reference| refers_to_posting(earlier, *reference))
 }
 
-/// Returns the place (from 1) of the first request of a plan with a bad reference; `None` if there
-/// is none. A good reference is to an earlier request that makes what is asked for.
+/// Returns the place (from 1) of the first request of a plan with a bad reference; `None` if all
+/// references are good. A good reference is to an earlier request that creates a resource or, for
+/// the number of a posting, makes or finds a posting.
 #[tactic(auto, using(crate::proofs::ReferenceLemmas::good_empty))]
 pub fn first_bad_reference(plan: &[PlanRequest]) -> Option<usize>
     ensures { FirstBadReference plan.now result }

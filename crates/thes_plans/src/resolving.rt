@@ -1,4 +1,4 @@
-//! Replaces the references of a request by the numbers in the answers to earlier requests.
+//! The replacement of a request's references by the numbers in the answers to earlier requests.
 ghost use Rattle.std.specs.Prelude.{◌≡◌, IfOk};
 ghost use Rattle.thes_base.specs.Resources.{entry_at};
 ghost use Rattle.thes_plans.specs.Resolving.{answer_number, reference_of, resolved_command, resolved_number, resolved_numbers};
@@ -25,8 +25,8 @@ fn answer_at(answers: &[Answer], place: u32) -> Option<Answer>
     answers.get((place as usize).checked_sub(1)?).copied()
 }
 
-// Returns the number to which the reference refers; `own` if there is no reference, or no number
-// for it.
+// Returns the number to which the reference refers; `own` if there is no reference, or no answer
+// with a number for it.
 fn number_for<S>(answers: &[Answer], reference: Option<u32>, own: Number<S>) -> Number<S>
     ensures { result ≡ resolved_number answers.now reference own }
 {
@@ -42,7 +42,8 @@ fn number_for<S>(answers: &[Answer], reference: Option<u32>, own: Number<S>) -> 
     }
 }
 
-// Returns the reference at an index; `None` beyond the references.
+// Returns the reference at an index; `None` for a number without one, and beyond the end of the
+// list.
 fn reference_at(references: &[Option<u32>], index: usize) -> Option<u32>
     ensures { result ≡ reference_of references.now index }
 {
@@ -72,8 +73,9 @@ fn postings_for(
 }
 
 /// Returns the command of a plan's request, with each reference replaced by the number in the
-/// answer to which it leads. The command's own number stays if `answers`, those to the requests
-/// before it, have none. Texts are moved, not copied.
+/// answer to the request that it names. `answers` are those to the requests before this one. If
+/// they have no number for a reference, the command's own number stays. Texts are moved, not
+/// copied.
 pub fn resolve(alloc: Global, answers: &[Answer], asked: PlanRequest) -> Result<Command, AllocError>
     ensures { IfOk result (λ command. command ≡ resolved_command answers.now asked) }
 {

@@ -1,4 +1,4 @@
--- Proves which rows of a block have an answer, if its first requests were performed.
+-- Proves which rows of a block have an outcome, if only its first requests were performed.
 use Rattle.std.proofs.lemmas.Grind.{common_steps}
 use Rattle.std.proofs.Common.{◌≡◌, ◌<◌, ◌++◌, ◌∷◌, [], List, refl, ap, length, map, arith}
 use Rattle.std.specs.List.{AllZip}
@@ -20,7 +20,7 @@ pub record RowsAnswered (rows : List CsvRow) (done unread : List Command) (answe
   pub answers_are : answers_of (outcomes_of (map fault_of_row rows) answers) ≡ answers
   pub none : unread ≡ [] → others ≡ []
 
--- The answers to the first requests of a block are those of its first rows.
+-- If the first requests of a block were answered, the outcomes are those of its first rows.
 pub rows_answered : (rows : List CsvRow) (done unread : List Command) (answers : List Answer) → posts_of rows ≡ done
     ++ unread → length answers ≡ length done → RowsAnswered rows done unread answers
 rows_answered [] [] unread [] e n = grind (arith, common_steps)

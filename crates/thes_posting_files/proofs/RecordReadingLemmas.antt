@@ -17,7 +17,7 @@ use Rattle.csv.proofs.ReadFacts.{rows-end, rows-more}
 use Rattle.thes_posting_files.specs.PostingFile.{HasNoHeader, header}
 use Rattle.thes_posting_files.specs.RecordReading.{HasReadTo, TakesRecord, most_left, most_records}
 
--- The part of the bound on the records left that counts the end of the text.
+-- The contribution of the end of the text to the bound on the records left: one if it may end a record.
 
 abbrev flag : Bool → ℕ
 flag b = if b then 1 else 0
@@ -35,7 +35,7 @@ here_or_later : (b : Bool) (r p : Read) (o : Option Read) → (if b then Some r 
 here_or_later true r p o e = inl (cc)
 here_or_later false r p o e = inr e
 
--- A record takes at least a byte, or the end of the text.
+-- Reading a record lowers the bound, since it consumes at least a byte, or the end of the text.
 pub fewer_records : (cfg : Config) (s : State) (fields : List (List ℕ)) (field text : List ℕ) (p : Read)
     → next_record cfg s fields field text ≡ Some p → most_records p.1 (Some p.2) < most_records s (Some text)
 unfolding next_record

@@ -1,4 +1,4 @@
--- Proves which answer a posting has that is sent again.
+-- Proves how a posting that is sent again is answered.
 use Rattle.std.proofs.lemmas.Grind.{common_steps}
 use Rattle.std.proofs.Common.{◌≡◌, ◌⊎◌, ◌∙◌, ◌+◌, ◌≤◌, ◌++◌, ◌∷◌, [], ℕ, zero, suc, List, None, Some, max, inl, inr}
 use Rattle.std.proofs.Common.{refl, sym, ap, subst, length, append_assoc, append-nil, length-append, arith}
@@ -139,7 +139,7 @@ fits_before limit m n w le h = omega arith
 fits_same : (limit n : ℕ) → n ≤ max limit n
 fits_same limit n = omega arith
 
--- A post that is within the limits of a later state is within those of an earlier one.
+-- A post that would keep a later state within the limits would also keep an earlier one within them.
 within_before : (setting : Setting) (key rec : List ℕ) (concept : ℕ) (s t : State) → IsLater s t
     → IsWithinLimits setting.limits t (state_after_post key rec concept t) → IsWithinLimits setting.limits s
     (state_after_post key rec concept s)

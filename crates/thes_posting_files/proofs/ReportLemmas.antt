@@ -34,7 +34,7 @@ pub row_count_all : (os : List Outcome) → row_count (counts_of os) ≡ length 
 row_count_all [] = refl
 row_count_all (o ∷ os) = grind (arith, common_steps, one_count, sum_by-cons, row_count_all os)
 
--- A report to which one line is appended, and which counts its row, has that outcome added.
+-- If the line of an outcome is appended to a report, and its row is counted, the outcome is added to the report.
 pub adds_one : (o : Outcome) (old new : Report) (n : ℕ) → n ≡ row_count old.counts + 1 → new.text.items
     ≡ old.text.items ++ outcome_line n o
     → ((os : List Outcome) → old.counts ≡ counts_of os → new.counts ≡ counts_of (os ++ o ∷ []))

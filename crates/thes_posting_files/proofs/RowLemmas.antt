@@ -1,4 +1,4 @@
--- Proves that each record has a row: whether a field has its form is decided without a run.
+-- Proves that each record has a row: of each field it can be decided whether it has its form.
 use Rattle.std.proofs.Common.{◌≡◌, ◌⊎◌, ◌<◌, ◌≤◌, ◌^◌, ◌∙◌, refl, sym, subst, ℕ, Bool, true, false, List, [], ◌∷◌, length}
 use Rattle.std.proofs.Common.{arith, inl, inr, true≢false}
 use Rattle.std.specs.Prelude.{◌≢◌, All, IsUtf8, slice_index}
@@ -67,7 +67,7 @@ record_name bs =
     (both (at_most 1 (length bs)) (both (at_most (length bs) 128)
     (all IsPrintable (λ b. both (at_most space b) (other_than b delete)) bs)))
 
--- The only number that the digits can spell is their value.
+-- Whether a text is the numeral of a resource's number is decided by its value, the only number that it can state.
 numeral : (bs : List ℕ) → Decided ((n : ℕ) × IsNumber n × IsNumeral bs n)
 numeral bs =
     decided_by (λ p. (digits_value 10 bs, p.0, (p.1.0, refl, p.1.1)))

@@ -24,7 +24,7 @@ rows_exist (fields ∷ records) =
     let rest = rows_exist records in
     (row.0 ∷ rest.0, (row.1, rest.1))
 
--- A file with a header has rows, of which none was read yet.
+-- Once a reader has read the header, and one record ahead, it has read none of the file's rows.
 pub rows_opened : (bytes : List ℕ) (before : Reader (Bor (List ℕ))) (reader : RowReader)
     → HasReadTo bytes (header ∷ []) before
     → TakesRecord before reader.records (fields_of reader.next) reader.has_more

@@ -9,7 +9,7 @@ use Rattle.thes_base.specs.Pipe.{unread_bytes}
 use Rattle.thes_base.specs.declared.pipe.Pipe.{Pipe}
 use Rattle.thes_posting_files.specs.WholeInput.{GivesMore, HasReadBytes}
 
--- An input whose last chunk passes the limit has more bytes than the limit.
+-- An input has more bytes than the limit if those read before and those of the next chunk together exceed it.
 pub gives_more : {R : Type 0} (remaining : R → Option (List ℕ)) (limit : ℕ) (start old new : Pipe R)
     (bytes buf : List ℕ) (count : ℕ) → HasReadBytes remaining limit start old bytes
     → Consumes (unread_bytes remaining old)

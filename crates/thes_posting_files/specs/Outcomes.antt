@@ -124,7 +124,7 @@ pub record ReportsOutcomes (outcomes : List Outcome) (report : Report) : Type 0 
   pub text : report.text.items ≡ outcomes_text outcomes
   pub counts : report.counts ≡ counts_of outcomes
 
--- The lines and counts of these outcomes are added to the report, whatever text it has before.
+-- The lines and counts of these outcomes are added to the report, whatever text it had before.
 abbrev pub AddsOutcomes : List Outcome → Report → Report → Type 0
 AddsOutcomes outcomes old new =
     (earlier : List Outcome) → old.counts ≡ counts_of earlier → (new.counts ≡ counts_of (earlier ++ outcomes))
@@ -137,7 +137,7 @@ pub record AddsRow (most : ℕ) (outcome : Outcome) (old new : Report) : Type 0 
   pub size : vec_len new.text ≤ vec_len old.text + most
   pub capacity : vec_capacity old.text ≤ vec_capacity new.text
 
--- The report is empty.
+-- The report has no text, not even the heading, and counts no rows.
 pub record IsBlankReport (report : Report) : Type 0 where
   pub text : report.text.items ≡ []
   pub counts : report.counts ≡ no_counts

@@ -66,7 +66,7 @@ pub record HasNoHeader (bytes : List ℕ) : Type 0 where
   pub read : HasRecords bytes records
   pub headless : ¬ BeginsWithHeader records
 
--- The reason why a file has no rows: it has no header, or memory ran out.
+-- The reason why a posting file can't be opened: it has no header, or memory ran out.
 abbrev pub IsFileReadStop : List ℕ → ReadStop → Type 0
 IsFileReadStop bytes (Form fault) = (fault ≡ bad.BadShape) × HasNoHeader bytes
 IsFileReadStop bytes OutOfMemory = Unit {0}

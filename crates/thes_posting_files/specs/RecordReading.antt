@@ -36,7 +36,7 @@ pub record TakesRecord (old new : Reader (Bor (List ℕ))) (fields : List (List 
   pub none : found ≡ false → (bytes : List ℕ) (records : List (List (List ℕ))) → HasReadTo bytes records old
       → HasRecords bytes records
 
--- Memory ran out, so that the reader reads no further. No record of the text is an error.
+-- Memory ran out, so that the reader reads no further. No text causes this: any bytes are records of CSV.
 abbrev pub StopsReading : Reader (Bor (List ℕ)) → Reader (Bor (List ℕ)) → Type 0
 StopsReading old new =
     (bytes : List ℕ) (records : List (List (List ℕ))) → HasReadTo bytes records old → has_failed new ≡ true

@@ -9,12 +9,12 @@ use Rattle.thes_posting_files.specs.declared.block.Block.{Block}
 use Rattle.thes_posting_files.specs.declared.csv_row.CsvRow.{CsvRow}
 use Rattle.thes_posting_files.specs.declared.reading.RowReader.{RowReader}
 
--- The reader has read these records of the text and also the next one; or, if there is none, they are all.
+-- The reader has read these records of the text and also the next one; if there is no next one, these are all records.
 pub record HasReadAhead (bytes : List ℕ) (records : List (List (List ℕ))) (reader : RowReader) : Type 0 where
   pub more : reader.has_more ≡ true → HasReadTo bytes (records ++ fields_of reader.next ∷ []) reader.records
   pub none : reader.has_more ≡ false → HasRecords bytes records
 
--- These first rows of a posting file were read.
+-- The posting file has the rows `rows`, of which the first ones, `first`, were read, and one record ahead.
 pub record HasReadRows (bytes : List ℕ) (rows first : List CsvRow) (reader : RowReader) : Type 0 where
   pub file : IsPostingFile bytes rows
   pub fits : length rows < 2 ^ 64

@@ -34,9 +34,9 @@ module _ {R : Type 0} (remaining : R → Option (List ℕ)) (limit : ℕ) (old n
   IsInputFault TooLong = (failed_of new ≡ false) × ((denied_of new ≡ true) ⊎ GivesMore)
   IsInputFault (Fault fault) = (failed_of new ≡ false) × (fault ≡ OutOfMemory)
 
--- The effect of the next read of an input of which `bytes` were read, which becomes `bytes'`: more of it was read; or
--- it is whole; or it can't be read to its end. The budget falls by the number of reads, and a result costs at least
--- one.
+-- The effect of the next read of an input, by which the bytes read so far change from `bytes` to `bytes'`: more of the
+-- input was read; or `bytes'` is the whole input; or the input can't be read to its end. The budget falls by the number
+-- of reads, which is at least one if the next read succeeds.
 pub record ReadsNext {R : Type 0} (remaining : R → Option (List ℕ)) (limit : ℕ) (old new : Pipe R) (before after : ℕ)
     (bytes bytes' : List ℕ) (result : Result Bool PipeFault) : Type 0 where
   pub fresh : IfOk result (λ more. more ≡ true → IsFresh new)

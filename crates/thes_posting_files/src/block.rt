@@ -1,4 +1,4 @@
-//! Blocks of rows, with the requests of those that are postings.
+//! Blocks: consecutive rows of a posting file, which are read and then performed together.
 ghost use Rattle.std.specs.Prelude.{◌≡◌, ◌++◌, ◌∷◌, [], OnOk};
 ghost use Rattle.thes_posting_files.specs.Outcomes.{fault_of_row, posts_of};
 
@@ -27,7 +27,7 @@ impl Block {
         }
     }
 
-    /// Removes all rows, and keeps the memory for others.
+    /// Removes all rows, and keeps the vectors' memory for the next block.
     pub fn clear(&mut self)
         ensures posts { self.new.posts.items ≡ [] }
         ensures faults { self.new.faults.items ≡ [] }
@@ -36,7 +36,8 @@ impl Block {
         self.faults.clear();
     }
 
-    /// Appends a row: its request, or its fault.
+    /// Appends a row: the request of a posting, or the fault of any other row. Fails only if memory
+    /// runs out.
     pub fn push(&mut self, row: CsvRow) -> Result<(), AllocError>
         ensures posts { OnOk result
             (self.new.posts.items ≡ self.old.posts.items ++ posts_of (row ∷ [])) }

@@ -19,7 +19,7 @@ pub enum CsvRow {
     Bad(FormFault),
 }
 
-// Returns the field of a posting file as a text, if it is UTF-8.
+// Returns a field of a posting file as a text, or None if it isn't UTF-8.
 fn text_of(bytes: &[u8]) -> Option<&str>
     ensures { MatchOption result (¬ IsUtf8 bytes.now)
         (λ text. (text.now ≡ bytes.now) × IsUtf8 bytes.now) }
@@ -27,7 +27,7 @@ fn text_of(bytes: &[u8]) -> Option<&str>
     str::from_utf8(bytes).ok()
 }
 
-// Reads a field of a posting file as a sender's key, or returns `BadKey`.
+// Reads a field of a posting file as a sender's key; the fault of any other field is `BadKey`.
 fn read_key(alloc: Global, bytes: &[u8]) -> Result<Key, ReadStop>
     ensures { IsReadResult (IsField IsKey bytes.now) FormFault.BadKey (λ key. key ≡ bytes.now)
         result }
@@ -38,7 +38,8 @@ fn read_key(alloc: Global, bytes: &[u8]) -> Result<Key, ReadStop>
     }
 }
 
-// Reads a field of a posting file as the name of a record, or returns `BadRecord`.
+// Reads a field of a posting file as the name of a record; the fault of any other field is
+// `BadRecord`.
 fn read_record(alloc: Global, bytes: &[u8]) -> Result<RecordName, ReadStop>
     ensures { IsReadResult (IsField IsRecordName bytes.now) FormFault.BadRecord
         (λ rec. rec ≡ bytes.now) result }
@@ -49,7 +50,8 @@ fn read_record(alloc: Global, bytes: &[u8]) -> Result<RecordName, ReadStop>
     }
 }
 
-// Reads a field of a posting file as the number of a concept in decimal, or returns `BadNumber`.
+// Reads a field of a posting file as a resource's number in decimal; the fault of any other field
+// is `BadNumber`. Whether the number is a concept's isn't checked here.
 fn read_number(bytes: &[u8]) -> Result<ResNo, FormFault>
     ensures { ReadsField bytes.now result }
 {
@@ -59,7 +61,7 @@ fn read_number(bytes: &[u8]) -> Result<ResNo, FormFault>
     }
 }
 
-// Returns the field of a record of CSV with this index, counted from 0.
+// Returns the field of a CSV record at this index, counted from 0.
 #[tactic(auto, using(crate::proofs::RecordLemmas::field_is_some, crate::proofs::RecordLemmas::field_value))]
 pub(crate) fn field(entry: &ByteRecord, i: usize) -> &[u8]
     requires { i < length (fields_of entry.now) }

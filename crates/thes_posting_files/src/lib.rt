@@ -1,4 +1,4 @@
-//! Reads rows of posting files (CSV), and makes lines of reports.
+//! Reads the rows of posting files (CSV), and makes reports of the rows' outcomes.
 #![tactic(auto)]
 
 pub mod block;

@@ -62,8 +62,8 @@ impl Outcome {
     }
 }
 
-// Returns the outcome of the next row, whose fault is `fault`, and the answers left; None if the
-// row is a posting and no answer is left.
+// Returns the outcome of the next row, and the answers left for later rows. The outcome is the
+// row's fault, or else (the row is a posting) the first answer; None if there is no answer.
 pub(crate) fn next_outcome(
     fault: Option<FormFault>,
     answers: &[Answer],
@@ -84,7 +84,7 @@ pub(crate) fn next_outcome(
     }
 }
 
-/// The greatest length of a report's line, with its line feed, in bytes.
+/// An upper bound on the length of a report's line, with its line feed, in bytes.
 pub const LINE_LIMIT: usize = 64;
 
 // Appends a part of a report's line, for which the capacity suffices; allocates nothing.

@@ -26,14 +26,14 @@ pub struct RowReader<'a> {
     pub has_more: bool,
 }
 
-// Returns whether a field of a record of CSV is this text.
+// Returns whether a field is this text, byte by byte.
 fn is_text(field: &[u8], text: &[u8]) -> bool
     ensures { IsTrue result ↔ (field.now ≡ text.now) }
 {
     field == text
 }
 
-// Returns whether a record of CSV has exactly these three fields.
+// Returns whether a CSV record has exactly these three fields, in this order.
 #[tactic(auto, using(crate::proofs::RecordLemmas::third_of, crate::proofs::RecordLemmas::three_fields))]
 fn has_fields(entry: &ByteRecord, first: &[u8], second: &[u8], third: &[u8]) -> bool
     ensures { IsTrue result ↔ (fields_of entry.now ≡ first.now ∷ second.now ∷ third.now ∷ []) }
@@ -63,7 +63,7 @@ fn is_header(entry: &ByteRecord) -> bool
     )
 }
 
-// Reads the first record, and returns whether it is the header.
+// Reads the first record, and returns whether it is the header; false if the file has no records.
 fn read_header(records: &mut Reader<&[u8]>, record: &mut ByteRecord) -> Result<bool, AllocError>
     ensures { IfOk result (TakesHeader records.old records.new) }
 {
@@ -73,7 +73,7 @@ fn read_header(records: &mut Reader<&[u8]>, record: &mut ByteRecord) -> Result<b
     Ok(is_header(record))
 }
 
-/// Opens a posting file for reading its rows, or returns the fault of one without a header.
+/// Opens a posting file for reading its rows. The fault of a file without a header is `BadShape`.
 pub fn open_rows(alloc: Global, bytes: &[u8]) -> Result<RowReader<'_>, ReadStop>
     ensures rows { IfOk result (λ reader. (rows : List CsvRow)
         × HasReadRows bytes.now rows [] reader) }
@@ -104,8 +104,8 @@ fn next_row(alloc: Global, reader: &mut RowReader<'_>) -> Result<CsvRow, AllocEr
     Ok(row)
 }
 
-/// Reads the rows of the next block, in place of those that the block has: up to 1,000, and at
-/// least one if any is left.
+/// Replaces the block's rows by the next rows of the file: up to 1,000, and at least one if any is
+/// left.
 pub fn read_block(
     alloc: Global,
     reader: &mut RowReader<'_>,

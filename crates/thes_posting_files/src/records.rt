@@ -6,7 +6,7 @@ ghost use Rattle.thes_posting_files.specs.RecordReading.{HasReadTo, StopsReading
 use csv::{ByteRecord, Reader, ReaderBuilder};
 use std::alloc::{AllocError, Global};
 
-/// Opens a text for reading its records of CSV, each of which may have any number of fields.
+/// Opens a text for reading its CSV records, each of which may have any number of fields.
 #[tactic(auto, unfolding(csv::specs::Reading::Reached))]
 pub(crate) fn open_records(alloc: Global, bytes: &[u8]) -> Reader<&[u8]>
     ensures { HasReadTo bytes.now [] result }
@@ -17,7 +17,7 @@ pub(crate) fn open_records(alloc: Global, bytes: &[u8]) -> Reader<&[u8]>
         .from_reader(alloc, bytes)
 }
 
-/// Reads the next record of CSV into `entry`; returns false at the end of the text. Fails only if
+/// Reads the next CSV record into `entry`; returns false at the end of the text. Fails only if
 /// memory runs out.
 #[tactic(auto, using(crate::proofs::RecordReadingLemmas::takes_found))]
 pub(crate) fn next_record(

@@ -10,7 +10,7 @@ use std::alloc::{AllocError, Global};
 use thes_base::fault::FormFault;
 use thes_base::request::Answer;
 
-/// The numbers of rows of a posting file that were performed, by outcome.
+/// The numbers of rows that an import has performed so far, by outcome.
 #[derive(Clone, Copy, Debug, PartialEq, Eq)]
 pub struct Counts {
     /// Rows that added a posting.
@@ -108,8 +108,8 @@ impl Report {
         self.counts.add(outcome);
     }
 
-    /// Appends the lines of rows up to the first posting without an answer, and counts these rows;
-    /// allocates nothing.
+    /// Appends the lines of a block's rows before the first posting without an answer, and counts
+    /// these rows; allocates nothing.
     pub fn push_outcomes(&mut self, faults: &[Option<FormFault>], answers: &[Answer])
         requires room { vec_len self.old.text + LINE_LIMIT * length faults.now ≤ vec_capacity
             self.old.text }

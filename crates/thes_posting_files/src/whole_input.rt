@@ -35,8 +35,8 @@ fn read_more<R: Read>(
     Ok(count > 0)
 }
 
-/// Reads an input to its end. `TooLong` means that the input exceeds the limit, or that a read was
-/// denied.
+/// Reads an input to its end. `TooLong` means that the input exceeds the limit, or that no read was
+/// left in the budget.
 pub fn read_whole<R: Read>(
     alloc: Global,
     reader: &mut Pipe<R>,

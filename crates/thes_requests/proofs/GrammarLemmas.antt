@@ -1,5 +1,5 @@
--- Proves one step of the loops of the JSON grammar over items and over members, with the conversion
--- to data.
+-- Proves one step of the loops that parse the items of a JSON array and the members of an object, each converted to
+-- data.
 use Rattle.std.proofs.lemmas.Grind.{common_steps}
 use Rattle.std.proofs.Common.{arith, ◌≡◌, ℕ, ◌-◌, ◌<◌, ◌≤◌, List, length, Option, Some, None, option_map}
 use Rattle.std.proofs.Common.{option_and_then, ap, ◌∙◌}

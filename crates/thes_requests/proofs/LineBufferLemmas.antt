@@ -1,4 +1,4 @@
--- Proves what the line buffer holds of a line while it consumes it byte by byte and run by run.
+-- Proves which bytes of a line have been consumed, and are held in memory, after each byte and each run of bytes.
 use Rattle.std.proofs.lemmas.Grind.{common_steps}
 use Rattle.std.proofs.Common.{◌≡◌, ◌≤◌, ◌<◌, ◌+◌, ◌∙◌, ap, ℕ, zero, suc, List, [], ◌∷◌, ◌++◌, ◌==◌, Bool, true, false}
 use Rattle.std.proofs.Common.{refl, length, take, arith, sym, subst, Option, None, Some}
@@ -54,7 +54,7 @@ buffer_after_consume at filled count buffer within =
     ∙ sym (drop-take count (filled - (at + count)) (drop at buffer))
     ∙ ap (λ n. drop count (take n (drop at buffer))) (sym parts)
 
--- The first `taken` bytes of a line were consumed, and the line holds them if `held`.
+-- The first `taken` bytes of a line were consumed, and `line` has all of them if `held`.
 pub record LineSoFar (old new : Option (List ℕ)) (line : List ℕ) (held : Bool) (taken : ℕ) : Type 0 where
   pub raw : List ℕ
   pub bytes : Consumes old new raw
@@ -75,7 +75,7 @@ consumes_buffered : (run rest : List ℕ) (unread : Option (List ℕ)) → Consu
     (prepend_known rest unread) run
 consumes_buffered run rest unread = grind (arith, common_steps)
 
--- A run of the buffer extends the line consumed so far.
+-- A run of bytes from the buffer extends the line consumed so far.
 pub line_so_far_run : (old unread : Option (List ℕ)) (held rest line line' : List ℕ) (kept : Bool) (run : LineRun)
     (taken : ℕ)
     → LineSoFar old (prepend_known held unread) line kept taken → ConsumesRun held rest line line' kept run

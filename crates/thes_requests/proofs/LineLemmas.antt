@@ -1,4 +1,4 @@
--- Proves how the lines of bytes change when a line is appended.
+-- Proves that appending a line to bytes that end with a line feed adds that line to their lines.
 use Rattle.std.proofs.lemmas.Grind.{common_steps}
 use Rattle.std.proofs.Common.{arith, ◌≡◌, ◌≢◌, inr, sym, ap, refl, ℕ, List, [], ◌∷◌, ◌++◌, ◌==◌, map, append_assoc}
 use Rattle.std.proofs.Common.{Bool, true, false, cond}
@@ -10,7 +10,7 @@ use Rattle.thes_requests.specs.Script.{EndsLine, raw_lines, raw_lines_of}
 abbrev at_newline : ℕ → Bool
 at_newline b = b == 10
 
--- A text has at least one part.
+-- Splitting a text at its line feeds gives at least one part.
 split_some : (xs : List ℕ) → (y : List ℕ) × (more : List (List ℕ)) × (slice_split at_newline xs ≡ y ∷ more)
 split_some [] = ([], [], refl)
 split_some (x ∷ xs) =

@@ -1,5 +1,5 @@
--- Proves how an array of numbers is read value by value, and that bytes are JSON exactly when they
--- are UTF-8 and parse.
+-- Proves how an array of numbers is read value by value, and that bytes are JSON exactly when they are UTF-8 and can be
+-- parsed.
 use Rattle.std.proofs.lemmas.Grind.{common_steps}
 use Rattle.std.proofs.Common.{arith, ◌≡◌, ap, suc, refl, ℕ, List, [], ◌∷◌, length, Some, None, Option, option_map, ◌∙◌}
 use Rattle.std.proofs.Common.{sym, map, take, drop, ◌++◌, ◌<◌, ◌+◌, slice_index_or, subst, add-one, drop-cons, Err}

@@ -24,7 +24,7 @@ use Rattle.thes_requests.specs.Requests.{Member, number_form, tag_form, label_te
 use Rattle.thes_requests.specs.Requests.{map_reading, members1, members2, members3, members4}
 use Rattle.thes_requests.proofs.ReadingLemmas.{gives_value, gives_fault}
 
--- A form fault is `BadShape` if it isn't the fault of a member's form.
+-- A form fault for which `is_form_stop` is false is `BadShape`.
 early_fault : (f : FormFault) → is_form_stop (Form f) ≡ false → f ≡ BadShape
 early_fault f h = grind (arith, common_steps)
 
@@ -77,12 +77,12 @@ module _ {X A Y B : Type 0} (m : Member X A) (n : Member Y B) (d : Data) (r : Re
     present = λ z q. present_pair (m.found d) (n.found d) z refl refl q;
   }
 
--- The result of a request, made of the result for its members.
+-- The result of reading a request, made from the result of reading its members.
 abbrev pub request_result : {A C : Type 0} → (A → C) → Result A ReadStop → Result C ReadStop
 request_result makes (Ok a) = Ok (makes a)
 request_result makes (Err e) = Err e
 
--- A request made of what other rules read is read by those rules.
+-- If rules read a value, the request made from the value is read by the same rules.
 pub gives_mapped : {A C : Type 0} (makes : A → C) (reading : RequestReading A) (r : Result A ReadStop)
     (q : Result C ReadStop) → Gives reading r → q ≡ request_result makes r → Gives (map_reading makes reading) q
 unfolding map_reading
@@ -174,8 +174,7 @@ module _ {X A Y B Z E C : Type 0} (makes : A → B → E → C) (m : Member X A)
       → q ≡ request_result makes3 (if_exact (has_count 4 (as_object d)) r) → Gives (members3 makes m n o d) q
   gives_line3 r q h e = rw line3_is (gives_row 4 makes3 (pair_of m (pair_of n o)) d r h q e)
 
--- A row with four members is read by joining its first three members to one, and that one to the
--- fourth.
+-- A row with four members is read by joining its first three members into one, and that one with the fourth.
 
 module _ {X A Y B Z E U F C : Type 0} (makes : A → B → E → F → C) (m : Member X A) (n : Member Y B) (o : Member Z E)
     (p : Member U F) (d : Data) where

@@ -1,4 +1,4 @@
--- Proves what a numeral of digits alone is worth.
+-- Proves the value of a numeral that has only digits.
 use Rattle.std.proofs.Common.{arith, ◌≡◌, ◌∙◌, sym, ap, refl, ℕ, ◌+◌, ◌*◌, ◌%◌, ◌^◌, ◌<◌, ◌≤◌}
 use Rattle.std.proofs.Common.{List, [], length, get_or, take, false, Some, append-nil, lt-ltb, ne_eqb, length-take}
 use Rattle.std.specs.Char.{digit_value}
@@ -12,11 +12,11 @@ use Rattle.fast_float.proofs.Writing.{scan-text_of}
 use Rattle.serde_json.specs.Data.{unsigned}
 use Rattle.serde_json.specs.Read.{number_of}
 
--- Where a byte less that of `0`, as it wraps, is at most 9, it is the digit.
+-- If a byte minus that of the digit `0`, modulo 256, is at most 9, the difference is the value of the byte as a digit.
 digit_is : (x : ℕ) → x < 256 → (x + 208) % 256 ≤ 9 → (x + 208) % 256 ≡ digit_value x
 digit_is x byte small = omega (arith, (is_digit x (omega arith) (omega arith)).1)
 
--- One more digit after the number so far gives a number that fits 64 bits.
+-- With one more digit, if there are at most 19, the number is still the value of the digits, and fits into 64 bits.
 pub one_more : (bs : List ℕ) (i number digit : ℕ) → i < length bs → length bs ≤ 19
     → AllDigits 10 (take i bs) × (number ≡ digits_value 10 (take i bs)) → get_or bs i 0 < 256
     → digit ≡ (get_or bs i 0 + 208) % 256 → digit ≤ 9
@@ -54,7 +54,7 @@ well_formed bs digits =
 scan-digits : (bs : List ℕ) → AllDigits 10 bs → scan bs ≡ integer_parts bs
 scan-digits bs digits = ap scan (sym (append-nil bs)) ∙ scan-text_of (integer_parts bs) (well_formed bs digits)
 
--- Digits alone are an integer.
+-- At most 19 digits alone are read as an unsigned integer.
 pub number_of-digits : (bs : List ℕ) (number : ℕ) → IsNumeral 10 bs × (length bs ≤ 19) → number ≡ digits_value 10 bs
     → Some (unsigned number) ≡ number_of bs
 unfolding number_of

@@ -14,8 +14,7 @@ use Rattle.serde_json.specs.Find.{get_member}
 abbrev order : List ℕ → List ℕ → Ordering
 order = slice_cmp nat_cmp
 
--- After a member with a greater name than the first one's is inserted, a look-up finds the same value whichever of the
--- two names it compares first.
+-- If two members have different names, a look-up finds the same value whichever of the names it compares first.
 put_other_name : (o q : Ordering) (e d : Option Data) (rest : Option Data) → (o ≡ Equal → q ≡ Greater)
     → match_ordering q (match_ordering o rest d rest) e (match_ordering o rest d rest)
     ≡ match_ordering o (match_ordering q rest e rest) d (match_ordering q rest e rest)
@@ -34,7 +33,7 @@ equal_names_order_right n k l e =
     nat_list_cmp_total.antisymm n k ∙ ap ordering_reverse (nat_list_cmp_total.congr k l n e)
     ∙ sym (nat_list_cmp_total.antisymm n l)
 
--- A look-up after a member is put in compares its name with that of the member.
+-- A look-up after a member is put in finds this member if the names are equal, or else what it found before.
 get_member-put : (n k : List ℕ) (d : Data) (ms : Members)
     → get_member n (put k d ms) ≡ match_ordering (order n k) (get_member n ms) (Some d) (get_member n ms)
 get_member-put n k d no_members = refl

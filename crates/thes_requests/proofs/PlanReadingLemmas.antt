@@ -20,7 +20,7 @@ use Rattle.thes_requests.specs.declared.plan.PlanFault.TheVariants.{Whole, Reque
 use Rattle.thes_requests.proofs.ReadingLemmas.{one_outcome}
 use Rattle.thes_requests.proofs.ReferenceLemmas.{same_items}
 
--- A value is at most one request, or has one fault.
+-- A value is read as at most one request, or has one fault.
 
 one_verb : (o : Option CommandKeyword) (v w : CommandKeyword) → o ≡ Some v → o ≡ Some w → w ≡ v
 one_verb o v w e f = cc
@@ -50,7 +50,7 @@ not_both d a f x n =
 same_fault : (d : Data) (f g : FormFault) → IsNoPlanRequest d f → IsNoPlanRequest d g → f ≡ g
 same_fault d f g x y = let one = one_outcome (plan_command_in d) (Err f) (Err g) x y in cc
 
--- Values are at most one list of requests, or have one first fault.
+-- Values are read as at most one list of requests, or have one first fault.
 
 same_plans : (ds : List Data) (p q : List PlanRequest) → AreRequests ds p → AreRequests ds q → SamePlans p q
 same_plans [] [] [] x y = tt
@@ -96,7 +96,7 @@ not_malformed : (ds : List Data) (p : List PlanRequest) (place : ℕ) (f : FormF
 not_malformed ds p place f h m = all_or_first m.before m.d m.rest p f m.bad
     (subst (λ (es : List Data). AreRequests es p) m.all h)
 
--- The references of the same plan are good, or have the same first bad one.
+-- Two plans with the same requests both have good references, or have the same first bad one.
 
 asked_back : (a b : PlanRequest) → SameAsked a b → SameAsked b a
 asked_back a b s = record {
@@ -153,7 +153,7 @@ good_plans p q s g i b at =
     good_references (take i p) (take i q) other.0 b (same_take i p q s) (asked_back b other.0 other.2)
     (g i other.0 other.1)
 
--- The request before an index up to which all references are good.
+-- The first `n` requests of a plan have the same request at each index below `n` as the whole plan.
 got_in_take : (n i : ℕ) (q : List PlanRequest) (b : PlanRequest) → i < n → slice_get q i ≡ Some b
     → slice_get (take n q) i ≡ Some b
 got_in_take zero i q b h e = absurd (omega (arith, h))
@@ -187,7 +187,7 @@ same_bad p q k n s x y =
     let other = y.place_is in
     omega (arith, not_less, not_more, first, other)
 
--- One outcome.
+-- A value, read as a plan, has only one outcome.
 
 same_values : (d : Data) (ds es : List Data) → IsPlanArray d ds → IsPlanArray d es → ds ≡ es
 same_values d ds es x y = same_items ds es (let a = x.is_array in let b = y.is_array in cc)

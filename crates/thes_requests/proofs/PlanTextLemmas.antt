@@ -1,4 +1,4 @@
--- Proves the text of a list of answers, one answer after another.
+-- Proves how the text of a list of answers grows with each answer.
 use Rattle.std.proofs.Common.{arith, ◌≡◌, ◌∙◌, sym, ap, refl, ℕ, ◌+◌, ◌<◌, List, [], ◌∷◌, ◌++◌, length, map, take}
 use Rattle.std.proofs.Common.{slice_index_or, append_assoc}
 use Rattle.std.proofs.lemmas.List.{map-append, length-map, length-take, take_more}
@@ -19,7 +19,7 @@ items_more : (xs : List Answer) (a : Answer) → items_text (xs ++ a ∷ [])
 items_more xs a = rw (map-append item_text xs (a ∷ [])) (join_more (map item_text xs) (item_text a)
     ∙ ap (λ (n : ℕ). items_text xs ++ (separator_before n ++ item_text a)) (length-map xs item_text))
 
--- The text after one more answer.
+-- One more answer adds a separator and its own text.
 pub items_next : (answers : List Answer) (i : ℕ) (z : Answer) (old before between after : List ℕ)
     → i < length answers → before ≡ old ++ items_text (take i answers) → between ≡ before ++ separator_before i
     → after ≡ between ++ item_text (slice_index_or answers i z) → after ≡ old ++ items_text (take (i + 1) answers)

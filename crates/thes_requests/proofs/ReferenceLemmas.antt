@@ -1,4 +1,5 @@
--- Proves what a JSON value is after its references are replaced.
+-- Proves what replacing its references makes of a JSON value, and how references and requests of a plan are read one by
+-- one.
 use Rattle.std.proofs.lemmas.Grind.{common_steps}
 use Rattle.std.proofs.Common.{arith, ◌≡◌, ◌∙◌, sym, ap, refl, ℕ, ◌*◌, ◌+◌, ◌≤◌, min, List, [], ◌∷◌, ◌++◌, map, take}
 use Rattle.std.proofs.Common.{◌-◌, ◌<◌, length, slice_index_or, true, Option, Ordering, Less, Equal, Greater, is_eq, bytes_eq}
@@ -31,7 +32,7 @@ same_name k l e =
     let same : bytes_eq k l ≡ true = sym (is_eq-slice_cmp k l) ∙ ap is_eq e in
     grind (arith, common_steps, bytes_eq-Decides)
 
--- The members without references of an object are put in as those of the object are.
+-- Whether a member's references are replaced before or after it is put into an object, the members are the same.
 without_put : (k : List ℕ) (d : Data) (ms : Members) → members_without_references (put k d ms)
     ≡ put k (member_without_references k d) (members_without_references ms)
 without_put k d no_members = refl
@@ -52,14 +53,14 @@ without_put k d (member l e ms) = there (order k l) refl (without_put k d ms)
         (sym (same_name k l h))
     there Greater h rest = ap (member l (member_without_references l e)) rest
 
--- One more member of an object.
+-- One more member is put in, with its references replaced.
 pub without_push : (done found : List Entry) (e : Entry) (d : Data) → members_view found
     ≡ members_without_references (members_view done) → d ≡ member_without_references e.0.now (view e.1)
     → put e.0.now d (members_view found) ≡ members_without_references (members_view (done ++ e ∷ []))
 without_push done found e d before value =
     rw (members_view-push done e, without_put e.0.now (view e.1) (members_view done), before, value) refl
 
--- The items without references, and the references of the items, one by one.
+-- References are replaced in the items of an array, and read from them, one by one.
 
 pub items_without : (ds : List Data) → items_without_references (items_of ds) ≡ items_of (map without_reference ds)
 items_without [] = refl
@@ -82,7 +83,7 @@ references_next values i v h is =
     ∙ ap (λ (rs : List (Option ℕ)). rs ++ reference_in (view v) ∷ [])
     (sym (references_of (map view (take i values)))))))
 
--- The requests of a plan, one by one.
+-- One more value that is a request extends the requests of a plan.
 
 pub one_more_request : (ds : List Data) (plan : List PlanRequest) (d : Data) (asked : PlanRequest)
     → AreRequests ds plan → IsPlanRequest d asked → AreRequests (ds ++ d ∷ []) (plan ++ asked ∷ [])
@@ -91,7 +92,7 @@ one_more_request [] (a ∷ plan) d asked h is = absurd h
 one_more_request (e ∷ ds) [] d asked h is = absurd h
 one_more_request (e ∷ ds) (a ∷ plan) d asked h is = (h.0, one_more_request ds plan d asked h.1 is)
 
--- The items of an array determine the list of them.
+-- Arrays are equal only if the lists of their items are.
 
 same_item : (d e : Data) (ds es : Items) → item d ds ≡ item e es → (d ≡ e) × (ds ≡ es)
 same_item d e ds es h = (let same : d ≡ e = cc in same, let same : ds ≡ es = cc in same)
@@ -117,7 +118,7 @@ plan_array_length vs ds h =
     let few = h.few in
     (omega (arith, len, some), omega (arith, len, few))
 
--- The value of digits, at most the greatest place.
+-- The value of digits, or the greatest place if that is less.
 
 after_one : (radix n : ℕ) (ds : List ℕ) (d : ℕ) → digits_value_after radix n (ds ++ d ∷ [])
     ≡ digits_value_after radix n ds * radix + digit_value d

@@ -1,4 +1,4 @@
--- Proves the progress of a script line by line, and each of its ends.
+-- Proves the progress of a script line by line, and each way in which a script can end.
 use Rattle.std.proofs.lemmas.Grind.{common_steps}
 use Rattle.std.proofs.Common.{◌≡◌, ◌≢◌, ◌⊎◌, inl, inr, ◌∙◌, sym, ap, refl, subst, ℕ, ◌+◌, ◌<◌, ◌≤◌, ◌↔◌, List, [], ◌∷◌}
 use Rattle.std.proofs.Common.{◌++◌, length, length-append, take, Bool, true, false, Option, Result, Err, arith}
@@ -71,8 +71,7 @@ serves_no_lines serves handler = grind (arith, common_steps, All-nil)
 nothing_buffered : (known : Option (List ℕ)) → Consumes known (prepend_known [] known) []
 nothing_buffered known = grind (arith, common_steps)
 
--- At the end of the input no byte is left in the buffer, so the bytes consumed are all of the
--- reader's.
+-- At the end of the input no byte is left in the buffer, so all bytes of the reader have been consumed.
 
 nil_right : (xs ys : List ℕ) → xs ++ ys ≡ [] → ys ≡ []
 nil_right [] ys h = h
@@ -137,14 +136,14 @@ module _ {R W S : Type 0} (remaining : R → Option (List ℕ)) (contents : W �
               ∙ sym (end_one_more s.line_outcomes line_outcome));
         }
 
-    -- A script whose input has ended between two lines is complete.
+    -- A script is complete if the search for its next line finds the end of the input.
     pub completes_at_end : (reader' : Pipe R) (held' : List ℕ) → IsEndFound (bytes_left remaining held reader)
         (bytes_left remaining held' reader') (ended_of reader') → failed_of reader' ≡ false → failed_of writer ≡ false
         → is_open handler ≡ true
         → Completes remaining contents serves is_open old (session reader' writer handler) ended
     completes_at_end reader' held' f r w o = grind (arith, common_steps, all_taken, Consumes-kept)
 
-    -- A script whose input ended with the last line is complete.
+    -- A script is complete if its input ended with the last line, which then has no line feed.
     pub completes_after_last : ended_of reader ≡ true → failed_of reader ≡ false → failed_of writer ≡ false
         → is_open handler ≡ true → Completes remaining contents serves is_open old (session reader writer handler)
         ended
@@ -154,7 +153,7 @@ module _ {R W S : Type 0} (remaining : R → Option (List ℕ)) (contents : W �
       e,
     ) r w o
 
-    -- A script that has a cause to stop between two lines stops after the lines served so far.
+    -- A script that has a cause to stop before its next line stops after the lines served so far.
     pub stops_between_lines : (reader' : Pipe R) (fault : PipeFault) → ended_of reader ≡ false
         → IsCause remaining contents serves is_open old (session reader' writer handler) fault s.bytes
         (bytes_left remaining held reader) s.line_outcomes

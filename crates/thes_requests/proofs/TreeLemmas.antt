@@ -1,5 +1,5 @@
--- Proves which data a parsed value represents, level by level, and which its items and members
--- represent while they are parsed.
+-- Proves which data a parsed value represents, level by level, and which data the items or members parsed so far
+-- represent.
 use Rattle.std.proofs.lemmas.Grind.{common_steps}
 use Rattle.std.proofs.Common.{arith, ◌≡◌, ℕ, ◌+◌, ◌<◌, ◌≤◌, List, [], ◌∷◌, ◌++◌, Bool, length, map, take, drop}
 use Rattle.std.proofs.Common.{slice_index_or, Option, Some, option_map, is_some, false, Vec, Global, Bor, cond, bytes_eq, refl}
@@ -43,8 +43,7 @@ get_member-push name es e = grind (arith, common_steps, members_view-push, get_a
 pub other_length : (name other : List ℕ) → (length name ≡ length other → ⊥) → bytes_eq name other ≡ false
 other_length name other h = grind (arith, common_steps, bytes_eq-Decides)
 
--- A look-up among the first members finds the last of them, if it has the name, and else looks
--- among those before it.
+-- A look-up among the first members finds the last of them, if it has the name, or else looks among those before it.
 pub get_member-take : (name : List ℕ) (es : List Entry) (k i : ℕ) (e : Entry) (b : Bool) → k ≡ i + 1 → i < length es
     → e ≡ slice_index_or es i e → bytes_eq name e.0.now ≡ b
     → get_member name (members_view (take k es)) ≡ cond b (Some (view e.1)) (get_member name (members_view (take i es)))

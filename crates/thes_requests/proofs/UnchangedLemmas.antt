@@ -13,7 +13,7 @@ use Rattle.thes_requests.specs.declared.tree.Value.{Value}
 use Rattle.thes_requests.proofs.ReferenceLemmas.{without_push}
 use Rattle.thes_requests.proofs.TreeLemmas.{Entry, members_view-push}
 
--- What isn't a reference stays.
+-- A value that isn't a reference is unchanged.
 one_or_none : (d : Data) (reference : Option ℕ) → is_some reference ≡ false → one_or d reference ≡ d
 one_or_none d None h = refl
 one_or_none d (Some place) h = absurd (cc)

@@ -20,7 +20,7 @@ abbrev pub SomeReading : Type 0
 SomeReading =
     (bytes : List ℕ) → ¬ ¬ ((x : Result Request FormFault) × ReadsAs (request_of bytes) x)
 
--- Two requests of a plan are the same: their commands, and their references.
+-- Two requests of a plan are the same: they have the same command and the same references.
 pub record SameAsked (a b : PlanRequest) : Type 0 where
   pub command : a.command ≡ b.command
   pub first : a.first ≡ b.first

@@ -11,8 +11,8 @@ use Rattle.thes_requests.specs.declared.line_buffer.LineRun.{LineRun}
 use Rattle.thes_requests.specs.declared.line_buffer.LineSearch.{LineSearch}
 use Rattle.thes_requests.specs.declared.line_buffer.LineSearch.TheVariants.{End, Line}
 
--- The bytes not consumed yet: those in the buffer, then those of the reader; None if the device
--- doesn't know its bytes.
+-- The bytes not consumed yet: those in the buffer, then those of the reader; None if the bytes of the device aren't
+-- known, as those of standard input.
 abbrev pub bytes_left : {R : Type 0} → (R → Option (List ℕ)) → List ℕ → Pipe R → Option (List ℕ)
 bytes_left remaining held reader = prepend_known held (unread_bytes remaining reader)
 
@@ -33,7 +33,7 @@ line_content raw ended = if ended then raw else strip_carriage_return raw
 abbrev pub line_limit : ℕ
 line_limit = 1048576
 
--- The size of the buffer in bytes, of which a read may fill all: 64 KiB.
+-- The size of the buffer in bytes, all of which one read may fill: 64 KiB.
 abbrev pub buffer_size : ℕ
 buffer_size = 65536
 
@@ -59,7 +59,7 @@ pub record IsLineTooLong (old : Option (List ℕ)) : Type 0 where
   pub one : has_newline raw ≡ false
   pub long : line_limit < length raw
 
--- One byte was consumed, or none since the input had ended.
+-- One byte was consumed, or none, since the input had ended.
 abbrev pub ConsumesByte : Option ℕ → Option (List ℕ) → Option (List ℕ) → Bool → Type 0
 ConsumesByte None old new ended = Keeps old new × IsAtEnd new × (ended ≡ true)
 ConsumesByte (Some b) old new ended = Consumes old new (b ∷ []) × (ended ≡ false)

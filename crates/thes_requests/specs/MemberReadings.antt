@@ -28,7 +28,7 @@ is_form_stop (Form BadShape) = false
 is_form_stop (Form f) = true
 is_form_stop OutOfMemory = false
 
--- Both values, or the first stop; if the second stop is `BadShape` or `OutOfMemory`, that one.
+-- Both values, or the first stop; but if the second stop is `BadShape` or `OutOfMemory`, the second.
 abbrev pub both : {A B : Type 0} → Result A ReadStop → Result B ReadStop → Result (A × B) ReadStop
 both (Ok a) (Ok b) = Ok (a, b)
 both (Ok a) (Err f) = Err f
@@ -95,10 +95,10 @@ a_label_value = record {
   form = λ p. value_if (IsLabelText p.0 p.1) BadText (label_value_of p.0 p.1);
 }
 
--- A request whose `do` has this keyword; `BadShape` if `do` names no command.
+-- Reads a request whose member `do` is this keyword; `BadShape` if `do` names no command.
 abbrev pub do_request : Option CommandKeyword → Data → RequestReading Request
 do_request verb d = present_or_bad_shape verb >>= (λ v. map_reading Do (command_in v d))
 
--- A request whose `get` has this keyword; `BadShape` if `get` names no query.
+-- Reads a request whose member `get` is this keyword; `BadShape` if `get` names no query.
 abbrev pub get_request : Option QueryKeyword → Data → RequestReading Request
 get_request noun d = present_or_bad_shape noun >>= (λ n. map_reading Get (query_in n d))

@@ -10,7 +10,7 @@ abbrev pub has_count : ℕ → Option Members → Bool
 has_count n None = false
 has_count n (Some ms) = members_len ms == n
 
--- Some exactly if the value is an object with `n` names.
+-- Some if the value is an object with exactly `n` names, or else None.
 abbrev pub counted_members : ℕ → Data → Option ⊤
 counted_members n d = if has_count n (as_object d) then Some tt else None
 

@@ -1,6 +1,6 @@
--- The meaning of the bytes of a plan: its requests, or the first fault. Four rules are checked in order. The bytes are
--- JSON. The value is an array of 1 to 128 values. Each of them is a request, the first one first. Each reference is to
--- an earlier request that makes what is referred to.
+-- The meaning of the bytes of a plan: its requests, or the first fault. Four rules are checked in this order: the bytes
+-- are JSON; the value is an array of 1 to 128 values; each of these is a request, checked from first to last; each
+-- reference is to an earlier request that makes what is referred to.
 use Rattle.std.specs.Prelude.{◌≡◌, ◌<◌, ◌≤◌, ◌+◌, ◌++◌, ℕ, Bool, true, false, List, [], ◌∷◌, length, codes, Option, None}
 use Rattle.std.specs.Prelude.{Some, option_and_then, Result, Ok, Err, Vec}
 use Rattle.std.specs.declared.alloc.Global.{Global}
@@ -32,7 +32,7 @@ request_limit = 128
 abbrev pub keyword_in : Data → Option CommandKeyword
 keyword_in d = option_and_then verb_named (option_and_then as_str (get (codes "do") d))
 
--- Reads the command of a plan's request: as a request alone, with 1 in place of each reference that is used as a
+-- Reads the command of a plan's request like that of any request, with 1 in place of each reference that is used as a
 -- number. A query is `BadShape`.
 abbrev pub plan_command_in : Data → RequestReading Command
 plan_command_in d = do
@@ -112,7 +112,8 @@ GivesPlan Reads (Ok plan) = Reads (Ok plan.items)
 GivesPlan Reads (Err (Bad f)) = Reads (Err f)
 GivesPlan Reads (Err OutOfMemory) = Unit {0}
 
--- The result of reading a request of a plan.
+-- The result of reading a value as a request of a plan: that request, the fault of a value that isn't one, or
+-- `OutOfMemory`.
 abbrev pub GivesPlanRequest : Data → Result PlanRequest ReadStop → Type 0
 GivesPlanRequest d (Ok asked) = IsPlanRequest d asked
 GivesPlanRequest d (Err (stop.Form f)) = IsNoPlanRequest d f

@@ -13,7 +13,7 @@ use Rattle.thes_requests.specs.declared.plan_reply.PlanReply.{PlanReply}
 use Rattle.thes_requests.specs.declared.plan_reply.PlanReply.TheVariants.{Done, Refused, Bad}
 use Rattle.thes_requests.specs.AnswerTexts.{answer_text, form_fault_text}
 
--- The beginning of a line for the request at a place: `{"at":K,`.
+-- The beginning of a line for the request at the place K of its plan, counted from 1: `{"at":K,`.
 abbrev pub place_text : ℕ → List ℕ
 place_text place = codes "{\"at\":" ++ decimal place ++ codes ","
 

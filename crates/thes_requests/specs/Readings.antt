@@ -10,7 +10,7 @@ use Rattle.thes_base.specs.declared.fault.ReadStop.TheVariants.{Form}
 pub data RequestReading (A : Type 0) : Type 1 where
   reads : A → RequestReading A
   fails : FormFault → RequestReading A
-  -- The form fault if the rule fails, and else the outcome of the reading after it.
+  -- The form fault if the rule fails, or else the outcome of the reading that follows.
   unless : (rule : Type 0) → FormFault → RequestReading A → RequestReading A
 
 -- The reading has this outcome: the value, or the fault of the first rule that fails.
@@ -25,7 +25,7 @@ pub record Gives {A : Type 0} (reading : RequestReading A) (result : Result A Re
   pub value : (x : A) → result ≡ Ok x → ReadsAs reading (Ok x)
   pub fault : (f : FormFault) → result ≡ Err (Form f) → ReadsAs reading (Err f)
 
--- Sequence: the rules of `reading`, and then those that `next` has for its value.
+-- Two readings in sequence: the rules of `reading`, and then those that `next` has for the value of `reading`.
 infixl 10 ◌>>=◌
 abbrev pub ◌>>=◌ : {A B : Type 0} → RequestReading A → (A → RequestReading B) → RequestReading B
 (reads x) >>= next = next x

@@ -10,17 +10,17 @@ use Rattle.serde_json.specs.Find.{get, as_str, as_array}
 use Rattle.thes_requests.specs.declared.keywords.CommandKeyword.{CommandKeyword}
 use Rattle.thes_requests.specs.declared.keywords.CommandKeyword.TheVariants as does
 
--- The greatest place that is kept: 2³² - 1, which is past every plan.
+-- The cap on the place to which a reference refers: 2³² - 1, which is beyond the end of every plan.
 abbrev pub greatest_place : ℕ
 greatest_place = 4294967295
 
--- Whether there are bytes, of which the first is a zero only if it is the only one.
+-- Whether there is at least one byte, and the first of several isn't a zero.
 abbrev pub begins_place : List ℕ → Bool
 begins_place [] = false
 begins_place (b ∷ []) = true
 begins_place (b ∷ c ∷ bs) = not (b == 48)
 
--- Whether the bytes are decimal digits, at least one, without a zero before others.
+-- Whether the bytes are one or more decimal digits, the first of which isn't a zero unless it is the only one.
 abbrev pub is_place : List ℕ → Bool
 is_place bytes = list_all is_ascii_digit bytes && begins_place bytes
 
@@ -35,7 +35,7 @@ place_in (b ∷ digits) =
 abbrev pub reference_in : Data → Option ℕ
 reference_in d = option_and_then place_in (as_str d)
 
--- The name of the member that is the command's first number, if it has one.
+-- The name of the member with the command's first number, or None if a command with this keyword has no number.
 abbrev pub first_name : CommandKeyword → Option (List ℕ)
 first_name does.Scheme = None
 first_name does.Concept = Some (codes "scheme")
@@ -52,14 +52,14 @@ first_name does.Split = Some (codes "source")
 first_name does.Post = Some (codes "concept")
 first_name does.Withdraw = Some (codes "posting")
 
--- The name of the member that is the command's second number, if it has one.
+-- The name of the member with the command's second number, or None if a command with this keyword has only one or none.
 abbrev pub second_name : CommandKeyword → Option (List ℕ)
 second_name does.Link = Some (codes "b")
 second_name does.Unlink = Some (codes "b")
 second_name does.Merge = Some (codes "target")
 second_name _ = None
 
--- The place to which the member with this name refers, if there is a name and a reference.
+-- The place to which the member with this name refers, or None if there is no name or the member isn't a reference.
 abbrev pub reference_at : Option (List ℕ) → Data → Option ℕ
 reference_at name d = option_and_then (λ n. option_and_then reference_in (get n d)) name
 

@@ -8,9 +8,9 @@ use Rattle.thes_plans.specs.declared.plan.PlanRequest.{PlanRequest}
 use Rattle.thes_requests.specs.declared.handler.QueryAnswer.{QueryAnswer}
 use Rattle.thes_requests.specs.declared.request.Query.{Query}
 
--- What a handler does for each command, query and plan: a relation of the state before, the request, the answer, and
--- the state after. A query may change the state, since a handler may reload. It also says whether a handler in a state
--- takes plans from scripts and connections.
+-- What a handler does for each command, query and plan: a relation between the state before, the request, the answer,
+-- and the state after. A query may change the state, since a handler may reload. `takes_plans` states whether a handler
+-- in a state takes plans from scripts and connections.
 pub record RequestBehaviour (S : Type 0) : Type 1 where
   pub performs : S → Command → Result Answer Fault → S → Type 0
   pub shows : S → Query → Result QueryAnswer Fault → S → Type 0

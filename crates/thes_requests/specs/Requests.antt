@@ -1,6 +1,6 @@
--- The meaning of the bytes of a request: a command, a query, or the first form fault. Three rules
--- are checked in order. The bytes are JSON. The object has exactly the members in its row of the
--- table, each of the right type. Each member has its form, in the order of the row.
+-- The meaning of the bytes of a request: a command, a query, or the first form fault. Three rules are checked in this
+-- order: the bytes are JSON; the object has exactly the members in its row of the tables below, each of the right type;
+-- each member has its form, in the order of the row.
 use Rattle.std.specs.Prelude.{ℕ, Bool, List, All, codes, map, unwrap_or, option_and_then, Option, None, Some}
 use Rattle.std.specs.Prelude.{if◌then◌else◌}
 use Rattle.std.specs.Str.{is_utf8}
@@ -29,8 +29,7 @@ use Rattle.thes_requests.specs.declared.request.Query.TheVariants as asked
 use Rattle.thes_requests.specs.declared.request.Request.{Request}
 use Rattle.thes_requests.specs.declared.request.Request.TheVariants.{Do, Get}
 
--- An unsigned 64-bit integer, or 0 for any other number; 0 isn't the number of a resource or a
--- posting.
+-- The number, if it is an unsigned 64-bit integer, or else 0, which no resource or posting has as its number.
 abbrev pub whole_number : Num → ℕ
 whole_number x = unwrap_or (as_u64 x) 0
 
@@ -62,7 +61,7 @@ record_form text = value_if (IsRecordName text) bad.BadRecord text
 abbrev pub label_text_form : LabelKind → List ℕ → RequestReading (List ℕ)
 label_text_form kind text = value_if (IsLabelText kind text) bad.BadText text
 
--- Each number is from 1 to 2³² - 1, like the numbers of resources and postings.
+-- Each number is from 1 to 2³² - 1, as the number of a resource or a posting must be.
 pub record AreNumbers (ns : List ℕ) : Type 0 where
   pub each : All IsNumber ns
 
@@ -222,8 +221,8 @@ query_in gets.Concept d = members1 asked.Concept (number_at (codes "number")) d
 query_in gets.Postings d = members1 asked.Postings (number_at (codes "concept")) d
 query_in gets.Posting d = members1 asked.Posting (number_at (codes "number")) d
 
--- Reads a request by the value of `do` or, if there is none, of `get`; an object with both has one
--- member in excess.
+-- Reads a request by the value of `do` or, if there is none, by that of `get`. An object with both is `BadShape`, since
+-- it has one member too many.
 abbrev pub request_by_keyword : Option Data → Option Data → Data → RequestReading Request
 request_by_keyword (Some word) _ d = do
   verb ← present_or_bad_shape (option_and_then verb_named (as_str word))
@@ -233,7 +232,7 @@ request_by_keyword None (Some word) d = do
   map_reading Get (query_in noun d)
 request_by_keyword None None d = fails bad.BadShape
 
--- Reads a request from a JSON value.
+-- Reads a request from a JSON value, by its member `do` or `get`.
 unfoldable pub request_in : Data → RequestReading Request
 request_in d = request_by_keyword (get (codes "do") d) (get (codes "get") d) d
 

@@ -104,8 +104,8 @@ end_without_lines = record { refused = false; fault = None }
 abbrev pub end_of_outcomes : List LineOutcome → ScriptEnd
 end_of_outcomes line_outcomes = fold end_after_outcome end_without_lines line_outcomes
 
--- A run of a script has a reader, a writer and a request handler. If a device, such as standard
--- input, doesn't know its bytes, a statement about its bytes only says that some such bytes exist.
+-- A run of a script has a reader, a writer and a request handler. If the bytes of a device aren't known, as those of
+-- standard input, a statement about them only says that some such bytes exist.
 
 -- The state of a run: its reader, its writer and its request handler.
 pub record Session (R W S : Type 0) : Type 0 where
@@ -154,7 +154,7 @@ module _ {R W S : Type 0} (remaining : R → Option (List ℕ)) (contents : W �
     pub text : WritesOutput (script_text line_outcomes)
     pub noted_end : ended ≡ end_of_outcomes line_outcomes
 
-  -- The output is all answers but the last, and a prefix of the last, perhaps empty or whole.
+  -- The output is all answers but the last, and then a prefix of the last, which may be empty or the whole answer.
   pub record StopsWithinAnswer (line_outcomes : List LineOutcome) : Type 0 where
     pub before : List LineOutcome
     pub last : LineOutcome

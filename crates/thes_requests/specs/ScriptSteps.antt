@@ -35,8 +35,8 @@ module _ {W S : Type 0} (contents : W → Option (List ℕ)) (is_open : S → Bo
     pub stays_open : is_open handler ≡ true
     pub fresh : IsFresh writer'
 
-  -- The output and the state that a fault leaves after a line. `Write`, `TooLong`: the writer failed or had no write
-  -- left, after a prefix of the answer. `Fault`: the handler closed, after the whole answer.
+  -- The reason why a script stopped after serving a line, and its output, by fault. `Write` or `TooLong`: the writer
+  -- failed or had no write left, after a prefix of the answer. `Fault`: the handler closed, after the whole answer.
   abbrev pub StopsWithOutcome : LineOutcome → PipeFault → Type 0
   StopsWithOutcome line_outcome Read = ⊥
   StopsWithOutcome line_outcome Write =

@@ -27,13 +27,14 @@ use Rattle.thes_requests.specs.PlanReadings.{OptionReadsAs, is_array_value}
 use Rattle.thes_requests.specs.PlanTexts.{plan_reply_text, reply_of_outcome}
 use Rattle.thes_requests.specs.Requests.{json_in, request_of}
 
--- The behaviour of a handler for the lines of a script.
+-- The behaviour of a handler for a line of a script: a relation between the state before, the line, its answer, and the
+-- state after.
 abbrev pub LineBehaviour : Type 0 → Type 1
 LineBehaviour S = S → List ℕ → LineAnswer → S → Type 0
 
--- The program reads a line, and performs its command or plan, or answers its query; a line that is none of these
--- changes nothing. A fault may replace an answer: one of the handler, or running out of memory while reading, which
--- changes nothing.
+-- The program reads a line, and performs its command or plan, or answers its query; a line that has none of these
+-- changes nothing. In place of the answer there may be a fault: one of the handler, or `OutOfMemory` if memory runs out
+-- while the line is read, which changes nothing either.
 
 -- The line is a request to perform this command.
 abbrev pub IsCommandLine : List ℕ → Command → Type 0
@@ -43,14 +44,15 @@ IsCommandLine line command = ReadsAs (request_of line) (Ok (Do command))
 abbrev pub IsQueryLine : List ℕ → Query → Type 0
 IsQueryLine line query = ReadsAs (request_of line) (Ok (Get query))
 
--- The effect of performing a plan, by its reply: the handler performed the plan, or memory ran out before.
+-- The effect of performing a plan, and its reply: the handler performed the plan, or memory ran out before.
 abbrev pub PerformsPlan : {S : Type 0} → RequestBehaviour S → S → List PlanRequest → Result PlanReply Fault → S → Type 0
 PerformsPlan d old plan (Ok reply) new =
     (outcome : PlanOutcome) × d.performs_plan old plan (Ok outcome) new × (reply ≡ reply_of_outcome outcome)
 PerformsPlan d old plan (Err f) new = ((f ≡ OutOfMemory) × (new ≡ old)) ⊎ d.performs_plan old plan (Err f) new
 
--- The effect of a text that is read as a plan, given its JSON value, by the reply to it: a text that isn't a plan
--- changes nothing. A fault may replace the reply: one of the handler, or running out of memory before.
+-- The effect of serving a text as a plan, and the reply, given the JSON value of the text. A text that isn't a plan
+-- changes nothing. In place of the reply there may be a fault: one of the handler, or `OutOfMemory` before anything is
+-- changed.
 abbrev pub ServesPlan : {S : Type 0} → RequestBehaviour S → S → Option Data → Result PlanReply Fault → S → Type 0
 ServesPlan d old value (Ok (Bad f)) new = OptionReadsAs value (Err f) × (new ≡ old)
 ServesPlan d old value (Ok reply) new =
@@ -104,7 +106,7 @@ abbrev pub stop_answer : ReadStop → LineAnswer
 stop_answer (stop.Form f) = Reply (reply.Bad f)
 stop_answer stop.OutOfMemory = Reply (reply.Fault OutOfMemory)
 
--- The answer to a plan with this reply.
+-- The answer to the line of a plan with this result: its reply, or its fault.
 abbrev pub plan_answer : Result PlanReply Fault → LineAnswer
 plan_answer (Ok r) = Plan r
 plan_answer (Err f) = Reply (reply.Fault f)

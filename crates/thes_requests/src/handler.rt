@@ -10,7 +10,8 @@ use thes_base::fault::{Fault, Refusal};
 use thes_base::request::{Answer, Command};
 use thes_plans::plan::{PlanOutcome, PlanRequest};
 
-/// The answer to a query for a view or a display: its text, or the refusal of a number.
+/// The answer to a request for a view or a display: its text, or the refusal of the number in the
+/// request.
 #[derive(Drop)]
 pub enum QueryAnswer {
     Page(Page),
@@ -20,8 +21,8 @@ pub enum QueryAnswer {
 /// A handler of requests: it performs commands and plans, and answers queries, over a state in
 /// memory or over shared storage.
 pub trait RequestHandler {
-    // What each call does. (A trait, so that the proofs of scripts and connections see no office:
-    // DECISIONS.md, The office.)
+    // The effect and the result of each call. (This is a trait so that proofs about scripts and
+    // connections don't depend on the office: DECISIONS.md, The office.)
     ghost requests: { RequestBehaviour Self };
 
     ghost is_open: { Self → Bool };
@@ -43,7 +44,7 @@ pub trait RequestHandler {
         ensures performs { requests.performs_plan self.old plan.items result self.new }
         ensures each { IfOk result (λ outcome. HasEachAnswer plan.items outcome) };
 
-    /// Returns whether plans are among the requests of a script or a connection.
+    /// Returns whether the handler accepts plans from scripts and connections.
     fn takes_plans(&self) -> bool
         ensures { result ≡ requests.takes_plans self.now };
 

@@ -12,7 +12,7 @@ use std::io::Read;
 use std::marker::Model;
 use thes_base::pipe::{Budget, Pipe, Stop};
 
-/// The bytes read and not consumed yet, in a buffer of 64 KiB.
+/// The bytes that were read but aren't consumed yet, in a buffer of 64 KiB.
 #[derive(Drop)]
 pub struct LineBuffer {
     buffer: Vec<u8>,
@@ -41,8 +41,8 @@ pub enum LineSearch {
     End,
 }
 
-// A part of a line that was consumed: the number of its bytes, and whether the line holds them and
-// all bytes before them.
+// A part of a line that was consumed: the number of its bytes, and whether the copy of the line in
+// memory has these and all earlier bytes of the line.
 #[derive(Clone, Copy)]
 struct LineRun {
     count: usize,
@@ -92,8 +92,8 @@ impl LineBuffer {
     }
 
     /// Consumes the next line, and copies it to `line` without its line end. If memory for the copy
-    /// runs out, the rest of the line is still consumed, and the result is `NoRoom`. `TooLong`
-    /// means that the line exceeds 1 MiB, or that no read is left.
+    /// runs out, still consumes the rest of the line, and returns `NoRoom`. `TooLong` means that
+    /// the line exceeds 1 MiB, or that no read is left.
     pub fn take_line<R: Read>(
         &mut self,
         reader: &mut Pipe<R>,
@@ -153,8 +153,9 @@ impl LineBuffer {
         Ok(count > 0)
     }
 
-    // Consumes the buffered bytes before the next line feed, at most `most`. If `kept`, that is, if
-    // `line` holds all bytes before these, appends them to `line`, unless memory runs out.
+    // Consumes the buffered bytes before the next line feed, at most `most` of them. Appends them
+    // to `line` if `kept`, which means that `line` has all earlier bytes of the line; if memory for
+    // that runs out, they are consumed all the same.
     fn take_run(&mut self, line: &mut Vec<u8>, kept: bool, most: usize) -> LineRun
         ensures run { ConsumesRun self.old self.new line.old.items line.new.items kept result }
         ensures short { result.count ≤ most }
@@ -165,7 +166,7 @@ impl LineBuffer {
         LineRun { count, kept }
     }
 
-    // Returns the bytes read and not consumed yet.
+    // Returns the bytes that were read but aren't consumed yet.
     fn pending(&self) -> &[u8]
         ensures { result.now ≡ self.now }
     {
@@ -211,8 +212,8 @@ fn drop_carriage_return(line: &mut Vec<u8>)
     }
 }
 
-// Returns the outcome of a search that found a line: `Line` if all of it is `held`, and else
-// `NoRoom`.
+// Returns the outcome of a search that found a line: `Line` if all its bytes are `held` in memory,
+// or else `NoRoom`.
 fn line_search_of(held: bool) -> LineSearch
     ensures line { (result ≡ LineSearch.Line) → held ≡ true }
     ensures some { result ≢ LineSearch.End }
@@ -224,8 +225,8 @@ fn line_search_of(held: bool) -> LineSearch
     }
 }
 
-// Appends a byte to the line if all bytes before it are `held`, and returns whether the line then
-// holds all bytes so far.
+// Appends a byte to `line` if all earlier bytes are `held` there, and returns whether `line` then
+// has all bytes so far.
 fn keep(line: &mut Vec<u8>, held: bool, byte: u8) -> bool
     ensures { result ≡ true → (held ≡ true) × (line.new.items ≡ line.old.items ++ byte ∷ []) }
 {

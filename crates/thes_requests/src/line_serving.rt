@@ -54,7 +54,7 @@ impl LineAnswer {
         }
     }
 
-    // Returns the form fault of a line that isn't a request, or running out of memory, as a reply.
+    // Returns the form fault of a line that isn't a request, or `OutOfMemory`, as a reply.
     fn for_stop(stop: ReadStop) -> LineAnswer
         ensures { result ≡ stop_answer stop }
     {
@@ -75,8 +75,8 @@ impl LineAnswer {
     }
 }
 
-/// The outcome of a line of a script: skipped since it is blank, not held since memory ran out, or
-/// answered.
+/// The outcome of a line of a script: skipped, since it is blank; not held, since memory for it ran
+/// out; or answered.
 #[derive(Drop)]
 pub enum LineOutcome {
     Skipped,
@@ -121,8 +121,8 @@ fn is_blank(line: &[u8]) -> bool
     line.iter().all(|byte| *byte == b' ' || *byte == b'\t')
 }
 
-// Reads the request in a JSON value, and performs its command or answers its query. A form fault
-// has no effect.
+// Reads the request in a JSON value, and performs its command or answers its query. If the value
+// isn't a request, performs nothing.
 fn serve_request<D: RequestHandler>(alloc: Global, handler: &mut D, value: Value<'_>) -> LineAnswer
     requires { D.is_open handler.old ≡ true }
     ensures { (line : List ℕ) → json_in line ≡ Some (view value.entry)
@@ -138,7 +138,7 @@ fn serve_request<D: RequestHandler>(alloc: Global, handler: &mut D, value: Value
     }
 }
 
-// Reads the plan in a JSON value, and performs it. A text that isn't a plan has no effect.
+// Reads the plan in a JSON value, and performs it. If the value isn't a plan, performs nothing.
 fn serve_plan_line<D: RequestHandler>(
     alloc: Global,
     handler: &mut D,
@@ -176,9 +176,9 @@ fn answer_line<D: RequestHandler>(
     }
 }
 
-/// Skips a blank line of a script; performs the request in any other, or its plan if the line is an
-/// array and the handler takes plans. A form fault has no effect, and neither has a line that
-/// didn't fit into memory.
+/// Serves a line of a script: skips a blank one, and performs the request in any other, or the plan
+/// if the line is an array and the handler takes plans. Nothing is performed for a line with a form
+/// fault, or for one that didn't fit into memory.
 pub fn serve_line<D: RequestHandler>(
     memory: &mut RequestScratch,
     handler: &mut D,

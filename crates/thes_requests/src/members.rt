@@ -1,6 +1,6 @@
-//! The members of a request's JSON object: each is read by itself, and then the results are joined.
-//! A missing member, or one of the wrong type, is `BadShape`, which precedes every other form
-//! fault.
+//! Reads the members of a request's JSON object one by one, and joins the results. A missing
+//! member, or one of the wrong type, is `BadShape`, which takes precedence over the form faults of
+//! all other members.
 ghost use Rattle.std.specs.Prelude.{◌≡◌, ◌⊎◌, map, codes, true, Some, None, option_map, option_and_then, IfOk, IfErr};
 ghost use Rattle.serde_json.specs.View.{number_view};
 ghost use Rattle.serde_json.specs.Find.{as_object, as_str};
@@ -26,13 +26,14 @@ use thes_base::number::Number;
 use thes_base::request::PostNos;
 use thes_base::text::{Formed, Note, Text};
 
-/// The form fault of JSON that lacks the members of a request, or has others.
+/// The form fault of JSON in which a member of the request is missing or of the wrong type, or that
+/// has another member.
 pub const BAD_SHAPE: ReadStop = ReadStop::Form(FormFault::BadShape);
 
 const BAD_NUMBER: ReadStop = ReadStop::Form(FormFault::BadNumber);
 
 // Returns whether the stop is a form fault other than `BadShape`. A `BadShape` of a later member
-// takes precedence over it.
+// takes precedence over such a fault.
 fn is_form_stop(stop: ReadStop) -> bool
     ensures { result ≡ is_form_stop stop }
 {
@@ -42,8 +43,9 @@ fn is_form_stop(stop: ReadStop) -> bool
     }
 }
 
-/// Returns the values of two members, or the first stop. If the second stop is `BadShape` or
-/// `OutOfMemory`, returns that one: shape comes before form (DECISIONS.md, Requests in JSON).
+/// Returns the values of two members, or the first stop; but if the second stop is `BadShape` or
+/// `OutOfMemory`, returns the second, since shape is checked before form (DECISIONS.md, Requests in
+/// JSON).
 pub fn both<A: Drop, B: Drop>(
     first: Result<A, ReadStop>,
     second: Result<B, ReadStop>,
@@ -58,7 +60,7 @@ pub fn both<A: Drop, B: Drop>(
     }
 }
 
-/// Returns the members if the object has exactly `count` names, `do` or `get` included, and else
+/// Returns the members if the object has exactly `count` names, `do` or `get` included, or else
 /// `BadShape`.
 pub fn exactly<A: Drop>(
     count: usize,
@@ -88,7 +90,8 @@ fn number_form<S>(number: &serde_json::Number) -> Result<Number<S>, ReadStop>
     Number::from_u32(number).ok_or(BAD_NUMBER)
 }
 
-/// Reads the member `name` as the number of a resource or a posting, from 1 to 2³² - 1.
+/// Reads the member `name` as the number of a resource or a posting, from 1 to 2³² - 1. Any other
+/// JSON number is `BadNumber`.
 pub fn number_at<S>(name: &str, value: &Value<'_>) -> Result<Number<S>, ReadStop>
     ensures { ReadsMember (number_at name.now) (view value.now) result }
 {
@@ -124,7 +127,7 @@ pub fn truth_at(name: &str, value: &Value<'_>) -> Result<bool, ReadStop>
     }
 }
 
-/// Reads the member `kind` as the keyword of a link kind.
+/// Reads the member `kind` as the keyword of a link kind, or returns `BadShape`.
 pub fn link_kind_at(value: &Value<'_>) -> Result<LinkKind, ReadStop>
     ensures { ReadsMember a_link_kind (view value.now) result }
 {
@@ -141,8 +144,8 @@ fn keyword_at<'a>(value: &'a Value<'_>) -> Option<&'a str>
     value.get("kind").and_then(Value::as_str)
 }
 
-/// Reads the members `kind` and `text` as the value of a label, whose kind decides the form of the
-/// text.
+/// Reads the members `kind` and `text` as the value of a label. The kind decides which form the
+/// text must have.
 pub fn label_value_at(alloc: Global, value: &Value<'_>) -> Result<LabelValue, ReadStop>
     ensures { ReadsMember a_label_value (view value.now) result }
 {

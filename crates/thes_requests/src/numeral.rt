@@ -8,13 +8,13 @@ ghost use Rattle.serde_json.specs.View.{number_view};
 use fast_float::Numeral;
 use serde_json::Number;
 
-/// Returns the value of a JSON numeral, if it is in range: a 64-bit integer, or else the nearest
-/// finite float.
+/// Returns the value of a JSON numeral: a 64-bit integer, or else the nearest finite float; `None`
+/// if it is too large for a float.
 pub fn number_of(text: &str) -> Option<Number>
     ensures { option_map number_view result ≡ number_of text.now }
 {
     let bytes = text.as_bytes();
-    // Most numerals are a few digits; scanning them as floats takes three times as long.
+    // Most numerals are a few digits, and the general scan takes three times as long for them.
     if let Some(number) = integer_of(bytes) {
         return Some(Number::from(number));
     }
@@ -22,7 +22,7 @@ pub fn number_of(text: &str) -> Option<Number>
 }
 
 // Returns the value of the bytes as a numeral, if they are 1 to 19 digits and nothing else. Any
-// number of 19 digits fits 64 bits.
+// number of 19 digits fits into 64 bits.
 fn integer_of(bytes: &[u8]) -> Option<u64>
     ensures { SomeIff result (IsNumeral 10 bytes.now × (length bytes.now ≤ 19))
         (digits_value 10 bytes.now) }
@@ -41,8 +41,9 @@ fn integer_of(bytes: &[u8]) -> Option<u64>
     Some(number)
 }
 
-// Returns the value of any JSON numeral, if it is in range. It is a function of its own, so that a
-// numeral of a few digits needs no large stack frame, which a scan first fills with zeros.
+// Returns the value of any JSON numeral; `None` if it is too large for a float. It isn't inlined,
+// so that a numeral of a few digits is spared the large stack frame of a scan, which is first
+// filled with zeros.
 #[inline(never)]
 fn scan_number(bytes: &[u8]) -> Option<Number>
     ensures { option_map number_view result ≡ number_of bytes.now }

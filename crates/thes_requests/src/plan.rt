@@ -17,16 +17,16 @@ use thes_base::fault::{FormFault, ReadStop};
 use thes_plans::plan::{PlanRequest, REQUEST_LIMIT};
 use thes_plans::references::first_bad_reference;
 
-/// The reason why a text isn't a plan. The fault that comes first in this order counts: that
-/// of the whole text, then those of the requests in their order, then those of references.
+/// The first reason why a text isn't a plan. The whole text is checked first, then each request in
+/// order, and then the references.
 #[derive(Clone, Copy, Debug, PartialEq, Eq)]
 pub enum PlanFault {
-    /// The text isn't JSON (`NotJson`), or not an array of 1 to 128 values (`BadShape`).
+    /// The text isn't JSON (`NotJson`), or isn't an array of 1 to 128 values (`BadShape`).
     Whole(FormFault),
-    /// The request at this place, from 1, has this form fault; a query has `BadShape`.
+    /// The request at this place, counted from 1, has this form fault; a query has `BadShape`.
     Request(usize, FormFault),
-    /// The request at this place, from 1, has a reference to no earlier request, or to one that
-    /// doesn't make what is referred to.
+    /// The request at this place, counted from 1, has a bad reference: it is to no earlier request,
+    /// or to one that doesn't make the resource or posting that the reference stands for.
     Reference(usize),
 }
 
@@ -98,8 +98,8 @@ fn requests_in(alloc: Global, items: Vec<Value<'_>>) -> Result<Vec<PlanRequest>,
     Ok(plan)
 }
 
-// Returns the plan if all its references are good, or the fault of the first request with a bad
-// one.
+// Returns the plan, or the fault of the first request with a bad reference
+// (`PlanFault::Reference`).
 fn with_good_references(plan: Vec<PlanRequest>) -> Result<Vec<PlanRequest>, PlanStop>
     ensures { (d : Data) → IsPlanOfRequests d plan.items
         → GivesPlan (PlanValueReadsAs d) result }
@@ -110,7 +110,7 @@ fn with_good_references(plan: Vec<PlanRequest>) -> Result<Vec<PlanRequest>, Plan
     }
 }
 
-// Reads a plan from the items of an array.
+// Reads a plan from the items of an array, of which there must be 1 to 128.
 #[tactic(auto, using(crate::proofs::ReferenceLemmas::plan_array_length))]
 fn plan_of_items(alloc: Global, items: Vec<Value<'_>>) -> Result<Vec<PlanRequest>, PlanStop>
     ensures { GivesPlan (PlanValueReadsAs (array (items_view items.entry.items))) result }
@@ -121,7 +121,7 @@ fn plan_of_items(alloc: Global, items: Vec<Value<'_>>) -> Result<Vec<PlanRequest
     with_good_references(requests_in(alloc, items)?)
 }
 
-/// Reads a plan from a JSON value.
+/// Reads a plan from a JSON value, which must be an array of 1 to 128 requests.
 pub fn plan_in(alloc: Global, value: Value<'_>) -> Result<Vec<PlanRequest>, PlanStop>
     ensures { GivesPlan (PlanValueReadsAs (view value.entry)) result }
 {
@@ -131,7 +131,7 @@ pub fn plan_in(alloc: Global, value: Value<'_>) -> Result<Vec<PlanRequest>, Plan
     }
 }
 
-/// Reads a plan from the bytes of a text, or returns the first fault, or OutOfMemory.
+/// Reads a plan from the bytes of a text, or returns its first fault, or `OutOfMemory`.
 pub fn read_plan(memory: &mut RequestScratch, bytes: &[u8]) -> Result<Vec<PlanRequest>, PlanStop>
     ensures { GivesPlan (PlanReadsAs bytes.now) result }
 {

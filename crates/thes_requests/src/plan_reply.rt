@@ -24,7 +24,7 @@ const ANSWER_LIMIT: usize = 72;
 #[derive(Drop)]
 pub enum PlanReply {
     Done(Page),
-    /// The place of the first request that is refused, from 1, and its refusal.
+    /// The place of the first request that is refused, counted from 1, and its refusal.
     Refused(usize, Refusal),
     Bad(PlanFault),
 }
@@ -49,7 +49,7 @@ impl PlanReply {
     }
 }
 
-// Returns the beginning of a line for the request at a place: `{"at":K,`.
+// Returns the beginning of a line for the request at the place K of its plan: `{"at":K,`.
 fn place_line(place: usize) -> ShortLine
     ensures text { result ≡ place_text place }
     ensures short { length result ≤ 27 }
@@ -73,8 +73,8 @@ fn place_name_line(place: usize, before: &str, name: &str) -> ShortLine
     line
 }
 
-// Returns the line for the request at a place that is refused since the IRI is that of this outside
-// concept.
+// Returns the line for a request at a place that is refused because an outside concept, whose
+// number is given, already has its IRI.
 fn outside_known_line(place: usize, number: u32) -> ShortLine
     ensures { result ≡ plan_refusal_text place (Refusal.OutsideKnown number) }
 {
@@ -106,7 +106,8 @@ pub fn plan_fault_line(fault: PlanFault) -> ShortLine
     }
 }
 
-// Appends bytes to the line of a reply to a plan, whose capacity suffices for them.
+// Appends bytes to the line of a reply to a plan. The line's capacity must suffice, so that no
+// memory is allocated.
 fn append(line: &mut Vec<u8>, bytes: &[u8])
     requires { vec_len line.old + length bytes.now ≤ vec_capacity line.old }
     ensures items { line.new.items ≡ line.old.items ++ bytes.now }
@@ -155,7 +156,8 @@ fn append_answers(line: &mut Vec<u8>, answers: &[Answer])
     }
 }
 
-// Returns the line of these answers to a plan, in the memory `room`, whose capacity suffices.
+// Returns the line of these answers to a plan, in the memory of `room`, whose capacity must
+// suffice.
 fn answers_line(room: Vec<u8>, answers: &[Answer]) -> Page
     requires empty { room.items ≡ [] }
     requires room { 72 * length answers.now + 12 ≤ vec_capacity room }
@@ -168,7 +170,7 @@ fn answers_line(room: Vec<u8>, answers: &[Answer]) -> Page
     Page::new(bytes)
 }
 
-/// Reserves memory for the line of the answers to `count` requests.
+/// Reserves memory for the line of the answers to `count` requests: 72 bytes for each, and 12 more.
 pub fn room_for_answers(alloc: Global, count: usize) -> Result<Vec<u8>, AllocError>
     ensures empty { IfOk result (λ room. room.items ≡ []) }
     ensures room { IfOk result (λ room. 72 * count + 12 ≤ vec_capacity room) }
@@ -182,7 +184,8 @@ pub fn room_for_answers(alloc: Global, count: usize) -> Result<Vec<u8>, AllocErr
     Vec::with_capacity(alloc, size)
 }
 
-/// Returns the reply for the outcome of a plan, with its line in the memory reserved for it.
+/// Returns the reply for the outcome of a plan. The line of answers is made in `room`, the memory
+/// that `room_for_answers` reserved.
 pub fn reply_in_room(room: Vec<u8>, outcome: PlanOutcome) -> PlanReply
     requires empty { room.items ≡ [] }
     requires room { IsRoomFor (vec_capacity room) outcome }

@@ -13,8 +13,8 @@ use std::alloc::Global;
 use thes_base::fault::Fault;
 use thes_plans::plan::PlanRequest;
 
-/// Performs a plan, and returns its reply. Memory for the line of the reply is reserved before, so
-/// that it can't run out after the plan is performed.
+/// Performs a plan, and returns its reply. Reserves memory for the line of the reply first, so that
+/// memory can't run out after the plan is performed.
 pub fn perform_plan<D: RequestHandler>(
     alloc: Global,
     handler: &mut D,
@@ -32,7 +32,8 @@ pub fn perform_plan<D: RequestHandler>(
     }
 }
 
-/// Performs the plan that was read, or nothing if the text isn't one, and returns the reply.
+/// Performs the plan that was read, and returns its reply. If the text isn't a plan, performs
+/// nothing, and returns a reply with the reason.
 pub fn perform_read_plan<D: RequestHandler>(
     alloc: Global,
     handler: &mut D,

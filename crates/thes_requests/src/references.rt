@@ -12,7 +12,8 @@ use crate::tree::{Value, push_member};
 use serde_json::Number;
 use std::alloc::{AllocError, Global};
 
-// Returns whether the bytes are decimal digits, at least one, without a zero before others.
+// Returns whether the bytes are one or more decimal digits, the first of which isn't a zero unless
+// it is the only one.
 fn is_place(digits: &[u8]) -> bool
     ensures { result ≡ plan.is_place digits.now }
 {
@@ -26,7 +27,7 @@ fn all_digits(digits: &[u8]) -> bool
     digits.iter().all(|byte| byte.is_ascii_digit())
 }
 
-// Returns whether there are bytes, of which the first is a zero only if it is the only one.
+// Returns whether there is at least one byte, and the first of several isn't a zero.
 fn begins_place(digits: &[u8]) -> bool
     ensures { result ≡ plan.begins_place digits.now }
 {
@@ -37,7 +38,7 @@ fn begins_place(digits: &[u8]) -> bool
     }
 }
 
-// Returns the value with one more decimal digit, at most `u32::MAX`.
+// Returns the value with one more decimal digit appended, or `u32::MAX` if that is less.
 fn with_digit(value: u32, digit: &u8) -> u32
     ensures { result ≡ min (value * 10 + (digit.now - 48)) plan.greatest_place }
 {
@@ -46,7 +47,7 @@ fn with_digit(value: u32, digit: &u8) -> u32
         .saturating_add(digit.saturating_sub(b'0') as u32)
 }
 
-// Returns the value of decimal digits, at most `u32::MAX`.
+// Returns the value of decimal digits, or `u32::MAX` if that is less.
 fn capped_value(digits: &[u8]) -> u32
     requires { plan.is_place digits.now ≡ true }
     ensures { result ≡ min (digits_value 10 digits.now) plan.greatest_place }
@@ -68,14 +69,16 @@ fn place_in(text: &str) -> Option<u32>
     }
 }
 
-// Returns the place to which a JSON value refers, if it is a reference; at most `u32::MAX`.
+// Returns the place to which a JSON value refers, if the value is a reference. Any place beyond
+// `u32::MAX` is returned as `u32::MAX`, which is beyond every plan.
 fn reference_in(value: &Value<'_>) -> Option<u32>
     ensures { result ≡ plan.reference_in (view value.now) }
 {
     place_in(value.as_str()?)
 }
 
-/// Returns the name of the member that is the command's first number, if it has one.
+/// Returns the name of the member with the command's first number, or `None` if a command with this
+/// keyword has no number.
 pub fn first_name(verb: CommandKeyword) -> Option<&'static str>
     ensures { option_map (λ s. s.now) result ≡ plan.first_name verb }
 {
@@ -92,7 +95,8 @@ pub fn first_name(verb: CommandKeyword) -> Option<&'static str>
     }
 }
 
-/// Returns the name of the member that is the command's second number, if it has one.
+/// Returns the name of the member with the command's second number, or `None` if a command with
+/// this keyword has only one or none.
 pub fn second_name(verb: CommandKeyword) -> Option<&'static str>
     ensures { option_map (λ s. s.now) result ≡ plan.second_name verb }
 {
@@ -103,16 +107,16 @@ pub fn second_name(verb: CommandKeyword) -> Option<&'static str>
     }
 }
 
-/// Returns the place to which the member with this name refers, or `None` without a name or a
-/// reference.
+/// Returns the place to which the member with this name refers, or `None` if there is no name or
+/// the member isn't a reference.
 pub fn reference_at(name: Option<&str>, value: &Value<'_>) -> Option<u32>
     ensures { result ≡ plan.reference_at (option_map (λ s. s.now) name.entry) (view value.now) }
 {
     reference_in(value.get(name?)?)
 }
 
-/// Returns, for each posting that a split lists, the place to which it refers, or `None` if it is
-/// no reference; an empty list for other commands.
+/// Returns, for each posting that a split lists, the place to which it refers, or `None` if it
+/// isn't a reference. For other commands the list is empty.
 pub fn listed_references(
     alloc: Global,
     verb: CommandKeyword,
@@ -127,7 +131,7 @@ pub fn listed_references(
 }
 
 // Returns, for each item of the member `postings`, the place to which it refers, if it is a
-// reference; an empty list if the member is no array.
+// reference. The list is empty if the member isn't an array.
 fn posting_references(alloc: Global, value: &Value<'_>) -> Result<Vec<Option<u32>>, AllocError>
     ensures { IfOk result (λ v. v.items
         ≡ plan.array_references
@@ -254,7 +258,8 @@ fn has_reference(value: &Value<'_>) -> bool
     }
 }
 
-// Returns whether a member has a reference; if not, `members_without_references` would change none.
+// Returns whether a member has a reference; if not, `members_without_references` would change no
+// member.
 fn have_references(members: &[(&str, Value<'_>)]) -> bool
     ensures { result ≡ false → plan.members_without_references (members_view members.now)
         ≡ members_view members.now }
@@ -267,8 +272,9 @@ fn have_references(members: &[(&str, Value<'_>)]) -> bool
     false
 }
 
-/// Returns an object with 1 in place of each reference used as a number, and any other value
-/// unchanged. Members are copied only if there are references.
+/// Returns an object with 1 in place of each reference used as a number, so that it can be read as
+/// a request without references; returns any other value unchanged. Copies members only if there
+/// are references.
 pub fn without_references<'a>(alloc: Global, value: Value<'a>) -> Result<Value<'a>, AllocError>
     ensures { IfOk result (λ v. view v ≡ plan.without_references (view value.entry)) }
 {

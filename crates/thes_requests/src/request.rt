@@ -100,7 +100,7 @@ fn collection_in(alloc: Global, value: &Value<'_>) -> Result<Command, ReadStop>
     Ok(Command::Collection(scheme, tag, text))
 }
 
-// Reads the command to add an outside concept, the target of mappings: its IRI.
+// Reads the command to add an outside concept, which can be the target of mappings: its IRI.
 fn outside_in(alloc: Global, value: &Value<'_>) -> Result<Command, ReadStop>
     ensures { Gives (command_in CommandKeyword.Outside (view value.now)) result }
 {
@@ -138,8 +138,8 @@ fn drop_label_in(alloc: Global, value: &Value<'_>) -> Result<Command, ReadStop>
     Ok(Command::DropLabel(owner, label))
 }
 
-// Reads the command to replace the preferred label in a language, which keeps the old one as an
-// alternative label if `keep` is true.
+// Reads the command to replace a resource's preferred label in a language; `keep` states whether
+// the old text stays as an alternative label.
 fn relabel_in(alloc: Global, value: &Value<'_>) -> Result<Command, ReadStop>
     ensures { Gives (command_in CommandKeyword.Relabel (view value.now)) result }
 {
@@ -234,7 +234,8 @@ fn withdraw_in(value: &Value<'_>) -> Result<Command, ReadStop>
     Ok(Command::Withdraw(posting))
 }
 
-/// Reads the members of the command with this keyword.
+/// Reads the other members of the command with this keyword. Returns `BadShape` if one is missing,
+/// superfluous or of the wrong type, or else the fault of the first that isn't well-formed.
 #[inline(always)]
 pub fn command_in(
     alloc: Global,
@@ -300,7 +301,7 @@ fn posting_query_in(value: &Value<'_>) -> Result<Query, ReadStop>
     Ok(Query::Posting(number))
 }
 
-// Reads the members of the query with this keyword.
+// Reads the other members of the query with this keyword.
 fn query_in(noun: QueryKeyword, value: &Value<'_>) -> Result<Query, ReadStop>
     ensures { Gives (query_in noun (view value.now)) result }
 {
@@ -312,8 +313,8 @@ fn query_in(noun: QueryKeyword, value: &Value<'_>) -> Result<Query, ReadStop>
     }
 }
 
-// Reads a request whose `do` has the keyword `verb`; `None` means that `do` names no command, and
-// gives `BadShape`.
+// Reads a request whose member `do` is the keyword `verb`. If `verb` is `None`, `do` names no
+// command, which is `BadShape`.
 #[tactic(auto, using(crate::proofs::MemberReadingLemmas::gives_mapped))]
 fn do_in(
     alloc: Global,
@@ -328,8 +329,8 @@ fn do_in(
     Ok(Request::Do(command_in(alloc, verb, value)?))
 }
 
-// Reads a request whose `get` has the keyword `noun`; `None` means that `get` names no query, and
-// gives `BadShape`.
+// Reads a request whose member `get` is the keyword `noun`. If `noun` is `None`, `get` names no
+// query, which is `BadShape`.
 #[tactic(auto, using(crate::proofs::MemberReadingLemmas::gives_mapped))]
 fn get_in(noun: Option<QueryKeyword>, value: &Value<'_>) -> Result<Request, ReadStop>
     ensures { Gives (get_request noun (view value.now)) result }
@@ -340,7 +341,8 @@ fn get_in(noun: Option<QueryKeyword>, value: &Value<'_>) -> Result<Request, Read
     Ok(Request::Get(query_in(noun, value)?))
 }
 
-/// Reads a request from a JSON value, by `do` or, if the object has none, by `get`.
+/// Reads a request from a JSON value: a command if the object has the member `do`, or else a query
+/// if it has `get`; without either returns `BadShape`.
 #[tactic(auto, unfolding(crate::specs::Requests::request_in))]
 pub fn request_in(alloc: Global, value: &Value<'_>) -> Result<Request, ReadStop>
     ensures { Gives (request_in (view value.now)) result }
@@ -389,7 +391,7 @@ impl RequestScratch {
     }
 }
 
-/// Reads a request from the bytes of a line, or returns the first form fault, or OutOfMemory.
+/// Reads a request from the bytes of a line, or returns its first form fault, or `OutOfMemory`.
 pub fn read_request(memory: &mut RequestScratch, bytes: &[u8]) -> Result<Request, ReadStop>
     ensures { Gives (request_of bytes.now) result }
 {

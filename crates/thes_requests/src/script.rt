@@ -18,7 +18,7 @@ use thes_base::fault::{Fault, PipeFault};
 use thes_base::pipe::{Budget, Pipe};
 use thes_base::request::Answer;
 
-/// A summary of the answers of a script.
+/// A summary of a script's answers, from which the program determines its exit status.
 #[derive(Clone, Copy, PartialEq, Eq)]
 pub struct ScriptEnd {
     /// Whether an answer was a refusal or a form fault.
@@ -62,9 +62,9 @@ impl ScriptEnd {
     }
 }
 
-// Records the outcome of a script's line in `ended`, and writes its answer, if it has one. Fails if
-// the writer fails or the budget has no write left, and, after the answer, with `OutOfMemory` if
-// the handler has closed, since running out of memory in a call is what closes a handler.
+// Records the outcome of a script's line in `ended`, and writes the line's answer, if it has one.
+// Fails if the writer fails or no write is left. If the handler has closed, which means that a call
+// ran out of memory, fails with `OutOfMemory` after the answer.
 fn write_outcome<W: Write, D: RequestHandler>(
     writer: &mut Pipe<W>,
     budget: &mut Budget,
@@ -89,12 +89,13 @@ fn write_outcome<W: Write, D: RequestHandler>(
     Ok(())
 }
 
-/// Answers each line of the input before it serves the next.
+/// Serves the requests and plans in the lines of the input, and writes the answer to each line
+/// before it serves the next.
 ///
-/// A line holds at most 1,048,576 bytes, and a script at most 1,000,000 lines, blank ones included.
+/// A line has at most 1,048,576 bytes, and a script at most 1,000,000 lines, blank ones included.
 /// `TooLong` is returned only if the input exceeds these limits, after all earlier lines are
-/// answered, or if none of the 100,000,000 reads and writes is left. `OutOfMemory` is returned only
-/// before the first line, or after the handler has closed.
+/// answered, or if all of the 100,000,000 reads and writes are used up. `OutOfMemory` is returned
+/// only before the first line, or after the handler has closed.
 pub fn script<R: Read, W: Write, D: RequestHandler>(
     alloc: Global,
     reader: &mut Pipe<R>,
@@ -121,11 +122,12 @@ pub fn script<R: Read, W: Write, D: RequestHandler>(
         if found == LineSearch::End {
             return Ok(ended);
         }
-        // The former answer is freed once this one is made: to free the last block of the heap
-        // would cost more.
+        // The assignment frees the previous answer only after it has made the new one. Freed
+        // earlier, the previous answer would often be the last block of the heap, which costs more
+        // to free.
         outcome = serve_line(&mut memory, handler, &lines.line, found);
-        // Before the next line is served: the client may wait for this answer (DECISIONS.md,
-        // Scripts).
+        // The answer is written before the next line is served, since the client may be waiting for
+        // it (DECISIONS.md, Scripts).
         write_outcome(writer, &mut budget, handler, &outcome, &mut ended)?;
     }
     Ok(ended)

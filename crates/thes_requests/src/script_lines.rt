@@ -13,8 +13,7 @@ use thes_base::pipe::{Budget, Pipe, Stop};
 
 const LINES_LIMIT: u32 = 1_000_000;
 
-/// The lines of a script, read one at a time, with the last line found and the number of lines
-/// found so far.
+/// A reader of a script's lines, with the last line found and the number of lines found so far.
 #[derive(Drop)]
 pub struct ScriptLines {
     pub line_buffer: LineBuffer,
@@ -36,8 +35,8 @@ impl ScriptLines {
         })
     }
 
-    /// Finds the next line and holds it without its line end; `TooLong` means that the line exceeds
-    /// 1 MiB or is line 1,000,001, or that no read is left.
+    /// Finds the next line and stores it in `line` without its line end. `TooLong` means that the
+    /// line exceeds 1 MiB or is line 1,000,001, or that no read is left.
     pub fn next_line<R: Read>(
         &mut self,
         reader: &mut Pipe<R>,

@@ -32,7 +32,7 @@ impl ShortLine {
         line
     }
 
-    /// Appends a text; the line must not exceed 72 bytes after it.
+    /// Appends a text, with which the line must have at most 72 bytes.
     pub fn push(&mut self, text: &str)
         requires { length self.old + length text.now ≤ 72 }
         ensures text { self.new ≡ self.old ++ text.now }

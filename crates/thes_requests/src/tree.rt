@@ -1,5 +1,6 @@
 //! The JSON of a line as a tree, which borrows each text from the line or, if the text has escapes,
-//! from the scratch memory; `serde_json`'s would allocate each (DECISIONS.md, Requests in JSON).
+//! from the scratch memory. A `serde_json::Value` would allocate each text (DECISIONS.md, Requests
+//! in JSON).
 ghost use Rattle.std.specs.Prelude.{◌≡◌, ◌<◌, ◌⊎◌, length, option_map, is_some, bytes_eq, Some, None, IfOk, IfErr, OnOk};
 ghost use Rattle.json.specs.Json.{items, members, read_key, value};
 ghost use Rattle.serde_json.specs.Data.{no_members, put};
@@ -36,8 +37,9 @@ pub enum Value<'a> {
 }
 
 impl<'a> Value<'a> {
-    /// Parses a text that is one JSON value (RFC 8259), perhaps with white space around it; arrays
-    /// and objects nest at most 127 deep.
+    /// Parses a text that is one JSON value (RFC 8259), perhaps with white space around it. A
+    /// number too large for a float is `NotJson`, and so are arrays and objects nested more than
+    /// 127 deep.
     pub fn read(
         alloc: Global,
         text: &'a str,
@@ -133,8 +135,8 @@ fn member<'v, 'a>(members: &'v [(&'a str, Value<'a>)], name: &str) -> Option<&'v
     None
 }
 
-// Returns whether two names are equal. This is apart from the comparison of their lengths, which
-// settles most searches.
+// Returns whether two names are equal. It isn't inlined, since for most names their lengths, which
+// are compared first, already differ.
 #[inline(never)]
 fn has_same_bytes(name: &str, other: &str) -> bool
     ensures { result ≡ bytes_eq name.now other.now }
@@ -142,7 +144,8 @@ fn has_same_bytes(name: &str, other: &str) -> bool
     name == other
 }
 
-// Returns whether two names are equal, where most have different lengths.
+// Returns whether two names are equal. Compares their lengths first, since most names differ in
+// length.
 #[tactic(auto, using(crate::proofs::TreeLemmas::other_length))]
 #[inline(always)]
 fn is_same_name(name: &str, other: &str) -> bool
@@ -168,9 +171,9 @@ fn has_name<'a>(members: &[(&'a str, Value<'a>)], name: &str) -> bool
 
 // Returns whether the members have exactly `count` different names.
 //
-// A name is counted at its first member, from which a search backwards finds no equal one. For a
-// fixed count the time is linear: the searches for one name add up to at most the length, and the
-// loop ends at the first name in excess.
+// A name is counted at its first member: a search backwards from there finds no equal name. For a
+// fixed `count` the time is linear in the number of members: all searches for one name together
+// visit each member at most once, and the loop ends at the first name in excess.
 fn has_names<'a>(members: &[(&'a str, Value<'a>)], count: usize) -> bool
     ensures { result ≡ has_count count (Some (members_view members.now)) }
 {
@@ -186,7 +189,8 @@ fn has_names<'a>(members: &[(&'a str, Value<'a>)], count: usize) -> bool
     names == count
 }
 
-/// Appends a member of an object; before the first one, allocates capacity for all of a request.
+/// Appends a member to an object. Before the first one, allocates room for as many members as a
+/// request has at most.
 #[inline(always)]
 pub fn push_member<'a>(
     alloc: Global,
@@ -287,8 +291,8 @@ fn read_members<'a>(
     Ok(found)
 }
 
-// Consumes the name of the next member and its colon, and returns the name, or `None` at the end of
-// the object.
+// Consumes the name of the next member and the colon after it, and returns the name, or `None` at
+// the end of the object.
 fn next_name<'a>(reader: &mut Reader<'a>) -> Result<Option<&'a str>, ReadStop>
     ensures ok { IfOk result
         (λ name. read_key reader.old ≡ Some (option_map (λ s. s.now) name, reader.new)) }

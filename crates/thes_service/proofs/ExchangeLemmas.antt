@@ -18,7 +18,7 @@ use Rattle.thes_service.proofs.ConnectionRunLemmas.{connections_lead}
 use Rattle.thes_service.proofs.OfficeAnswerLemmas.{one_office_answer}
 
 module _ {K : Type 0} (view : K → StorageView) (takes : Bool) where
-  -- What an office shows while its storage is up: a consistent state.
+  -- While the storage of the office is up, its tables encode a consistent state.
   abbrev Shows : OfficeView K → Type 0
   Shows office = (view office.keeper).is_up → (base : List ℕ) × (s : State)
       × TablesOfState (view office.keeper).rows base s × IsConsistentState base s
@@ -49,7 +49,7 @@ module _ {K : Type 0} (view : K → StorageView) (takes : Bool) where
       → Shows old
   shows_of setting s old x up = (setting.base, s, x, legal_is_consistent setting.base s x.legal)
 
-  -- The exchanges before the last one.
+  -- The exchanges of an office are those before the last one, and then the last one.
   earlier : (setting : Setting) (s : State) (old new : OfficeView K) (e : Exchange) (exchanges : List Exchange)
       → (x : ExchangesInState view takes setting s old (e ∷ exchanges) new)
       → (mid : OfficeView K) × ExchangesInState view takes setting s old exchanges mid
@@ -78,7 +78,7 @@ module _ {K : Type 0} (view : K → StorageView) (takes : Bool) where
       subst (λ (o : OfficeView K). TablesOfState (view o.keeper).rows setting.base s) (sym x.answers) x.shows
 
 module _ {K L : Type 0} (view : K → StorageView) (other : L → StorageView) where
-  -- The last responses to the same bytes are the same.
+  -- If the exchanges before the last lead to the same state, the last responses to the same bytes are the same.
   last_response : (takes : Bool) (setting : Setting) → AreLimits setting.limits
       → (mid new : OfficeView K) (mid' new' : OfficeView L)
       (e f : Exchange) → e.bytes ≡ f.bytes → mid.limits ≡ setting.limits → mid'.limits ≡ setting.limits

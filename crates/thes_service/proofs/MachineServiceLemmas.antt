@@ -1,4 +1,5 @@
--- The machine as a service: each call has one answer and one state after it, unless memory or the storage fails.
+-- Proves that each call of the machine, seen as a service, has one answer and one state after it, unless memory runs
+-- out or the storage fails.
 use Rattle.std.proofs.Common.{◌≡◌, ◌∙◌, ◌⊎◌, ◌++◌, ◌∷◌, [], ℕ, Bool, List, Option, Some, None, Result, Ok, Err, inl, inr}
 use Rattle.std.proofs.Common.{refl, sym, ap}
 use Rattle.thes_base.specs.declared.data.Resource.{Resource}
@@ -55,12 +56,12 @@ HoldsUnlessFailure P (Ok x) = P x
 HoldsUnlessFailure P (Err fault) = IsFailure fault
 
 module _ (setting : Setting) where
-  -- The answer reports an import of the file from the one state to the other.
+  -- The answer reports an import of the file that leads from `s` to `t`.
   abbrev pub ImportAnswers : State → List ℕ → Option (List ℕ) → State → Type 0
   ImportAnswers s file answer t =
       (done : Option Report) × IsImportOf setting s file done t × (Ok answer ≡ import_answer (Ok done))
 
-  -- The machine as a service, which takes plans or doesn't; where it fails, nothing is said of the state after.
+  -- The machine as a service, which takes plans or doesn't; the state after a call that fails isn't specified.
   abbrev pub machine_service : Bool → ServiceBehaviour State
   machine_service takes = record {
     requests = record {
@@ -169,7 +170,7 @@ module _ (setting : Setting) (takes : Bool) (fit : IsSetting setting) (s : State
   abbrev Machine : ServiceBehaviour State
   Machine = machine_service setting takes
 
-  -- A plan that isn't answered failed.
+  -- A plan that is answered with a fault is one for which memory ran out, or the storage failed.
   plan_fails : (value : Option Data) (f : Fault) (v : State) → ServesPlan Machine.requests s value (Err f) v
       → IsFailure f
   plan_fails value f v (inl x) = inl x.0

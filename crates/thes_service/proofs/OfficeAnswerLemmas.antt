@@ -1,4 +1,5 @@
--- Proves that an office answers as the machine does in the state that its tables encode, so it has one answer.
+-- Proves that an office answers as the machine does in the state that its tables encode, so that it has one answer to
+-- the same bytes.
 use Rattle.std.proofs.Common.{◌≡◌, ◌++◌, ◌∷◌, [], ℕ, Bool, List, Result, Ok, Err, inl, inr, refl, sym, ap, subst}
 use Rattle.std.proofs.Common.{Option, arith}
 use Rattle.thes_base.specs.declared.data.Limits.{Limits}

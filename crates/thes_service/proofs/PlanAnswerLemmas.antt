@@ -39,7 +39,7 @@ last_same : (before : List Answer) (x y : Answer) → before ++ x ∷ [] ≡ bef
 last_same [] x y e = cc
 last_same (z ∷ before) x y e = last_same before x y (let rest : before ++ x ∷ [] ≡ before ++ y ∷ [] = cc in rest)
 
--- A run, and one more step.
+-- A run and one more step make a run.
 run_more : (setting : Setting) (s m t : State) (commands : List Command) (answers : List Answer) (command : Command)
     (answer : Answer) → Run setting s commands answers m → Step setting m command answer t
     → Run setting s (commands ++ command ∷ []) (answers ++ answer ∷ []) t
@@ -50,8 +50,8 @@ run_more setting s m t (c ∷ commands) [] command answer run step = absurd run
 run_more setting s m t (c ∷ commands) (a ∷ answers) command answer run step =
     (run.0, run.1, run_more setting run.0 m t commands answers command answer run.2 step)
 
--- The rest of a plan, from a state on, with the answers before it: the answers to those of its requests that are
--- accepted, and the refusal of the next one, if it isn't the end.
+-- The outcome of the rest of a plan in the state `m`, given the answers to the requests before: the answers to those
+-- that are accepted, the refusal of the next one, if there is one, and the state `t` after them.
 abbrev Rest : Setting → State → List Answer → List PlanRequest → List Answer → Option Refusal → State → Type 0
 Rest setting m before [] [] None t = t ≡ m
 Rest setting m before [] [] (Some r) t = ⊥

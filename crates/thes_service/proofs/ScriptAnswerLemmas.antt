@@ -43,7 +43,7 @@ use Rattle.thes_service.specs.Service.{office_behaviour}
 use Rattle.thes_service.proofs.OfficeAnswerLemmas.{does_as_machine}
 use Rattle.thes_service.proofs.ScriptRunLemmas.{led_start, lines_reached, step_reached}
 
--- What a request, or a line that isn't one, does in the machine, and the answer to its line.
+-- The effect in the machine of a line that is read as a request or has a form fault, and the answer to the line.
 abbrev Effect : Setting → State → Result Request FormFault → LineAnswer → State → Type 0
 Effect setting s (Ok (Do command)) answer t =
     (own : Answer) × Step setting s command own t × (answer ≡ Reply (reply.Answer own))
@@ -62,23 +62,23 @@ one_effect setting few s t u legal (Ok (Get query)) a b x y =
     (x.3 ∙ ap (λ c. query_answer (Ok c)) one ∙ sym y.3, x.2 ∙ sym y.2)
 one_effect setting few s t u legal (Err fault) a b x y = (x.1 ∙ sym y.1, x.0 ∙ sym y.0)
 
--- The reading of a line that is no plan, and its effect.
+-- The effect in the machine of a line that isn't a plan, by how the line is read, and the answer to it.
 abbrev RequestEffect : Setting → State → List ℕ → LineAnswer → State → Type 0
 RequestEffect setting s line answer t =
     (x : Result Request FormFault) × ReadsAs (request_of line) x × Effect setting s x answer t
 
--- What a line that is a plan does in the machine, and the answer to it.
+-- The effect in the machine of a line that is a plan, and the answer to it.
 abbrev PlanEffect : Bool → Setting → State → List ℕ → LineAnswer → State → Type 0
 PlanEffect takes setting s line answer t =
     (own : PlanReply) × ServesPlan (machine_service setting takes).requests s (json_in line) (Ok own) t
     × (answer ≡ Plan own)
 
--- What a line does in the machine, by whether it is a plan.
+-- The effect of a line in the machine, given whether the line is a plan.
 abbrev EffectByKind : Bool → Bool → Setting → State → List ℕ → LineAnswer → State → Type 0
 EffectByKind true takes setting s line answer t = PlanEffect takes setting s line answer t
 EffectByKind false takes setting s line answer t = RequestEffect setting s line answer t
 
--- What a line does in the machine, which takes plans or doesn't.
+-- The effect of a line in the machine, which takes plans or doesn't.
 abbrev LineEffect : Bool → Setting → State → List ℕ → LineAnswer → State → Type 0
 LineEffect takes setting s line answer t = EffectByKind (is_plan_line takes line) takes setting s line answer t
 
@@ -108,7 +108,7 @@ one_line_effect true takes setting few s t u legal line a b x y =
 one_line_effect false takes setting few s t u legal line a b x y =
     one_request_effect setting few s t u legal line a b x y
 
--- A request is no plan.
+-- An array is never read as a request, so a line that is a request isn't a plan.
 array_is_no_request : (items : Items) (request : Request) → ReadsAs (request_in (array items)) (Ok request) → ⊥
 unfolding request_in
 array_is_no_request items request h = absurd (cc)
@@ -124,7 +124,7 @@ no_plan_line : (takes : Bool) (line : List ℕ) (request : Request) → ReadsAs 
 no_plan_line true line request h = no_array (json_in line) request h
 no_plan_line false line request h = refl
 
--- What a line does in the machine, unless its outcome is a failure.
+-- The effect in the machine of a line with this outcome; a line for which memory ran out has none.
 abbrev OutcomeEffect : Bool → Setting → State → List ℕ → LineOutcome → State → Type 0
 OutcomeEffect takes setting s line Skipped t = (is_blank line ≡ true) × (t ≡ s)
 OutcomeEffect takes setting s line Unheld t = ⊥
@@ -201,7 +201,7 @@ module _ {K : Type 0} (view : K → StorageView) (takes : Bool) where
     outcome_effect Unheld p fine = absurd (fine tt)
     outcome_effect (Answered answer) p fine = (p.0, line_effect answer p.1 fine)
 
-  -- A line, and those after it: the storage was up between them, and its tables encoded a state.
+  -- After this line and before the next, the storage was up, and its tables encoded the state to which the line leads.
   pub record BetweenLines (setting : Setting) (s : State) (mid : OfficeView K) (line : List ℕ) (f : LineOutcome) :
       Type 0 where
     pub limits : mid.limits ≡ setting.limits

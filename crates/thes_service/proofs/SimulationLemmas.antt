@@ -1,4 +1,4 @@
--- Proves that a service which does between two states all that another does answers as the other does.
+-- Proves that if a service does, between two states, all that another does, it answers as the other does.
 use Rattle.std.proofs.Common.{◌≡◌, ℕ, Bool, List, inl, inr, subst, take, Option, Some, None, Result, Ok, Err}
 use Rattle.thes_base.specs.declared.fault.Fault.{Fault}
 use Rattle.thes_base.specs.declared.request.Answer.{Answer}
@@ -26,7 +26,7 @@ use Rattle.thes_http.specs.ServiceBehaviour.{ServiceBehaviour}
 use Rattle.thes_http.specs.Serving.{Answers, AnswersHead, CommandEffect, DisplayEffect, DisplayQueryEffect, EndpointEffect}
 use Rattle.thes_http.specs.Serving.{NumberQueryEffect, QueryEffect, RespondsUnchanged, WithNumber}
 
--- What the service `d` does from `old` to `new`, the service `e` does from `s` to `t`.
+-- Whatever the service `d` does from `old` to `new`, the service `e` does from `s` to `t`.
 pub record DoesAsMuch {S T : Type 0} (d : ServiceBehaviour S) (e : ServiceBehaviour T) (old new : S) (s t : T) :
     Type 0 where
   pub performs : (command : Command) (result : Result Answer Fault) → d.requests.performs old command result new
@@ -45,7 +45,7 @@ pub record DoesAsMuch {S T : Type 0} (d : ServiceBehaviour S) (e : ServiceBehavi
 
 module _ {S T : Type 0} (d : ServiceBehaviour S) (e : ServiceBehaviour T) (old new : S) (s t : T)
     (does : DoesAsMuch d e old new s t) where
-  -- What comes of a text that is read as a plan.
+  -- A text that is read as a plan is served by `e` as by `d`.
   pub serves_plan : (value : Option Data) (result : Result PlanReply Fault) → ServesPlan d.requests old value result new
       → ServesPlan e.requests s value result t
   serves_plan value (Ok (planned.Bad f)) a = (a.0, does.keeps a.1)

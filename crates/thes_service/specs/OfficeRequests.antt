@@ -36,8 +36,8 @@ module _ {K : Type 0} (view : K → StorageView) where
     pub viewed : IfOk result (λ v. (view new.keeper).is_up →
         InStateOfTables (view new.keeper).rows (λ s. IsQueryAnswer s query (Ok v)))
 
-  -- If the storage is up at the end, a plan leads to the state that its requests lead to, with its outcome: a refused
-  -- plan leaves the tables unchanged, and so does a fault.
+  -- If the storage is up at the end, an accepted plan leads to the state that its requests lead to, and has their
+  -- answers; a refused plan leaves the tables unchanged, and so does a fault.
   pub record OfficePerformsPlan (old : OfficeView K) (plan : List PlanRequest) (result : Result PlanOutcome Fault)
       (new : OfficeView K) : Type 0 where
     pub fault_behaviour : FaultBehaviour view old new result

@@ -37,8 +37,8 @@ use thes_store::keeper::Keeper;
 /// In contracts its value is that of the office.
 #[derive(Drop)]
 pub struct OfficeHandler<K: Keeper, M: PlanMode> {
-    // Wrapped, since the crate of `RequestHandler` and that of `Office` don't know each other
-    // (DECISIONS.md, The office).
+    // The office is wrapped, since the crates of `RequestHandler` and `Office` don't know each
+    // other (DECISIONS.md, The office).
     pub office: Office<K>,
     pub mode: M,
 }
@@ -135,7 +135,8 @@ impl<K: Keeper, M: PlanMode> Service for OfficeHandler<K, M> {
         match import_postings(alloc, file, &mut self.office) {
             Ok(Some(report)) => Ok(Some(page_of(report))),
             Ok(None) => Ok(None),
-            // An answer has one status (DECISIONS.md, HTTP).
+            // The outcomes of the rows before the fault aren't returned, since a response has only
+            // one status (DECISIONS.md, HTTP).
             Err((fault, _)) => Err(fault),
         }
     }
@@ -188,7 +189,7 @@ pub fn office_script<K: Keeper, M: PlanMode, R: Read, W: Write>(
 /// If the storage is up at the end of the call, a run of the machine leads from the state that the
 /// tables encoded to their new one, whatever the clients send. The new state is consistent: each
 /// posting that isn't withdrawn is assigned to exactly one live concept, the counts add up, and the
-/// triples meet the conditions of SKOS. An error is that of accepting a connection, or
+/// triples meet the conditions of SKOS. Fails with the error of accepting a connection, or with
 /// `OutOfMemory` if memory for the routes ran out.
 pub fn office_serve<N: Net + Clock, K: Keeper, M: PlanMode>(
     alloc: Global,

@@ -3,8 +3,8 @@ ghost use Rattle.std.specs.Prelude.{◌≡◌, Bool, false, true};
 
 /// The mode of an office's handler: whether plans are taken from scripts and connections.
 pub trait PlanMode {
-    // The mode is a type, not a field: in contracts a handler is its office (DECISIONS.md, The
-    // office).
+    // Whether plans are taken belongs to the type of the mode, not to its value: in contracts a
+    // handler has only the value of its office (DECISIONS.md, The office).
     ghost takes: { Bool };
 
     /// Returns whether plans are taken.
@@ -12,7 +12,7 @@ pub trait PlanMode {
         ensures { result ≡ takes };
 }
 
-/// No plans are taken: an array isn't a request, and there is no path for plans.
+/// The mode without plans: an array isn't a request, and there is no path for plans.
 #[derive(Clone, Copy, Debug)]
 pub struct NoPlans;
 
@@ -24,7 +24,7 @@ impl PlanMode for NoPlans {
     }
 }
 
-/// Plans are taken: an array of requests is performed as one, and there is a path for plans.
+/// The mode with plans: an array of requests is performed as one, and there is a path for plans.
 #[derive(Clone, Copy, Debug)]
 pub struct WithPlans;
 

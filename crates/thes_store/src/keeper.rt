@@ -57,7 +57,8 @@ pub trait Keeper {
         ensures found { PassesFound is_open finds S.gives self.old self.new sink.old result
             sink.new };
 
-    /// Applies all changes in order, or returns a fault and applies none.
+    /// Applies all changes in order, or returns a fault and applies none; a fault that shuts the
+    /// storage may leave them applied.
     fn commit(&mut self, delta: Delta) -> Result<(), Fault>
         requires fits { DeltaFitsStorage delta (view self.old) }
         ensures ok { OnOk result ((view self.new).is_up

@@ -29,7 +29,7 @@ use Rattle.thes_tables.proofs.DeltaAppendLemmas.{all_append, fit_append}
 pub type_back : (typ : HierType) → hier_type (hier_kind typ) ≡ Some typ
 type_back typ = grind (arith, common_steps)
 
--- The kind of link for the type of a hierarchical kind is that kind.
+-- The type of a hierarchical kind of link leads back to that kind.
 kind_back : (kind : LinkKind) (typ : HierType) → hier_type kind ≡ Some typ → hier_kind typ ≡ kind
 kind_back kind typ e = grind (arith, common_steps, same_Some)
 

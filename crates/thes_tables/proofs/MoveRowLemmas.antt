@@ -243,7 +243,7 @@ module _ (rs : List _) (hs : List History) (legal : AreLegalPostings rs hs) (h :
       mine row e there = subst (λ (n : ℕ). IsIn (record row { posting = n }) rows_of) (sym e)
           (map_in (move_row h.number) (recorded_move row) h.moves there)
 
--- Table move encodes the moves of the histories also after a history is replaced by one with the same moves.
+-- Table move still encodes the moves of the histories after a history is replaced by one with the same moves.
 pub moves_set : (hs : List History) (n : ℕ) (h new : History) (rows : List MoveRow) → entry_at hs n ≡ Some h
     → new.moves ≡ h.moves → AreMoves hs rows → AreMoves (set_entry_at hs n new) rows
 moves_set hs n h new rows e same are = record {
@@ -320,7 +320,7 @@ with_here : (f : PostingRow → PostingRow) (n : ℕ) (pre : List PostingRow) (r
 with_here f n pre row rest e = grind (arith, common_steps, with_at, get_at pre row rest, set_at pre row (f row) rest)
 
 module _ (passes : History → Bool) (target : ℕ) where
-  -- Setting the place of each listed row gives the rows of the histories after the postings that pass the test have
+  -- Setting the places of the postings that pass the test gives the rows of the histories after these postings have
   -- moved.
   pub rows_placed : (number : ℕ) (pre : List PostingRow) (hs : List History) → NumberedFrom (length pre + 1) hs
       → placed_all (new_moves passes target number hs) (pre ++ map posting_row hs) ≡ pre

@@ -27,11 +27,11 @@ once_parts : {A : Type 0} (test : A → Bool) (xs : List A) → AreDistinct (fil
 once_parts test [] those others = tt
 once_parts {A} test (x ∷ xs) those others = grind (arith, common_steps, once_parts test xs, filter_in)
 
--- A kind with number 1 is broader.
+-- The kind of link with number 1 is `Broader`.
 broader_kind : (kind : LinkKind) → (link_kind_no kind == 1) ≡ true → kind ≡ kinds.Broader
 broader_kind kind e = grind (arith, common_steps)
 
--- A kind that isn't hierarchical has a number of version 1 other than 1.
+-- A kind that isn't hierarchical has a number from 2 to 8, so version 1 has it too.
 plain_kind : (kind : LinkKind) → hier_type kind ≡ None → (not (link_kind_no kind == 1) ≡ true) × (link_kind_no kind ≤ 8)
 plain_kind kind e = grind (arith, common_steps)
 
@@ -39,7 +39,7 @@ plain_kind kind e = grind (arith, common_steps)
 old_plain : (kind : LinkKind) → link_kind_no kind ≤ 8 → not (link_kind_no kind == 1) ≡ true → hier_type kind ≡ None
 old_plain kind le e = grind (arith, common_steps)
 
--- A type of hierarchical relationship whose kind of link has a number of version 1 is `Untyped`.
+-- If the kind of link for a type of hierarchical relationship is one of version 1, the type is `Untyped`.
 old_type : (typ : HierType) → link_kind_no (hier_kind typ) ≤ 8 → typ ≡ ht.Untyped
 old_type typ le = grind (arith, common_steps)
 

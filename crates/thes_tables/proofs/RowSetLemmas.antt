@@ -76,7 +76,8 @@ once_push (y ∷ xs) x new once = (
   once_push xs x (λ h. new (inr h)) once.1,
 )
 
--- If rows list a property, the rows with an element appended list the property that also holds of this element.
+-- If the rows are a listing of `Has`, the rows with an element appended are a listing of `More`, which holds of exactly
+-- this element and those with `Has`.
 pub lists_push : {K : Type 0} {Has More : K → Type 0} (rows : List K) (k : K) → (Has k → ⊥)
     → ((q : K) → More q → (q ≡ k) ⊎ Has q) → More k → ((q : K) → Has q → More q) → IsUnsortedListing Has rows
     → IsUnsortedListing More (rows ++ k ∷ [])
@@ -89,18 +90,19 @@ lists_push {More = More} rows k new cases last kept are = record {
   once = once_push rows k (λ h. new (are.sound k h)) are.once;
 }
 
--- If rows list a property, those that pass a test list the elements that have the property and pass the test.
+-- If the rows are a listing of `Has`, those that pass a test are a listing of `Less`, which holds of the elements that
+-- have `Has` and pass the test.
 pub lists_filter : {K : Type 0} {Has Less : K → Type 0} (test : K → Bool) (rows : List K)
     → ((q : K) → Less q → Has q × (test q ≡ true)) → ((q : K) → Has q → test q ≡ true → Less q)
     → IsUnsortedListing Has rows → IsUnsortedListing Less (filter test rows)
 lists_filter test rows less more are = grind (arith, common_steps, in_filter, filter_in, once_filter)
 
--- If rows list a property, they list every equivalent property.
+-- A listing of a property is also a listing of every equivalent property.
 pub lists_same : {K : Type 0} {Has Other : K → Type 0} (rows : List K) → ((q : K) → Has q → Other q)
     → ((q : K) → Other q → Has q) → IsUnsortedListing Has rows → IsUnsortedListing Other rows
 lists_same rows to from are = grind (arith, common_steps)
 
--- Assumes a total order whose equal elements are the same.
+-- Assumes a total order in which elements that compare equal are the same.
 module _ {K : Type 0} {R : K → K → Ordering} (o : IsTotalOrder R) (exact : IsAntisymmetric R) where
   pub equal_of_tie : (x y : K) → eq_by_cmp R x y ≡ true → x ≡ y
   equal_of_tie x y e = exact x y ((Equal-is (R x y)).0 e)
@@ -123,7 +125,7 @@ module _ {K : Type 0} {R : K → K → Ordering} (o : IsTotalOrder R) (exact : I
   pub item_held : (s : FinSet R) (q : K) → set.contains s q ≡ true → IsIn q (set.items s)
   item_held s q h = in_any q (set.items s) (sym (set.contains-items s q) ∙ h)
 
-  -- The test for an element of a set gives false if it is contradictory that the set has the element.
+  -- If it is contradictory that a set has an element, the test for the element gives false.
   pub absent_of_never : (s : FinSet R) (q : K) → (set.contains s q ≡ true → ⊥) → set.contains s q ≡ false
   absent_of_never s q never = elim (cases_Bool (set.contains s q)) [ inl h ↦ absurd (never h) | inr h ↦ h ]
 
@@ -224,7 +226,8 @@ module _ {K : Type 0} {R : K → K → Ordering} (o : IsTotalOrder R) (exact : I
   coming_absent [] s = tt
   coming_absent (k ∷ ks) s = grind (arith, common_steps, coming_absent ks s, coming_absent ks (set.insert s k))
 
-  -- If rows list a property, the rows without an element list the property that holds of all others.
+  -- If the rows are a listing of `Has`, the rows without an element are a listing of `Less`, which holds of all other
+  -- elements with `Has`.
   pub lists_drop : {Has Less : K → Type 0} (rows : List K) (k : K) → ((q : K) → Less q → (q ≡ k → ⊥) × Has q)
       → ((q : K) → (q ≡ k → ⊥) → Has q → Less q) → IsUnsortedListing Has rows
       → IsUnsortedListing Less (without_row R k rows)

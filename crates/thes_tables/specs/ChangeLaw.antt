@@ -1,5 +1,5 @@
--- The law of row changes: the changes of a request that a legal state accepts turn the rows of that state into those of
--- the next state.
+-- The law of row changes: the changes of a request that is accepted in a legal state turn the rows of that state into
+-- those of the next state.
 use Rattle.std.specs.Prelude.{List, ℕ, None}
 use Rattle.thes_base.specs.declared.request.Command.{Command}
 use Rattle.thes_base.specs.State.{State}
@@ -16,7 +16,8 @@ pub record AreChangesBetween (base : List ℕ) (changes : List Change) (s t : St
   pub rows : (tables : Tables) → IsRowsOf base s tables → IsRowsOf base t (tables_after_delta changes tables)
   pub fit : (tables : Tables) → IsRowsOf base s tables → DeltaFits changes tables
 
--- The changes of every request that a legal state accepts turn the rows of that state into those of the next state.
+-- The changes of every request that is accepted in a legal state, and whose key isn't known, turn the rows of that
+-- state into those of the next state.
 abbrev pub ChangesLead : Type 0
 ChangesLead =
     (setting : Setting) (s : State) (command : Command) → IsLegalState setting.base s → HasNewKey command s

@@ -25,8 +25,8 @@ use Rattle.thes_tables.specs.Tables.{hier_type, posting_row}
 use Rattle.thes_tables.specs.declared.change.Change.{Change}
 use Rattle.thes_tables.specs.declared.change.Change.TheVariants as change
 
--- The rows of table move for the postings that pass the test, in the order of the list. Each move leads from the
--- posting's place to the target, and they are numbered from `number` on.
+-- The new rows of table move for the postings that pass the test, in the order of the list and numbered from `number`
+-- on. Each row encodes a move of a posting from its place to the target.
 abbrev pub new_moves : (History → Bool) → ℕ → ℕ → List History → List MoveRow
 new_moves passes target number [] = []
 new_moves passes target number (h ∷ hs) =

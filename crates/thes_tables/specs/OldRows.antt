@@ -19,7 +19,7 @@ pub record IsOldRowsOf (base : List ℕ) (s : State) (t : Tables) : Type 0 where
   pub posting : t.posting ≡ map posting_row s.histories
   pub move : AreMoves s.histories t.move
 
--- Tests whether a link has kind 1 (broader), the only hierarchical kind of version 1.
+-- Whether the link has kind 1 (broader), the only hierarchical kind of version 1.
 abbrev pub is_broader : Link → Bool
 is_broader l = link_kind_no l.kind == 1
 

@@ -14,7 +14,7 @@ use Rattle.thes_tables.specs.declared.change.Change.{Change}
 use Rattle.thes_tables.specs.declared.change.Change.TheVariants as change
 use Rattle.thes_tables.specs.Tables.{Tables, IsIn, hier_link}
 
--- The rows of table posting after `f` is applied to that of posting `n`; unchanged if there is none.
+-- The rows of table posting after `f` is applied to the row of posting `n`; unchanged if there is no such row.
 abbrev pub with_posting : (PostingRow → PostingRow) → ℕ → List PostingRow → List PostingRow
 with_posting f n rows = elim (entry_at rows n) [ None ↦ rows | Some row ↦ set_entry_at rows n (f row) ]
 
@@ -26,7 +26,7 @@ row_after_withdrawal row = record row { withdrawn = true }
 abbrev pub row_at_place : ℕ → PostingRow → PostingRow
 row_at_place place row = record row { place = place }
 
--- The row of a posting after all postings assigned to the source are assigned to the target; that of a withdrawn
+-- The row of a posting after all postings assigned to the source are assigned to the target; the row of a withdrawn
 -- posting is unchanged.
 abbrev pub row_after_move_all : ℕ → ℕ → PostingRow → PostingRow
 row_after_move_all source target row = if not row.withdrawn && row.place == source then row_at_place target row else row
@@ -35,7 +35,7 @@ row_after_move_all source target row = if not row.withdrawn && row.place == sour
 abbrev pub without_row : {K : Type 0} → (K → K → Ordering) → K → List K → List K
 without_row cmp row rows = filter (λ x. not (eq_by_cmp cmp x row)) rows
 
--- The rows of table hier without those that encode the link that `row` encodes.
+-- The rows of table hier without those that encode the same link as `row`.
 abbrev pub without_hier : HierRow → List HierRow → List HierRow
 without_hier row rows = filter (λ x. not (eq_by_cmp link_cmp (hier_link x) (hier_link row))) rows
 

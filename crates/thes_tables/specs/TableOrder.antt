@@ -1,4 +1,4 @@
--- The eight tables in their order, which is that of a load, and the rows of each of them.
+-- The order of the eight tables, in which a load reads them, and look-ups of the rows of one table.
 use Rattle.std.specs.Prelude.{ℕ, List, [], ◌∷◌}
 use Rattle.thes_base.specs.declared.fault.Table.{Table}
 use Rattle.thes_base.specs.declared.fault.Table.TheVariants as table
@@ -43,7 +43,7 @@ raw_rows_of table.Hier raw = raw.hier
 raw_rows_of table.Posting raw = raw.posting
 raw_rows_of table.Move raw = raw.move
 
--- The rows of cells of all tables after those of one table are replaced by `rows`.
+-- The eight tables after the rows of cells of one table are replaced by `rows`.
 abbrev pub with_rows : Table → RawTable → Raw → Raw
 with_rows table.Meta rows raw = record raw { meta = rows }
 with_rows table.Resource rows raw = record raw { resource = rows }
@@ -54,7 +54,7 @@ with_rows table.Hier rows raw = record raw { hier = rows }
 with_rows table.Posting rows raw = record raw { posting = rows }
 with_rows table.Move rows raw = record raw { move = rows }
 
--- The rows of cells of all tables, where `rows_of` gives those of each.
+-- The eight tables with the rows of cells that `rows_of` gives for each.
 abbrev pub raw_by_table : (Table → RawTable) → Raw
 raw_by_table rows_of =
     record {

@@ -68,7 +68,7 @@ pub record IsUnsortedListing {K : Type 0} (Has : K → Type 0) (rows : List K) :
 abbrev pub IsLabelOf : Labels → Label → Type 0
 IsLabelOf labels l = set.contains labels l ≡ true
 
--- The kind of link for a type of hierarchical relationship.
+-- The hierarchical kind of link that has the type.
 abbrev pub hier_kind : HierType → LinkKind
 hier_kind typ.Untyped = kinds.Broader
 hier_kind typ.Generic = kinds.BroaderGeneric
@@ -125,7 +125,7 @@ recorded_move row = record { number = row.number; source = row.source; target = 
 abbrev pub moves_of : ℕ → List MoveRow → List Move
 moves_of n rows = map recorded_move (filter (λ (row : MoveRow). row.posting == n) rows)
 
--- Tests whether the row's posting is assigned to the concept.
+-- Whether the row's posting is assigned to the concept.
 abbrev pub is_assigned_row : ℕ → PostingRow → Bool
 is_assigned_row concept row = not row.withdrawn && row.place == concept
 

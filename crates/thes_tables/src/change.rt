@@ -1,5 +1,4 @@
 //! Changes of rows, which a request makes in the tables.
-ghost use Rattle.thes_tables.specs.ChangeLaw.{ChangesLead};
 
 use crate::rows::{HierRow, LabelRow, MoveRow, PostingRow};
 use thes_base::data::{Link, Resource};
@@ -42,9 +41,3 @@ pub enum Change {
     /// Inserts the row of a move of a posting; the move has the next number.
     AddMove(MoveRow),
 }
-
-/// No effect; states for the proof that the changes of a request that a legal state accepts turn
-/// that state's rows into those of the next.
-pub fn changes_lead()
-    ensures { ChangesLead }
-{}

@@ -1,4 +1,4 @@
-//! The eight tables in their order, which is that of a load.
+//! The order of the eight tables, in which a load reads them.
 ghost use Rattle.std.specs.Prelude.{◌≡◌};
 ghost use Rattle.thes_tables.specs.TableOrder as order;
 

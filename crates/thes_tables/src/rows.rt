@@ -24,7 +24,7 @@ impl Model for LabelRow {
 }
 
 /// A row of table posting: the posting as it was accepted, its place after its moves, and whether
-/// it was withdrawn. (The texts come first, so that a row takes no bytes for alignment.)
+/// it was withdrawn. (The texts come first, so that no padding is needed between the fields.)
 #[derive(Debug, Drop)]
 pub struct PostingRow {
     pub key: Key,

@@ -1,6 +1,6 @@
 use Rattle.thes_cli.proofs.scripting.answer_script.Goals as goal
 
--- The result and the end of the script are those of the office's script.
+-- The command `script` has the result and the end of the script that the office answers.
 pub returns : goal.returns
 returns g c = rw (c.into_office.ensures, ← c.new-handler.ensures) (record {
   result = c.office_script-ended.result;

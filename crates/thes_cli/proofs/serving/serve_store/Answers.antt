@@ -6,8 +6,8 @@ use Rattle.thes_command_line.specs.Printing.{PrintsPrefix}
 use Rattle.thes_cli.proofs.ServedLemmas.{done_or_not}
 use Rattle.thes_cli.proofs.serving.serve_store.Goals as goal
 
--- The connections served, and the fault of one that couldn't be accepted, are those of the office's server; the office
--- is that of the arguments, before and after the connections.
+-- If the address is printed, the connections served, and the fault of one that couldn't be accepted, are those of the
+-- office's server.
 pub returns-then-print-clause-serves : goal.returns-then-print-clause-serves
 returns-then-print-clause-serves g c =
     let prints = rw c.if-print.true at c.print.ensures in

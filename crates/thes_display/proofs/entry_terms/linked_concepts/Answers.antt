@@ -10,7 +10,7 @@ use Rattle.thes_display.proofs.ListingLemmas.{chosen_none, chosen_more, chosen_s
 use Rattle.thes_display.proofs.entry_terms.linked_concepts.Goals as goal
 use Rattle.thes_display.proofs.entry_terms.linked_concepts.Goals.{then-is_linked+in_ok-push, else-is_linked}
 
--- A concept linked by a hierarchical kind is on the side of that link.
+-- A concept that a hierarchical link joins on a side is one of the concepts on that side.
 beside_linked : (links : Links) (side : Side) (kind : LinkKind) (n m : ℕ) → IsHierarchical kind
     → IsLinkedOnSide links side kind n m → IsOnSide links side n m
 beside_linked links side kind n m is l = grind (arith)

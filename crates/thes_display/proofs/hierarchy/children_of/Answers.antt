@@ -50,7 +50,7 @@ types_at-types-requires-clause-within c =
     (omega arith) in
     (rank_within c.args.ranked.now.terms.now r.lower _ r.lower_rank, c.requires.within)
 
--- The concept has only one number.
+-- Only one concept has this rank.
 pub types_at-types-requires-clause-typed : goal.types_at-types-requires-clause-typed
 types_at-types-requires-clause-typed c = λ f m h.
     let terms = c.args.ranked.now.terms.now in

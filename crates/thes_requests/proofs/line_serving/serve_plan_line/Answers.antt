@@ -7,7 +7,7 @@ use Rattle.thes_requests.specs.Serving.{Serves, ServesPlan, is_plan_line, plan_a
 use Rattle.thes_requests.specs.declared.plan_reply.PlanReply.{PlanReply}
 use Rattle.thes_requests.proofs.line_serving.serve_plan_line.Goals as goal
 
--- A line that is read as a plan is served by the reply to the plan.
+-- Performing the plan in a line, and answering with the reply to the plan, serves the line.
 plan_served : {S : Type 0} (d : RequestBehaviour S) (line : List ℕ) (old new : S) (result : Result PlanReply Fault)
     → is_plan_line (d.takes_plans old) line ≡ true → ServesPlan d old (json_in line) result new
     → Serves d old line (plan_answer result) new

@@ -13,13 +13,13 @@ use Rattle.thes_requests.specs.declared.request.Request.{Request}
 use Rattle.thes_requests.specs.declared.request.Request.TheVariants.{Do}
 use Rattle.thes_requests.proofs.line_serving.serve_request.Goals as goal
 
--- The line of a command is served by the command's answer.
+-- Performing the command in a line, and answering with its answer or fault, serves the line.
 command_served : {S : Type 0} (d : RequestBehaviour S) (line : List ℕ) (old new : S) (command : Command)
     (given : Result Answer Fault) → IsCommandLine line command → d.performs old command given new
     → Serves d old line (command_answer given) new
 command_served d line old new command given is did = grind (arith, common_steps)
 
--- A line is read as its JSON value is.
+-- Reading a line as a request has the outcome of reading its JSON value.
 line_read : (line : List ℕ) (d : Data) (x : Result Request FormFault) → json_in line ≡ Some d
     → ReadsAs (request_in d) x → ReadsAs (request_of line) x
 line_read line d x e h = rw e h

@@ -8,7 +8,7 @@ use Rattle.thes_requests.specs.declared.tree.Value.{the_lemmas}
 use Rattle.thes_requests.proofs.UnchangedLemmas.{array_unchanged}
 use Rattle.thes_requests.proofs.references.has_reference.Goals as goal
 
--- An array without references stays.
+-- An array without references is unchanged.
 pub returns-in-Array : goal.returns-in-Array
 returns-in-Array c = λ none name.
     let same : view c.args.value.now ≡ array (items_view c.in-Array.items.items) = search (rules, the_lemmas) in

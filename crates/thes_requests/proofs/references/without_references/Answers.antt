@@ -5,7 +5,7 @@ use Rattle.thes_requests.specs.Tree.{view, members_view}
 use Rattle.thes_requests.proofs.TreeLemmas.{view-Object}
 use Rattle.thes_requests.proofs.references.without_references.Goals as goal
 
--- An object without references stays.
+-- An object without references is unchanged.
 pub returns-then-not-have_references : goal.returns-then-not-have_references
 returns-then-not-have_references c =
     let is = view-Object c.in-Object.members in
