@@ -154,16 +154,6 @@ impl VocabLoad {
     }
 }
 
-impl Vocab {
-    /// Returns the resources; number `n` is at index `n - 1`.
-    pub fn resources(&self) -> &[Resource]
-        ensures value { result.now ≡ self.now.resources }
-        ensures few { length result.now < 2 ^ 32 }
-    {
-        self.resources.as_slice()
-    }
-}
-
 // Adds the number of each live concept to the list of its scheme.
 fn list_all(concepts: &mut Lists<ResNo>, resources: &[Resource]) -> Result<(), AllocError>
     requires few { AreSound resources.now }
