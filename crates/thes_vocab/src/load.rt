@@ -102,7 +102,7 @@ impl VocabLoad {
     }
 
     /// No effect; states for the proof what holds of the rows loaded so far.
-    pub fn so_far(&self)
+    pub fn learn_rows_so_far(&self)
         ensures sound { AreSound self.now.resources }
         ensures iris { AreIrisSoFar self.now.base self.now.resources self.now.iris }
         ensures labels { AreLabelsSoFar self.now.resources self.now.labels }
