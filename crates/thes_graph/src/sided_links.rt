@@ -37,7 +37,7 @@ pub fn side_of(link: &Link, n: ResNo) -> Side
 
 // The number of links at the start of a row that are looked at one by one: most rows have no more
 // before the end of a side, and such a loop is faster there than a binary search.
-const FEW: usize = 4;
+const MOST_SCANNED: usize = 4;
 
 // Checks whether the link lies on a side whose rank is less than `number`.
 #[inline(always)]
@@ -80,7 +80,7 @@ pub fn count_before(row: &[SidedLink], number: u8) -> usize
     ensures bound { result ≤ length row.now }
     ensures place { IsPartitionIndex (λ s. ltb (side_no s.side) number) row.now result }
 {
-    for i in 0..FEW {
+    for i in 0..MOST_SCANNED {
         let Some(sided_link) = row.get(i) else {
             return i;
         };
@@ -97,7 +97,7 @@ fn scan_until(row: &[SidedLink], number: u8) -> usize
     ensures bound { result ≤ length row.now }
     ensures place { IsPartitionIndex (λ s. leb (side_no s.side) number) row.now result }
 {
-    for i in 0..FEW {
+    for i in 0..MOST_SCANNED {
         let Some(sided_link) = row.get(i) else {
             return i;
         };

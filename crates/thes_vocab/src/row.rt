@@ -17,7 +17,7 @@ use thes_base::text::{Tag, Text};
 
 // The greatest number of labels that are compared one by one, which is faster than three binary
 // searches.
-const FEW: usize = 16;
+const MOST_LABELS_COMPARED: usize = 16;
 
 // The labels of one owner, each once, sorted by kind, language and text.
 #[derive(Drop)]
@@ -84,7 +84,7 @@ impl OwnerRow {
     pub(crate) fn has_lexical_label(&self, tag: &Tag, text: &str) -> bool
         ensures { result ≡ has_own_name self.now tag.now text.now }
     {
-        if self.labels.len() <= FEW {
+        if self.labels.len() <= MOST_LABELS_COMPARED {
             return has_name(self.labels.as_slice(), tag, text);
         }
         self.contains(LabelKind::Pref, tag, text)
