@@ -31,7 +31,7 @@ pub fn side_of(link: &Link, n: ResNo) -> Side
     match link.kind {
         LinkKind::Related | LinkKind::RelMatch => Side::Sideways,
         LinkKind::Exact => Side::Alike,
-        _ => Side::Apart,
+        _ => Side::Other,
     }
 }
 
