@@ -2,7 +2,7 @@
 //! two broader ones, chosen at random, in the level above.
 ghost use Rattle.std.specs.Prelude.{◌≡◌};
 ghost use Rattle.thes_base.specs.Links.{Holds};
-ghost use Rattle.thes_links.specs.Local.{BreakNone};
+ghost use Rattle.thes_links.specs.Rules.{BreakNone};
 
 use std::alloc::{AllocError, Global};
 use test_devices::numbers::Numbers;

@@ -12,7 +12,7 @@ use Rattle.thes_base.specs.Links.{Path, Chain, IsNarrower}
 use Rattle.thes_base.proofs.ListMemberLemmas.{Contains-none, Contains-head, Contains-later, Contains-cons_cases}
 use Rattle.thes_graph.specs.declared.find_cycle.PathNode.{PathNode}
 use Rattle.thes_links.specs.Steps.{GrowsBy}
-use Rattle.thes_links.specs.Local.{NoCycleAt}
+use Rattle.thes_links.specs.Rules.{NoCycleAt}
 use Rattle.thes_graph.specs.CycleSearch.{HasCycle, IsUpwardOrder, IsUpwardPath, IsCycleSearch, stack_measure}
 use Rattle.thes_graph.specs.CycleSearch.{search_measure}
 use Rattle.thes_links.proofs.ReachLemmas.{no_others}

@@ -24,7 +24,7 @@ use Rattle.thes_base.specs.contracts.data.LinkOrd.TheImpl as link
 use Rattle.thes_base.specs.Links.{link_cmp, link_kind_no}
 use Rattle.thes_base.proofs.LinkSetLemmas.{links_total, links_exact}
 use Rattle.thes_links.specs.declared.side.Side.{Side}
-use Rattle.thes_links.specs.declared.side.Side.TheVariants.{Up, Sideways, Alike, Down, Apart}
+use Rattle.thes_links.specs.declared.side.Side.TheVariants.{Up, Sideways, Alike, Down, Other}
 use Rattle.thes_graph.specs.declared.sided_links.SidedLink.{SidedLink}
 use Rattle.thes_links.specs.contracts.side.SideOrd.TheImpl as side
 use Rattle.thes_graph.specs.contracts.sided_links.SidedLinkOrd.TheImpl as sided_link
@@ -65,7 +65,7 @@ same_side Up Up e = refl
 same_side Sideways Sideways e = refl
 same_side Alike Alike e = refl
 same_side Down Down e = refl
-same_side Apart Apart e = refl
+same_side Other Other e = refl
 same_side _ _ e = cc
 
 pub sided_links_exact : IsAntisymmetric sided_link_cmp

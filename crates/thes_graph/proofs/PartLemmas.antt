@@ -18,7 +18,7 @@ use Rattle.std.proofs.Math.Nat.{eq-or-lt_of_le}
 use Rattle.thes_base.specs.declared.data.Link.{Link}
 use Rattle.thes_base.specs.Links.{Links}
 use Rattle.thes_links.specs.declared.side.Side.{Side}
-use Rattle.thes_links.specs.declared.side.Side.TheVariants.{Up, Sideways, Alike, Down, Apart}
+use Rattle.thes_links.specs.declared.side.Side.TheVariants.{Up, Sideways, Alike, Down, Other}
 use Rattle.thes_graph.specs.declared.sided_links.SidedLink.{SidedLink}
 use Rattle.thes_links.specs.declared.side.Part.{Part}
 use Rattle.thes_links.specs.Side.{side_no, side_at, IsPart}
@@ -69,7 +69,7 @@ same_side Up Up e = refl
 same_side Sideways Sideways e = refl
 same_side Alike Alike e = refl
 same_side Down Down e = refl
-same_side Apart Apart e = refl
+same_side Other Other e = refl
 same_side _ _ e = absurd (omega arith)
 
 -- Assumes the indexes that two searches find in the row.

@@ -18,7 +18,7 @@ use Rattle.thes_base.specs.Links.{S27}
 use Rattle.thes_links.specs.declared.relation.Relation.TheVariants as relation
 use Rattle.thes_graph.specs.declared.find_cycle.PathNode.{PathNode}
 use Rattle.thes_links.specs.Reading.{HaveTwoEnds}
-use Rattle.thes_links.specs.Local.{ReachesUp}
+use Rattle.thes_links.specs.Rules.{ReachesUp}
 use Rattle.thes_graph.specs.CycleSearch.{IsUpwardOrder}
 use Rattle.thes_links.specs.Words.{HasBit}
 use Rattle.thes_graph.specs.UpperSets.{IsRowNode, AreUpwardRows, AreUpperSets}

@@ -14,7 +14,7 @@ use Rattle.thes_base.specs.Links.{Links, Holds, Chain, IsNarrower}
 use Rattle.thes_base.proofs.ListMemberLemmas.{Contains-none}
 use Rattle.thes_graph.specs.declared.find_cycle.PathNode.{PathNode}
 use Rattle.thes_links.specs.Steps.{Reaches}
-use Rattle.thes_links.specs.Local.{ReachesUp}
+use Rattle.thes_links.specs.Rules.{ReachesUp}
 use Rattle.thes_links.specs.Words.{word_at, HasBit, HasBitsSet}
 use Rattle.thes_graph.specs.UpperSets.{AreUpwardRows, AreUpperSets}
 use Rattle.thes_links.proofs.PivotLemmas.{Chain-one, Chain-then_reach}

@@ -10,7 +10,7 @@ use Rattle.thes_base.specs.Links.{broader_direction, exact_direction, LinkLeads,
 use Rattle.thes_base.specs.Links.{IsNarrower, IsBelow, IsDisjointMatch, NoCycle, S46}
 use Rattle.thes_links.specs.declared.relation.Relation.TheVariants as relation
 use Rattle.thes_links.specs.Steps.{Reaches, GrowsBy, HasDirection}
-use Rattle.thes_links.specs.Local.{ReachesUp, InClassOf, NoCycleAt, KeepsS46At}
+use Rattle.thes_links.specs.Rules.{ReachesUp, InClassOf, NoCycleAt, KeepsS46At}
 use Rattle.thes_links.proofs.PivotLemmas.{Reaches-then_chain, Chain-then_reach, exact_turns}
 use Rattle.thes_links.proofs.StepLemmas.{GrowsBy-then}
 

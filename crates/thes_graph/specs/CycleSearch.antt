@@ -4,7 +4,7 @@ use Rattle.std.specs.Prelude.{Bool, false, MatchBool}
 use Rattle.thes_base.specs.declared.data.Link.{Link}
 use Rattle.thes_base.specs.Links.{Chain, IsNarrower, IsBelow}
 use Rattle.thes_graph.specs.declared.find_cycle.PathNode.{PathNode}
-use Rattle.thes_links.specs.Local.{NoCycleAt}
+use Rattle.thes_links.specs.Rules.{NoCycleAt}
 
 -- Some concept is above itself, which breaks Cycle.
 abbrev pub HasCycle : (Link → Type 0) → Type 0

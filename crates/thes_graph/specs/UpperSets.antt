@@ -2,7 +2,7 @@
 use Rattle.std.specs.Prelude.{◌≡◌, ◌<◌, ◌≤◌, ◌↔◌, ℕ, List, Contains, Some, get_or, slice_get, take, length}
 use Rattle.thes_base.specs.Links.{Links, Holds, IsNarrower}
 use Rattle.thes_graph.specs.declared.find_cycle.PathNode.{PathNode}
-use Rattle.thes_links.specs.Local.{ReachesUp}
+use Rattle.thes_links.specs.Rules.{ReachesUp}
 use Rattle.thes_links.specs.Words.{HasBit}
 
 -- One of the rows is that of the node.

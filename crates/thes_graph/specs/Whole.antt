@@ -2,7 +2,7 @@
 use Rattle.std.specs.Prelude.{ℕ, List, Bool, Contains, MatchBool}
 use Rattle.thes_base.specs.declared.data.Link.{Link}
 use Rattle.thes_base.specs.Links.{IsBelow, IsRelated}
-use Rattle.thes_links.specs.Local.{ReachesUp, KeepsS46At, BreaksS46}
+use Rattle.thes_links.specs.Rules.{ReachesUp, KeepsS46At, BreaksS46}
 use Rattle.thes_graph.specs.CycleSearch.{IsUpwardOrder}
 
 -- The list has both ends of each link held.

@@ -26,7 +26,7 @@ use std::marker::Model;
 use thes_base::data::{Link, LinkKind, TypedKind};
 use thes_base::fault::Refusal;
 use thes_base::number::ResNo;
-use thes_links::edit::merge;
+use thes_links::edit::link_after_merge;
 use thes_links::links::Links;
 use thes_links::normal_form::normalize_ends;
 use thes_links::relation::lead;
@@ -353,7 +353,7 @@ impl Graph {
     fn merge_addition(&self, link: &Link, source: ResNo, target: ResNo) -> Option<Link>
         ensures { result ≡ added_link self.now source target link.now }
     {
-        let new = self.normal(&merge(link, source, target)?);
+        let new = self.normal(&link_after_merge(link, source, target)?);
         if self.holds(&new) { None } else { Some(new) }
     }
 

@@ -12,7 +12,7 @@ use thes_base::number::ResNo;
 
 // Returns the rank by which views sort mappings: that of the kind's name among the names of all
 // kinds, sorted by their bytes.
-fn place_of(kind: LinkKind) -> u8
+fn rank_of_kind_name(kind: LinkKind) -> u8
     ensures { result ≡ kind_name_rank kind }
 {
     match kind {
@@ -35,7 +35,7 @@ fn place_of(kind: LinkKind) -> u8
 fn key_of(mapping: &(LinkKind, ResNo)) -> (u8, ResNo)
     ensures { result ≡ (kind_name_rank mapping.now.0, mapping.now.1) }
 {
-    (place_of(mapping.0), mapping.1)
+    (rank_of_kind_name(mapping.0), mapping.1)
 }
 
 /// Returns the mapping as seen from its end `n`: its kind there and the other end; None if the link

@@ -31,13 +31,13 @@ pub fn side_of(link: &Link, n: ResNo) -> Side
     match link.kind {
         LinkKind::Related | LinkKind::RelMatch => Side::Sideways,
         LinkKind::Exact => Side::Alike,
-        _ => Side::Apart,
+        _ => Side::Other,
     }
 }
 
 // The number of links at the start of a row that are looked at one by one, before a binary search:
 // in most rows the end of the side is among these, and a loop finds it faster.
-const FEW: usize = 4;
+const MOST_SCANNED: usize = 4;
 
 // Checks whether the link lies on a side whose rank is less than `number`.
 #[inline(always)]
@@ -80,7 +80,7 @@ pub fn count_before(row: &[SidedLink], number: u8) -> usize
     ensures bound { result ≤ length row.now }
     ensures place { IsPartitionIndex (λ s. ltb (side_no s.side) number) row.now result }
 {
-    for i in 0..FEW {
+    for i in 0..MOST_SCANNED {
         let Some(sided_link) = row.get(i) else {
             return i;
         };
@@ -91,14 +91,14 @@ pub fn count_before(row: &[SidedLink], number: u8) -> usize
     search_before(row, number)
 }
 
-// Returns what `count_until` does: looks at the first `FEW` links one by one, and then calls
+// Returns what `count_until` does: looks at the first `MOST_SCANNED` links one by one, and then calls
 // `search_until`.
 #[inline(always)]
 fn scan_until(row: &[SidedLink], number: u8) -> usize
     ensures bound { result ≤ length row.now }
     ensures place { IsPartitionIndex (λ s. leb (side_no s.side) number) row.now result }
 {
-    for i in 0..FEW {
+    for i in 0..MOST_SCANNED {
         let Some(sided_link) = row.get(i) else {
             return i;
         };

@@ -5,7 +5,7 @@ ghost use Rattle.thes_base.specs.declared.data.Link.{Link};
 ghost use Rattle.thes_base.specs.Links.{Holds, NoCycle, S46, IsFirstBroken};
 ghost use Rattle.thes_links.specs.Reading.{HaveTwoEnds, AreAll};
 ghost use Rattle.thes_links.specs.Steps.{GrowsBy};
-ghost use Rattle.thes_links.specs.Local.{BreaksS46};
+ghost use Rattle.thes_links.specs.Rules.{BreaksS46};
 ghost use Rattle.thes_graph.specs.Whole.{IsWholeOrder, KeepS46, IsClassVerdict};
 ghost use Rattle.thes_graph.specs.CycleSearch.{HasCycle, IsUpwardOrder};
 

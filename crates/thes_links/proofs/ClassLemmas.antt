@@ -4,7 +4,7 @@ use Rattle.thes_base.specs.declared.data.Link.{Link}
 use Rattle.thes_base.specs.Links.{disjoint_direction}
 use Rattle.thes_base.specs.Links.{IsDisjointMatch}
 use Rattle.thes_links.specs.Steps.{Ties}
-use Rattle.thes_links.specs.Local.{InClassOf, KeepsS46At, IsReachableSet}
+use Rattle.thes_links.specs.Rules.{InClassOf, KeepsS46At, IsReachableSet}
 use Rattle.thes_links.specs.declared.relation.Relation.TheVariants.{Exact, Apart}
 use Rattle.thes_links.proofs.StepLemmas.{Leads-first}
 

@@ -13,7 +13,7 @@ use Rattle.thes_base.specs.Links.{Holds, HasEnd}
 use Rattle.thes_base.specs.declared.fault.Refusal.TheVariants as no
 use Rattle.thes_base.specs.declared.data.LinkKind.TheVariants.{Related, Exact, Close, RelMatch}
 use Rattle.thes_links.proofs.PivotLemmas.{Chain-map, BreakNone-within}
-use Rattle.thes_links.specs.Local.{BreakNone, HeldAwayFrom}
+use Rattle.thes_links.specs.Rules.{BreakNone, HeldAwayFrom}
 use Rattle.thes_base.proofs.LinkSetLemmas.{link_inserted_cases}
 use Rattle.thes_base.proofs.LegalLinkLemmas.{two_lts}
 use Rattle.std.specs.FinSet.{insert}

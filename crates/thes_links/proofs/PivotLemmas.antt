@@ -12,8 +12,8 @@ use Rattle.thes_base.specs.Links.{LinkLeads, Path, Chain, IsJoined, IsNarrower, 
 use Rattle.thes_base.specs.Links.{IsDisjointMatch, NoCycle, S27, S46, IsFirstBroken}
 use Rattle.thes_links.specs.Reading.{HaveTwoEnds}
 use Rattle.thes_links.specs.Steps.{Reaches}
-use Rattle.thes_links.specs.Local.{BreakNone, HeldAwayFrom, ReachesUp, InClassOf, NoCycleAt, KeepsS27At, KeepsS46At}
-use Rattle.thes_links.specs.Local.{IsFirstBrokenAt}
+use Rattle.thes_links.specs.Rules.{BreakNone, HeldAwayFrom, ReachesUp, InClassOf, NoCycleAt, KeepsS27At, KeepsS46At}
+use Rattle.thes_links.specs.Rules.{IsFirstBrokenAt}
 use Rattle.thes_base.specs.declared.fault.Refusal.TheVariants as no
 use Rattle.thes_base.specs.declared.data.LinkKind.TheVariants.{Exact}
 use Rattle.thes_base.proofs.LegalResourceLemmas.{path_map}

@@ -13,7 +13,7 @@ use Rattle.thes_links.specs.declared.relation.Relation.{Relation}
 use Rattle.thes_links.specs.declared.edit.LinkEdit.{LinkEdit}
 use Rattle.thes_links.specs.Steps.{direction_of, Steps, IsSearchedUpTo, GrowsBy}
 use Rattle.thes_links.specs.LinkEdit.{HeldAfter, ends_at_node, IsReadOf, CoversAt, row_after_edit}
-use Rattle.thes_links.specs.Local.{IsReachableSet}
+use Rattle.thes_links.specs.Rules.{IsReachableSet}
 use Rattle.thes_links.proofs.StepLemmas.{Leads-first}
 use Rattle.thes_links.proofs.ReachLemmas.{IsSearchedUpTo-start, IsSearchedUpTo-more, IsSearchedUpTo-end}
 use Rattle.thes_links.proofs.EditLemmas.{row_after_edit-sound, row_after_edit-complete}

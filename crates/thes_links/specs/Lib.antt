@@ -2,7 +2,7 @@ pub mod Side
 pub mod Reading
 pub mod Steps
 pub mod LinkEdit
-pub mod Local
+pub mod Rules
 pub mod NodeSet
 pub mod GraphView
 pub mod Words

@@ -7,7 +7,7 @@ use Rattle.thes_base.specs.Links.{broader_direction, related_direction, exact_di
 use Rattle.thes_links.specs.declared.relation.Relation.{Relation}
 use Rattle.thes_links.specs.declared.relation.Relation.TheVariants as relation
 use Rattle.thes_links.specs.declared.side.Side.{Side}
-use Rattle.thes_links.specs.declared.side.Side.TheVariants.{Up, Sideways, Alike, Down, Apart}
+use Rattle.thes_links.specs.declared.side.Side.TheVariants.{Up, Sideways, Alike, Down, Other}
 use Rattle.thes_links.specs.declared.side.Part.{Part}
 
 -- The rank of the side in the order of a node's links, from 1 to 5.
@@ -16,7 +16,7 @@ side_no Up = 1
 side_no Sideways = 2
 side_no Alike = 3
 side_no Down = 4
-side_no Apart = 5
+side_no Other = 5
 
 -- The side `one` if the direction is Either, or else the side `other`.
 abbrev pub if_either : Direction → Side → Side → Side
@@ -28,7 +28,7 @@ if_either _ one other = other
 abbrev pub side_by_directions : Direction → (first : Bool) → (related exact : Direction) → Side
 side_by_directions Forward first related exact = if first then Up else Down
 side_by_directions Backward first related exact = if first then Down else Up
-side_by_directions _ first related exact = if_either related Sideways (if_either exact Alike Apart)
+side_by_directions _ first related exact = if_either related Sideways (if_either exact Alike Other)
 
 -- The side of n on which the link lies, where n is one of its ends.
 abbrev pub side_at : ℕ → Link → Side
@@ -52,4 +52,4 @@ side_in relation.Broader = Up
 side_in relation.Narrower = Down
 side_in relation.Related = Sideways
 side_in relation.Exact = Alike
-side_in relation.Apart = Apart
+side_in relation.Apart = Other

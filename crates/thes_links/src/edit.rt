@@ -22,7 +22,7 @@ pub enum LinkEdit {
 /// Returns the link with the target in place of the source, or None if both its ends are then the
 /// target.
 #[inline(always)]
-pub fn merge(link: &Link, source: ResNo, target: ResNo) -> Option<Link>
+pub fn link_after_merge(link: &Link, source: ResNo, target: ResNo) -> Option<Link>
     ensures { result ≡ link_after_merge source target link.now }
 {
     let a = if link.a == source { target } else { link.a };
@@ -48,7 +48,7 @@ fn merge_all(
 {
     let mut merged = Vec::new(alloc);
     for link in row {
-        match merge(link, source, target) {
+        match link_after_merge(link, source, target) {
             Some(m) => merged.push(m)?,
             None => {}
         }

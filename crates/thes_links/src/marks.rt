@@ -7,7 +7,7 @@ use std::alloc::AllocError;
 use thes_base::number::ResNo;
 
 /// The length up to which a list of nodes is searched linearly, without marks.
-pub const FEW: usize = 16;
+pub const MOST_UNMARKED: usize = 16;
 
 /// Checks whether the node is marked; nodes past the end of the marks aren't.
 #[inline(always)]
@@ -60,18 +60,18 @@ fn mark_all(marks: &mut Vec<u64>, nodes: &[ResNo]) -> Result<(), AllocError>
     Ok(())
 }
 
-/// Updates the marks for a list to which the node `n` is to be appended; a list of at most `FEW`
-/// nodes needs none.
+/// Updates the marks for a list to which the node `n` is to be appended; a list of at most
+/// `MOST_UNMARKED` nodes needs none.
 #[inline(always)]
 pub fn mark_more(marks: &mut Vec<u64>, list: &[ResNo], n: ResNo) -> Result<(), AllocError>
     requires { IsNodeSet list.now marks.old.items }
     ensures ok { OnOk result (IsNodeSet (list.now ++ n ∷ []) marks.new.items) }
     ensures err { OnErr result (IsNodeSet list.now marks.new.items) }
 {
-    if list.len() < FEW {
+    if list.len() < MOST_UNMARKED {
         return Ok(());
     }
-    if list.len() == FEW {
+    if list.len() == MOST_UNMARKED {
         mark_all(marks, list)?;
     }
     mark(marks, n)

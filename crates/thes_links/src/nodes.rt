@@ -2,7 +2,7 @@
 ghost use Rattle.std.specs.Prelude.{◌≡◌, ◌<◌, ◌^◌, ◌∷◌, [], Contains, IfOk, OnOk, MatchBool, length, slice_get};
 ghost use Rattle.thes_links.specs.Steps.{GrowsBy};
 
-use crate::marks::{FEW, has_mark, has_shared_bit, mark_more, with_shared_bit};
+use crate::marks::{MOST_UNMARKED, has_mark, has_shared_bit, mark_more, with_shared_bit};
 use std::alloc::{AllocError, Global};
 use std::marker::Model;
 use thes_base::number::ResNo;
@@ -94,7 +94,7 @@ impl Nodes {
     pub fn has(&self, n: ResNo) -> bool
         ensures { MatchBool result (Contains self.now n) (Contains self.now n → ⊥) }
     {
-        if self.list.len() <= FEW {
+        if self.list.len() <= MOST_UNMARKED {
             return self.is_listed(n);
         }
         has_mark(&self.marks, n)

@@ -16,7 +16,7 @@ pub enum Side {
     /// The link leads down to a narrower concept.
     Down,
     /// The link leads to none of these; it is, for example, a close match or a membership.
-    Apart,
+    Other,
 }
 
 impl Side {
@@ -40,7 +40,7 @@ pub fn side_for(relation: Relation) -> Side
         Relation::Narrower => Side::Down,
         Relation::Related => Side::Sideways,
         Relation::Exact => Side::Alike,
-        Relation::Apart => Side::Apart,
+        Relation::Apart => Side::Other,
     }
 }
 

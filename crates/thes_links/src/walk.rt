@@ -7,7 +7,7 @@ ghost use Rattle.thes_links.specs.declared.edit.LinkEdit.TheVariants.{AfterMerge
 ghost use Rattle.thes_links.specs.Reading.{HaveTwoEnds, IsRow};
 ghost use Rattle.thes_links.specs.Steps.{Steps, GrowsBy, Ties, step_along};
 ghost use Rattle.thes_links.specs.LinkEdit.{HeldAfter, ends_at_node, IsReadOf, CoversAt, IsValidEdit};
-ghost use Rattle.thes_links.specs.Local.{IsReachableSet};
+ghost use Rattle.thes_links.specs.Rules.{IsReachableSet};
 
 use crate::edit::{LinkEdit, links_after_edit};
 use crate::links::Links;

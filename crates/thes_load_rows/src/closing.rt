@@ -69,7 +69,7 @@ pub fn close_label(alloc: Global, vocab: VocabLoad) -> Result<Stage, AllocError>
     ensures { IfOk result (Closes (stage.Label vocab)) }
 {
     // No effect; states the rules that the labels so far meet, for the proof.
-    vocab.so_far();
+    vocab.learn_rows_so_far();
     if vocab.has_all_iris() {
         match vocab.close() {
             Some(vocab) => {

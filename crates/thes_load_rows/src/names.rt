@@ -83,7 +83,7 @@ impl OutsideLoad {
             → IsTrue result ↔ OutsideRule base resources rows }
     {
         // No effect; states the rules that the IRIs so far meet, for the proof.
-        self.vocab.so_far();
+        self.vocab.learn_rows_so_far();
         self.vocab.has_all_iris()
     }
 }

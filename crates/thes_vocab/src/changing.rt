@@ -1,22 +1,20 @@
 //! Changes of resources and labels. A call that runs out of memory leaves the vocabulary unchanged.
-ghost use Rattle.std.specs.Prelude.{◌≡◌, ◌≢◌, ◌<◌, ◌+◌, ◌^◌, ℕ, length, IfOk, OnOk, OnErr, None, Some};
+ghost use Rattle.std.specs.Prelude.{◌≡◌, ◌≢◌, ◌<◌, ◌+◌, ◌^◌, ℕ, length, OnOk, OnErr, None, Some};
 ghost use Rattle.std.specs.FinMap as dict;
 ghost use Rattle.std.specs.FinSet as set;
 ghost use Rattle.thes_base.specs.RefusalRules.{accepted};
 ghost use Rattle.thes_base.specs.Machine.{owned_label};
 ghost use Rattle.thes_base.specs.Resources.{IsLiveConcept, BeginsWith};
-ghost use Rattle.thes_base.specs.Changes.{state_after_creation, state_after_outside, labels_after_relabel, copied_labels};
+ghost use Rattle.thes_base.specs.Changes.{state_after_creation, state_after_outside, labels_after_relabel};
 ghost use Rattle.thes_base.specs.RuleParts.{unless_new_label, unless_droppable, unless_replaceable_preferred};
 ghost use Rattle.thes_vocab.specs.Vocabulary.{bare_state, vocabulary_of, with_labels, vocabulary_after_death, IsLiveOwner, IsReplacement};
-ghost use Rattle.thes_vocab.specs.CopiedLabels.{lacks_name, AreMissingLabels};
 ghost use Rattle.thes_vocab.specs.NewResources.{unless_new, vocabulary_after_add, AddsResource, IsNewOwner, IsFreeName};
 
 use crate::concepts;
 use crate::names::{LabelledConcept, Name};
-use crate::row::merged_label;
 use crate::vocab::{Vocab, concept_scheme, scheme_if_concept};
 use std::alloc::AllocError;
-use thes_base::data::{Label, LabelKind, LabelValue, NewResource, Resource, ResourceKind};
+use thes_base::data::{Label, LabelValue, NewResource, Resource, ResourceKind};
 use thes_base::number::ResNo;
 use thes_base::text::{Iri, Tag, Text};
 
@@ -115,50 +113,6 @@ impl Vocab {
         Ok(())
     }
 
-    /// Returns the number of labels that a merge would copy from the source to the target.
-    pub fn taken_count(&self, source: ResNo, target: ResNo) -> u64
-        ensures { let taken = copied_labels source target self.now.labels in
-            set.len self.now.labels + result ≡ set.len (set.union self.now.labels taken) }
-    {
-        let mut count = 0u64;
-        for label in self.labels.of_owner(source) {
-            if self.lacks_name(target, label) {
-                count += 1;
-            }
-        }
-        count
-    }
-
-    /// Returns the labels that a merge adds to the target: copies of the lexical labels of the
-    /// source that the target lacks, preferred ones as alternative ones.
-    pub fn missing_labels(&self, source: ResNo, target: ResNo) -> Result<Vec<Label>, AllocError>
-        ensures { IfOk result (λ copies.
-            AreMissingLabels self.now.labels source target copies.items) }
-    {
-        let mut copies = Vec::new(self.alloc);
-        for label in self.labels_of(source) {
-            if self.lacks_name(target, label) {
-                copies.push(merged_label(self.alloc, label)?)?;
-            }
-        }
-        Ok(copies)
-    }
-
-    /// Copies the lexical labels of the source that the target lacks, preferred ones as alternative
-    /// ones, and returns their number.
-    pub fn take_labels(&mut self, source: ResNo, target: ResNo) -> Result<u64, AllocError>
-        requires { IsLiveConcept self.old.resources target }
-        ensures gained { IfOk result (λ k. set.len self.old.labels + k ≡ set.len self.new.labels) }
-        ensures ok { let taken = copied_labels source target self.old.labels in
-            OnOk result (self.new ≡ with_labels self.old (set.union self.old.labels taken)) }
-        ensures err { OnErr result (self.new ≡ self.old) }
-    {
-        let copies = self.missing_labels(source, target)?;
-        let gained = copies.len() as u64;
-        self.labels.insert_all(target, copies, gained)?;
-        Ok(gained)
-    }
-
     /// Marks a live concept as dead, with its replacement if it was merged; never fails.
     pub fn mark_dead(&mut self, n: ResNo, replaced: Option<ResNo>)
         requires concept { IsLiveConcept self.old.resources n }
@@ -174,17 +128,6 @@ impl Vocab {
             live: false,
             replaced,
         };
-    }
-
-    /// Checks whether the label is lexical (preferred, alternative or hidden) and the target has no
-    /// lexical label with its text and language.
-    pub fn lacks_name(&self, target: ResNo, label: &Label) -> bool
-        ensures { result ≡ lacks_name self.now.labels target label.now }
-    {
-        label.kind() != LabelKind::Scope
-            && !self
-                .labels
-                .has_lexical_label(target, &label.tag, label.text())
     }
 
     // Removes from the index of preferred labels the entry of a label that the owner has lost.

@@ -9,6 +9,7 @@ mod forwarding;
 mod iris;
 mod labels;
 mod load;
+mod merging;
 mod names;
 mod row;
 mod taking_back;

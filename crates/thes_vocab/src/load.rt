@@ -102,7 +102,7 @@ impl VocabLoad {
     }
 
     /// No effect; states for the proof what holds of the rows loaded so far.
-    pub fn so_far(&self)
+    pub fn learn_rows_so_far(&self)
         ensures sound { AreSound self.now.resources }
         ensures iris { AreIrisSoFar self.now.base self.now.resources self.now.iris }
         ensures labels { AreLabelsSoFar self.now.resources self.now.labels }
@@ -151,16 +151,6 @@ impl VocabLoad {
         } else {
             None
         }
-    }
-}
-
-impl Vocab {
-    /// Returns the resources; number `n` is at index `n - 1`.
-    pub fn resources(&self) -> &[Resource]
-        ensures value { result.now ≡ self.now.resources }
-        ensures few { length result.now < 2 ^ 32 }
-    {
-        self.resources.as_slice()
     }
 }
 

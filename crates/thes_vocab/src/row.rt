@@ -6,7 +6,7 @@ ghost use Rattle.std.specs.List.Sorted.{IsStrictlySortedBy};
 ghost use Rattle.std.specs.Ordering.{eq_by_cmp};
 ghost use Rattle.thes_base.specs.Data.{LabelData};
 ghost use Rattle.thes_vocab.specs.LabelPositions.{IsLabelPosition, IsPreferredAt};
-ghost use Rattle.thes_vocab.specs.CopiedLabels.{has_own_name, is_name, merged_label};
+ghost use Rattle.thes_vocab.specs.CopiedLabels.{has_own_name, is_name};
 ghost use Rattle.thes_vocab.specs.OwnLabels.{data_cmp, language_cmp, own_label, has_own, GainsLabels, HasOwnPreferred, HasNoOwnPreferred, HasTwoOwnPreferred};
 
 use std::alloc::{AllocError, Global};
@@ -17,7 +17,7 @@ use thes_base::text::{Tag, Text};
 
 // The greatest number of labels that are compared one by one, which is faster than three binary
 // searches.
-const FEW: usize = 16;
+const MOST_LABELS_COMPARED: usize = 16;
 
 // The labels of one owner, each once, sorted by kind, language and text.
 #[derive(Drop)]
@@ -84,7 +84,7 @@ impl OwnerRow {
     pub(crate) fn has_lexical_label(&self, tag: &Tag, text: &str) -> bool
         ensures { result ≡ has_own_name self.now tag.now text.now }
     {
-        if self.labels.len() <= FEW {
+        if self.labels.len() <= MOST_LABELS_COMPARED {
             return has_name(self.labels.as_slice(), tag, text);
         }
         self.contains(LabelKind::Pref, tag, text)
@@ -208,19 +208,6 @@ fn insert_in(list: &mut Vec<Label>, label: Label)
             let _ = list.insert(place, label);
         }
     }
-}
-
-// Copies a label for the target of a merge, a preferred label as an alternative one.
-pub(crate) fn merged_label(alloc: Global, label: &Label) -> Result<Label, AllocError>
-    ensures { IfOk result (λ l. l ≡ merged_label label.now) }
-{
-    let tag = label.tag.try_clone(alloc)?;
-    let value = match &label.value {
-        LabelValue::Pref(text) | LabelValue::Alt(text) => LabelValue::Alt(text.try_clone(alloc)?),
-        LabelValue::Hidden(text) => LabelValue::Hidden(text.try_clone(alloc)?),
-        LabelValue::Scope(note) => LabelValue::Scope(note.try_clone(alloc)?),
-    };
-    Ok(Label { tag, value })
 }
 
 // Returns `Ok` with the index of the label, or `Err` with the index at which to insert it.

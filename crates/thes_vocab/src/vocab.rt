@@ -78,6 +78,14 @@ impl Vocab {
         &self.base
     }
 
+    /// Returns the resources; number `n` is at index `n - 1`.
+    pub fn resources(&self) -> &[Resource]
+        ensures value { result.now ≡ self.now.resources }
+        ensures few { length result.now < 2 ^ 32 }
+    {
+        self.resources.as_slice()
+    }
+
     /// Returns the resource with this number, live or dead.
     pub fn resource(&self, n: ResNo) -> Option<&Resource>
         ensures { option_copied result ≡ entry_at self.now.resources n }

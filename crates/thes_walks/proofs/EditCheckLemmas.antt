@@ -9,8 +9,8 @@ use Rattle.thes_base.proofs.ListMemberLemmas.{Contains-cons_cases}
 use Rattle.thes_links.specs.declared.edit.LinkEdit.TheVariants.{NoEdit, WithLink, AfterMerge}
 use Rattle.thes_links.specs.Reading.{HaveTwoEnds}
 use Rattle.thes_links.specs.LinkEdit.{node_after, HeldAfter, TouchesAt}
-use Rattle.thes_links.specs.Local.{BreakNone, HeldAwayFrom, BreaksS46At, BreaksS46, KeepsS46At, IsFirstBrokenAt}
-use Rattle.thes_links.specs.Local.{CoversNear}
+use Rattle.thes_links.specs.Rules.{BreakNone, HeldAwayFrom, BreaksS46At, BreaksS46, KeepsS46At, IsFirstBrokenAt}
+use Rattle.thes_links.specs.Rules.{CoversNear}
 use Rattle.thes_walks.specs.EditChecks.{CoversEdit}
 use Rattle.thes_links.proofs.PivotLemmas.{BreakNone-within, s46_pivot, S46-witness, IsFirstBroken-from_pivot}
 use Rattle.thes_links.proofs.WeightLemmas.{cut}

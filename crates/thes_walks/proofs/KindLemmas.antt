@@ -10,7 +10,7 @@ use Rattle.thes_base.specs.Links.{IsFirstBroken}
 use Rattle.thes_base.specs.declared.data.LinkKind.TheVariants as kinds
 use Rattle.thes_links.specs.declared.relation.Relation.TheVariants.{Broader, Narrower, Related}
 use Rattle.thes_links.specs.Steps.{Steps, Reaches}
-use Rattle.thes_links.specs.Local.{BreakNone, ReachesUp, IsNearPivot, IsFirstOfCycleAndS27}
+use Rattle.thes_links.specs.Rules.{BreakNone, ReachesUp, IsNearPivot, IsFirstOfCycleAndS27}
 use Rattle.thes_walks.specs.PairedSearch.{HasEndAbove, HasNoEndAbove}
 use Rattle.thes_walks.specs.SideSearch.{IsBrokenBetween}
 use Rattle.thes_base.specs.declared.fault.Refusal.{Refusal}

@@ -9,7 +9,7 @@ use Rattle.thes_base.specs.Neighbourhood.{Add, Merge, Recheck}
 use Rattle.thes_base.specs.Neighbourhood as edit
 use Rattle.thes_links.specs.declared.edit.LinkEdit.TheVariants.{NoEdit, WithLink, AfterMerge}
 use Rattle.thes_links.specs.LinkEdit.{HeldAfter}
-use Rattle.thes_links.specs.Local.{IsNearPivot}
+use Rattle.thes_links.specs.Rules.{IsNearPivot}
 use Rattle.thes_walks.specs.EditChecks.{IsChanged, CoversEdit}
 use Rattle.thes_links.proofs.NormLemmas.{IsEntailedBy, IsEntailedBy-itself, above_to, exact_to}
 use Rattle.thes_links.proofs.ContractLemmas.{inserted_to, would_to}

@@ -5,7 +5,7 @@ use Rattle.std.proofs.Common.{arith, Bool, true, false, refl}
 use Rattle.std.specs.Bool.{MatchBool}
 use Rattle.thes_base.specs.declared.data.Link.{Link}
 use Rattle.thes_base.specs.Links.{Links, Holds, Chain, IsNarrower}
-use Rattle.thes_links.specs.Local.{ReachesUp}
+use Rattle.thes_links.specs.Rules.{ReachesUp}
 use Rattle.thes_walks.specs.PairedSearch.{HasEndAbove, HasNoEndAbove}
 use Rattle.thes_base.proofs.ListMemberLemmas.{Contains-head}
 use Rattle.thes_links.specs.declared.relation.Relation.{Relation}

@@ -5,7 +5,7 @@ use Rattle.thes_base.specs.declared.data.Direction.{Direction}
 use Rattle.thes_base.specs.declared.data.Direction.TheVariants.{Forward, Backward, Either, Never}
 use Rattle.thes_base.specs.Links.{broader_direction, disjoint_direction, LinkLeads, Path, Chain, IsNarrower}
 use Rattle.thes_links.specs.Steps.{reverse_of, Steps, Reaches}
-use Rattle.thes_links.specs.Local.{ReachesUp, InClassOf, KeepsS46At, IsNearPivot, IsFirstBrokenAt}
+use Rattle.thes_links.specs.Rules.{ReachesUp, InClassOf, KeepsS46At, IsNearPivot, IsFirstBrokenAt}
 use Rattle.thes_links.specs.Reading.{HaveTwoEnds}
 use Rattle.thes_walks.specs.SideSearch.{IsBrokenBetween}
 use Rattle.thes_base.specs.declared.fault.Refusal.{Refusal}

@@ -13,7 +13,7 @@ use Rattle.thes_base.specs.Links.{broader_direction, related_direction, exact_di
 use Rattle.thes_links.specs.declared.relation.Relation.{Relation}
 use Rattle.thes_links.specs.declared.relation.Relation.TheVariants.{Broader, Narrower}
 use Rattle.thes_links.specs.declared.side.Side.{Side}
-use Rattle.thes_links.specs.declared.side.Side.TheVariants.{Sideways, Alike, Apart}
+use Rattle.thes_links.specs.declared.side.Side.TheVariants.{Sideways, Alike, Other}
 use Rattle.thes_links.specs.declared.edit.LinkEdit.{LinkEdit}
 use Rattle.thes_links.specs.declared.edit.LinkEdit.TheVariants.{NoEdit, WithLink, AfterMerge}
 use Rattle.thes_links.specs.GraphView.{ends_at}
@@ -65,13 +65,13 @@ level_side Backward x y k one other = other
 level_side Either x y k one other = one
 level_side Never x y k one other = other
 
-level_up : (r e : Direction) → side_no (if_either r Sideways (if_either e Alike Apart)) ≢ 1
-level_up r e = level_side r Sideways (if_either e Alike Apart) 1 (λ is. absurd (omega (arith, is)))
-    (level_side e Alike Apart 1 (λ is. absurd (omega (arith, is))) (λ is. absurd (omega (arith, is))))
+level_up : (r e : Direction) → side_no (if_either r Sideways (if_either e Alike Other)) ≢ 1
+level_up r e = level_side r Sideways (if_either e Alike Other) 1 (λ is. absurd (omega (arith, is)))
+    (level_side e Alike Other 1 (λ is. absurd (omega (arith, is))) (λ is. absurd (omega (arith, is))))
 
-level_down : (r e : Direction) → side_no (if_either r Sideways (if_either e Alike Apart)) ≢ 4
-level_down r e = level_side r Sideways (if_either e Alike Apart) 4 (λ is. absurd (omega (arith, is)))
-    (level_side e Alike Apart 4 (λ is. absurd (omega (arith, is))) (λ is. absurd (omega (arith, is))))
+level_down : (r e : Direction) → side_no (if_either r Sideways (if_either e Alike Other)) ≢ 4
+level_down r e = level_side r Sideways (if_either e Alike Other) 4 (λ is. absurd (omega (arith, is)))
+    (level_side e Alike Other 4 (λ is. absurd (omega (arith, is))) (λ is. absurd (omega (arith, is))))
 
 up_one : (d r e : Direction) (a b : Bool) → (if (a || b) && (side_no (side_by_directions d a r e) == 1) then 1 else 0)
     ≤ (if foot_test d a b then 1 else 0)
@@ -84,12 +84,12 @@ up_one Backward r e false true = omega arith
 up_one Backward r e false false = omega arith
 up_one Either r e a b = omega (
   arith,
-  unless (a || b) (side_no (if_either r Sideways (if_either e Alike Apart))) 1
+  unless (a || b) (side_no (if_either r Sideways (if_either e Alike Other))) 1
       (level_up r e),
 )
 up_one Never r e a b = omega (
   arith,
-  unless (a || b) (side_no (if_either r Sideways (if_either e Alike Apart))) 1
+  unless (a || b) (side_no (if_either r Sideways (if_either e Alike Other))) 1
       (level_up r e),
 )
 
@@ -104,12 +104,12 @@ down_one Backward r e false true = omega arith
 down_one Backward r e false false = omega arith
 down_one Either r e a b = omega (
   arith,
-  unless (a || b) (side_no (if_either r Sideways (if_either e Alike Apart))) 4
+  unless (a || b) (side_no (if_either r Sideways (if_either e Alike Other))) 4
       (level_down r e),
 )
 down_one Never r e a b = omega (
   arith,
-  unless (a || b) (side_no (if_either r Sideways (if_either e Alike Apart))) 4
+  unless (a || b) (side_no (if_either r Sideways (if_either e Alike Other))) 4
       (level_down r e),
 )
 

@@ -12,7 +12,7 @@ use Rattle.thes_base.specs.Neighbourhood as edit
 use Rattle.thes_links.specs.declared.edit.LinkEdit.{LinkEdit}
 use Rattle.thes_links.specs.declared.edit.LinkEdit.TheVariants.{NoEdit, WithLink, AfterMerge}
 use Rattle.thes_links.specs.LinkEdit.{HeldAfter}
-use Rattle.thes_links.specs.Local.{AreSoundWith, BreakNone, CoversNear, IsFirstOfCycleAndS27, IsNearPivot}
+use Rattle.thes_links.specs.Rules.{AreSoundWith, BreakNone, CoversNear, IsFirstOfCycleAndS27, IsNearPivot}
 
 -- The premise of the check of a new link between two nodes, or of their merge: the nodes differ, and the links held
 -- break no rule.

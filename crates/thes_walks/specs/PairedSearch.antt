@@ -7,7 +7,7 @@ use Rattle.thes_links.specs.declared.relation.Relation.TheVariants as along
 use Rattle.thes_links.specs.declared.edit.LinkEdit.TheVariants.{NoEdit}
 use Rattle.thes_walks.specs.declared.side_search.SideSearch.{SideSearch}
 use Rattle.thes_links.specs.Steps.{Steps, Reaches}
-use Rattle.thes_links.specs.Local.{ReachesUp}
+use Rattle.thes_links.specs.Rules.{ReachesUp}
 use Rattle.thes_links.specs.LinkEdit.{CoversAt}
 use Rattle.thes_walks.specs.SideSearch.{IsSideSearch}
 

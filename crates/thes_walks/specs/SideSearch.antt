@@ -10,7 +10,7 @@ use Rattle.thes_links.specs.declared.relation.Relation.TheVariants as along
 use Rattle.thes_links.specs.declared.side.Side.{Side}
 use Rattle.thes_links.specs.declared.edit.LinkEdit.{LinkEdit}
 use Rattle.thes_links.specs.declared.edit.LinkEdit.TheVariants.{NoEdit, WithLink, AfterMerge}
-use Rattle.thes_links.specs.Local.{ReachesUp}
+use Rattle.thes_links.specs.Rules.{ReachesUp}
 use Rattle.thes_links.specs.GraphView.{ends_at}
 use Rattle.thes_links.specs.declared.side.Part.{Part}
 use Rattle.thes_links.specs.Reading.{HaveTwoEnds, IsRow}

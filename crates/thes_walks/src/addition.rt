@@ -6,7 +6,7 @@ ghost use Rattle.thes_base.specs.declared.data.Direction.TheVariants.{Either, Ne
 ghost use Rattle.thes_base.specs.Links.{S46, related_direction, exact_direction, disjoint_direction, IsFirstBroken};
 ghost use Rattle.thes_links.specs.declared.edit.LinkEdit.TheVariants.{WithLink};
 ghost use Rattle.thes_links.specs.LinkEdit.{HeldAfter};
-ghost use Rattle.thes_links.specs.Local.{AreSoundWith, CoversNear, BreaksS46};
+ghost use Rattle.thes_links.specs.Rules.{AreSoundWith, CoversNear, BreaksS46};
 ghost use Rattle.thes_walks.specs.EditChecks.{AreSoundWithLevel, IsCycleAndS27Result};
 
 use crate::class::breaks_class;

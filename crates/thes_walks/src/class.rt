@@ -3,7 +3,7 @@
 ghost use Rattle.std.specs.Prelude.{◌≡◌, ◌+◌, ◌*◌, ◌≤◌, List, OnOk, IfOk, MatchBool, length};
 ghost use Rattle.thes_base.specs.declared.data.Link.{Link};
 ghost use Rattle.thes_links.specs.LinkEdit.{HeldAfter, IsValidEdit};
-ghost use Rattle.thes_links.specs.Local.{BreaksS46At, KeepsS46At, CoversNear};
+ghost use Rattle.thes_links.specs.Rules.{BreaksS46At, KeepsS46At, CoversNear};
 
 use crate::ends::is_end_after;
 use std::alloc::{AllocError, Global};

@@ -9,7 +9,7 @@ ghost use Rattle.thes_links.specs.declared.edit.LinkEdit.TheVariants.{WithLink};
 ghost use Rattle.thes_links.specs.Reading.{HaveTwoEnds};
 ghost use Rattle.thes_links.specs.Side.{IsOneSided};
 ghost use Rattle.thes_links.specs.LinkEdit.{HeldAfter};
-ghost use Rattle.thes_links.specs.Local.{BreakNone};
+ghost use Rattle.thes_links.specs.Rules.{BreakNone};
 ghost use Rattle.thes_walks.specs.EditChecks.{AreJoinable};
 ghost use Rattle.thes_walks.specs.Ends.{IsEnd, LeadsUp, IsLoose};
 

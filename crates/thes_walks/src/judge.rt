@@ -10,7 +10,7 @@ ghost use Rattle.thes_links.specs.declared.edit.LinkEdit.TheVariants.{WithLink};
 ghost use Rattle.thes_links.specs.GraphView.{is_marked};
 ghost use Rattle.thes_links.specs.Reading.{HaveTwoEnds};
 ghost use Rattle.thes_links.specs.LinkEdit.{HeldAfter, IsValidEdit};
-ghost use Rattle.thes_links.specs.Local.{BreakNone, AreSoundWith, HeldAwayFrom, IsFirstBrokenAt, CoversNear};
+ghost use Rattle.thes_links.specs.Rules.{BreakNone, AreSoundWith, HeldAwayFrom, IsFirstBrokenAt, CoversNear};
 ghost use Rattle.thes_walks.specs.EditChecks.{checks_of_add, AreJoinable, CoversEdit, AreFewVisits};
 
 use crate::addition::check_added_link;

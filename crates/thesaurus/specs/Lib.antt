@@ -43,8 +43,8 @@ pub use Rattle.thes_http.specs.Serving as HttpServing
 pub use Rattle.thes_http_request.specs.Inbox
 pub use Rattle.thes_import.specs.ImportEngine
 pub use Rattle.thes_links.specs.GraphView
-pub use Rattle.thes_links.specs.Local
 pub use Rattle.thes_links.specs.Reading as LinksReading
+pub use Rattle.thes_links.specs.Rules
 pub use Rattle.thes_links.specs.Side
 pub use Rattle.thes_load_rules.specs.Verdicts
 pub use Rattle.thes_office.specs.AssignedPostings

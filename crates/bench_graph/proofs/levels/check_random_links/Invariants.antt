@@ -1,5 +1,5 @@
 use Rattle.thes_base.specs.Links.{Holds}
-use Rattle.thes_links.specs.Local.{BreakNone}
+use Rattle.thes_links.specs.Rules.{BreakNone}
 use Rattle.bench_graph.proofs.levels.check_random_links.Given as goal
 
 abbrev pub invariant-loop : goal.invariant-loop

@@ -11,7 +11,8 @@ returns-in_ok-linked_vocab-in-Some c =
     let same = c.in_ok-linked_vocab-in-Some.ensures.same in
     let links = subst (λ (rs : List Resource). HasLinks rs linked_vocab.graph [] [])
     (ap (λ (v : Vocabulary). v.resources) (sym same)) c.in_ok-linked_vocab-in-Some.ensures.none in
-    label_good c.args.vocab linked_vocab c.so_far.ensures.labels c.in-Some.ensures.0 (same ∙ c.in-Some.ensures.1) links
+    label_good c.args.vocab linked_vocab c.learn_rows_so_far.ensures.labels c.in-Some.ensures.0
+    (same ∙ c.in-Some.ensures.1) links
 
 pub returns-in-None : goal.returns-in-None
 returns-in-None c = rw c.stage_after_fault.ensures (label_bad c.args.vocab c.in-None.ensures)

@@ -3,7 +3,7 @@ use Rattle.std.specs.Bool.{MatchBool}
 use Rattle.thes_base.specs.Links.{Holds, S46}
 use Rattle.thes_links.specs.declared.edit.LinkEdit.TheVariants.{WithLink}
 use Rattle.thes_links.specs.LinkEdit.{HeldAfter}
-use Rattle.thes_links.specs.Local.{BreaksS46At, KeepsS46At, BreaksS46}
+use Rattle.thes_links.specs.Rules.{BreaksS46At, KeepsS46At, BreaksS46}
 use Rattle.thes_walks.proofs.KindLemmas.{s46_kept}
 use Rattle.thes_walks.proofs.EditCheckLemmas.{S46-with, BreaksS46-with}
 use Rattle.thes_walks.proofs.addition.breaks_s46.Goals as goal

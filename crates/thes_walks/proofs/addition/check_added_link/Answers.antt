@@ -3,7 +3,7 @@ use Rattle.thes_base.specs.declared.data.Link.{Link}
 use Rattle.thes_base.specs.Links.{S46}
 use Rattle.thes_links.specs.declared.edit.LinkEdit.TheVariants.{WithLink}
 use Rattle.thes_links.specs.LinkEdit.{HeldAfter}
-use Rattle.thes_links.specs.Local.{IsFirstOfCycleAndS27, CoversNear, BreaksS46}
+use Rattle.thes_links.specs.Rules.{IsFirstOfCycleAndS27, CoversNear, BreaksS46}
 use Rattle.thes_walks.proofs.KindLemmas.{IsFirstBroken-two}
 use Rattle.thes_walks.proofs.addition.check_added_link.Given.{Over}
 use Rattle.thes_walks.proofs.addition.check_added_link.Goals as goal

@@ -2,7 +2,7 @@ use Rattle.std.proofs.Common.{◌+◌, ◌*◌, ◌≤◌, List, length, arith}
 use Rattle.thes_base.specs.declared.data.Link.{Link}
 use Rattle.thes_base.specs.Links.{Holds}
 use Rattle.thes_links.specs.declared.edit.LinkEdit.TheVariants.{WithLink}
-use Rattle.thes_links.specs.Local.{CoversNear}
+use Rattle.thes_links.specs.Rules.{CoversNear}
 use Rattle.thes_walks.specs.PairedSearch.{HasEndAbove, HasNoEndAbove}
 use Rattle.thes_walks.proofs.KindLemmas.{near_level, IsFirstOfCycleAndS27-kept, IsFirstOfCycleAndS27-above}
 use Rattle.thes_walks.proofs.KindLemmas.{IsFirstOfCycleAndS27-apart}

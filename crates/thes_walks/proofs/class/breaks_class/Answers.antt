@@ -3,7 +3,7 @@ use Rattle.std.specs.Bool.{MatchBool}
 use Rattle.thes_base.specs.declared.data.Link.{Link}
 use Rattle.thes_links.specs.declared.relation.Relation.TheVariants.{Apart, Exact}
 use Rattle.thes_links.specs.Steps.{Ties}
-use Rattle.thes_links.specs.Local.{IsReachableSet, BreaksS46At, KeepsS46At}
+use Rattle.thes_links.specs.Rules.{IsReachableSet, BreaksS46At, KeepsS46At}
 use Rattle.thes_links.specs.LinkEdit.{HeldAfter}
 use Rattle.thes_links.proofs.EditLemmas.{would_two}
 use Rattle.thes_walks.proofs.ProbeLemmas.{class_alone, near_same}

@@ -2,7 +2,7 @@ use Rattle.std.proofs.Common.{◌+◌, ◌*◌, ◌<◌, ◌≤◌, inr, length,
 use Rattle.std.proofs.lemmas.Bool.{both_ways}
 use Rattle.thes_base.specs.Links.{Holds}
 use Rattle.thes_links.specs.declared.edit.LinkEdit.TheVariants.{WithLink}
-use Rattle.thes_links.specs.Local.{BreakNone, AreSoundWith, CoversNear}
+use Rattle.thes_links.specs.Rules.{BreakNone, AreSoundWith, CoversNear}
 use Rattle.thes_links.specs.GraphView.{GraphView}
 use Rattle.thes_walks.proofs.EditCheckLemmas.{CoversNear-with}
 use Rattle.thes_links.proofs.ContractLemmas.{IsFirstBroken-inserted}

@@ -1,6 +1,6 @@
 use Rattle.std.proofs.Common.{List, ◌+◌, ◌*◌, ◌≤◌, length, arith, None}
 use Rattle.thes_base.specs.declared.data.Link.{Link}
-use Rattle.thes_links.specs.Local.{BreaksS46At, KeepsS46At, CoversNear}
+use Rattle.thes_links.specs.Rules.{BreaksS46At, KeepsS46At, CoversNear}
 use Rattle.thes_links.specs.LinkEdit.{HeldAfter}
 use Rattle.thes_walks.specs.SideSearch.{IsBrokenBetween}
 use Rattle.thes_walks.proofs.ProbeLemmas.{IsFirstBrokenAt-between, near_pivot}

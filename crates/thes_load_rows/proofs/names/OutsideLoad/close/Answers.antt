@@ -5,6 +5,7 @@ use Rattle.thes_load_rows.proofs.names.OutsideLoad.close.Goals as goal
 
 pub returns : goal.returns
 returns c = λ base rs rows has.
-    let whole = outside_whole base rs c.args.self.now.vocab c.args.self.now.last rows has c.so_far.ensures.iris in
+    let whole = outside_whole base rs c.args.self.now.vocab c.args.self.now.last rows has
+    c.learn_rows_so_far.ensures.iris in
     let all = outside_has_all base rs c.args.self.now.vocab c.args.self.now.last rows has in
     grind (arith, common_steps, whole, all)
