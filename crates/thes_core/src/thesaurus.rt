@@ -1,7 +1,12 @@
 //! `Thesaurus`, the parts of a core as one struct without an invariant, so that a request may
 //! change one after another.
+ghost use Rattle.std.specs.Prelude.{◌≡◌, Some, []};
+ghost use Rattle.thes_base.specs.Resources.{IsConcept, scheme_of};
+ghost use Rattle.thes_core.specs.PartsView.{AreLegal};
+
 use std::alloc::Global;
 use thes_base::data::Limits;
+use thes_base::number::ResNo;
 use thes_graph::graph::Graph;
 use thes_post::book::Book;
 use thes_vocab::Vocab;
@@ -15,4 +20,15 @@ pub struct Thesaurus {
     pub graph: Graph,
     pub book: Book,
     pub limits: Limits,
+}
+
+impl Thesaurus {
+    // Returns the scheme of a concept; each concept has one.
+    pub(crate) fn scheme(&self, concept: ResNo) -> ResNo
+        requires kept { AreLegal self.now [] }
+        requires concept { IsConcept self.now.vocab.resources concept }
+        ensures { scheme_of self.now.vocab.resources concept ≡ Some result }
+    {
+        self.vocab.resource(concept).unwrap().scheme.unwrap()
+    }
 }
