@@ -7,7 +7,7 @@ ghost use Rattle.thes_core.specs.Requests.{PartsAccept, AreMatching, CountsAfter
 ghost use Rattle.thes_core.specs.PartsView.{AreLegal};
 
 use crate::facts::Facts;
-use crate::named_postings::count_named;
+use crate::named_postings::count_postings;
 use crate::thesaurus::Thesaurus;
 use std::alloc::AllocError;
 use thes_base::data::{Label, Link, LinkKind, NewResource};
@@ -186,7 +186,7 @@ impl Thesaurus {
         );
         let concept = self.vocab.add_resource(new)?;
         self.book
-            .move_listed(source, concept, count_named(postings))?;
+            .move_listed(source, concept, count_postings(postings))?;
         Ok(())
     }
 

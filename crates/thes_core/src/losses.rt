@@ -12,7 +12,7 @@ ghost use Rattle.thes_core.specs.PartsView.{parts_state};
 ghost use Rattle.thes_core.specs.Requests.{MayChange, PartsAccept};
 
 use crate::facts::Facts;
-use crate::named_postings::count_named;
+use crate::named_postings::count_postings;
 use crate::thesaurus::Thesaurus;
 use std::alloc::AllocError;
 use thes_base::data::{Label, Link};
@@ -85,7 +85,7 @@ impl Thesaurus {
             links,
             additions,
             copies,
-            moves: count_named(facts.standing.as_slice()),
+            moves: count_postings(facts.standing.as_slice()),
         })
     }
 

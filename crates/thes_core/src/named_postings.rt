@@ -14,7 +14,7 @@ use thes_post::rising::is_each_once;
 use thes_tables::rows::PostingRow;
 
 /// Returns the number of postings that a Split lists or a Merge moves, at most `u32::MAX`.
-pub fn count_named(postings: &[PostNo]) -> u32
+pub fn count_postings(postings: &[PostNo]) -> u32
     ensures { length postings.now < 2 ^ 32 → result ≡ length postings.now }
 {
     if postings.len() < 1 << 32 {

@@ -19,7 +19,7 @@ ghost use Rattle.thes_vocab.specs.OwnLabels.{own_label};
 ghost use Rattle.thes_vocab.specs.Vocabulary.{IsLiveOwner, with_labels};
 
 use crate::losses::Lost;
-use crate::named_postings::count_named;
+use crate::named_postings::count_postings;
 use crate::thesaurus::Thesaurus;
 use std::alloc::{AllocError, Global};
 use thes_base::data::{Label, LabelValue, Link, LinkKind};
@@ -299,7 +299,7 @@ impl Thesaurus {
         let concept = ResNo::new(self.vocab.resource_count() as u32);
         self.take_back_named(tag, text);
         self.book
-            .take_back_moves(source, concept, count_named(postings))?;
+            .take_back_moves(source, concept, count_postings(postings))?;
         Ok(())
     }
 }

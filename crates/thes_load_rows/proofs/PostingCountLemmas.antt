@@ -11,7 +11,7 @@ use Rattle.thes_base.specs.Postings.{is_assigned_to}
 use Rattle.thes_tables.specs.declared.rows.PostingRow.{PostingRow}
 use Rattle.thes_tables.specs.declared.rows.MoveRow.{MoveRow}
 use Rattle.thes_tables.specs.Tables.{is_assigned_row}
-use Rattle.thes_post.specs.PostingCounts.{PostingCounts, ArePostingCounts, CountsAfterTally}
+use Rattle.thes_post.specs.PostingCounts.{PostingCounts, ArePostingCounts, CountsAfterLoad}
 use Rattle.thes_load_rules.specs.Rules.{EachRow, PostingRule, MoveRule, history_of}
 use Rattle.thes_load_rules.proofs.LoadedStateLemmas.{row_count_of_moves}
 use Rattle.thes_load_rows.specs.PostingCounts.{AreCountsOfRows}
@@ -21,7 +21,7 @@ number_of b = cond b 1 0
 
 -- After one more row is counted, the counts are those of the rows so far and that row.
 pub sums_push : (rows : List PostingRow) (p : PostingRow) (old new : PostingCounts) → AreCountsOfRows rows old
-    → CountsAfterTally p.place p.withdrawn old new → AreCountsOfRows (rows ++ p ∷ []) new
+    → CountsAfterLoad p.place p.withdrawn old new → AreCountsOfRows (rows ++ p ∷ []) new
 sums_push rows p old new are told = grind (arith, common_steps, length-append, sum_by_push)
 
 same_count : (P : History → Bool) (Q : PostingRow → Bool) (history : PostingRow → History) (rows : List PostingRow)

@@ -20,7 +20,7 @@ use Rattle.thes_load_rules.specs.Rules.{PostingRule}
 use Rattle.thes_load_rules.proofs.RowListLemmas.{in_numbered, numbered_in}
 use Rattle.thes_links.proofs.SetLemmas.{cond-or}
 use Rattle.thes_load_rows.specs.Forms.{HasPostingForm}
-use Rattle.thes_post.specs.PostingCounts.{PostingCounts, CountsAfterTally}
+use Rattle.thes_post.specs.PostingCounts.{PostingCounts, CountsAfterLoad}
 use Rattle.thes_load_rows.specs.RowsSoFar.{has_key, HasPostings, IsNextPosting}
 use Rattle.thes_load_rows.proofs.PostingCountLemmas.{sums_push}
 use Rattle.thes_load_rows.proofs.NextRowLemmas.{numbered_next, in_next, numbered_still, each_push, order_push, few_push}
@@ -73,7 +73,7 @@ module _ (rs : List Resource) (keys : List (List ℕ)) (firsts stored_places : L
   -- After a row that may be the next one is added, the load has the rows so far and that row.
   pub next_taken : (new : List (List ℕ)) → IsNextPosting rs (length firsts) p → HasPostingForm p → has_key keys p.key
       ≡ false → ((q : List ℕ) → has_key new q ≡ cond (eq_by_cmp (slice_cmp nat_cmp) p.key q) true (has_key keys q))
-      → (told : PostingCounts) → CountsAfterTally p.place p.withdrawn posting_counts told
+      → (told : PostingCounts) → CountsAfterLoad p.place p.withdrawn posting_counts told
       → HasPostings rs new (firsts ++ p.first ∷ []) (stored_places ++ p.place ∷ []) told (rows ++ p ∷ [])
   next_taken new next form free updates told is =
       let last : p.number ≡ length rows + 1 = next.number ∙ ap (λ k. k + 1) count in

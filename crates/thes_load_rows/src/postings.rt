@@ -17,7 +17,7 @@ use std::collections::BTreeSet;
 use thes_base::data::Resource;
 use thes_base::number::ResNo;
 use thes_base::text::Key;
-use thes_post::tally::LoadedCounts;
+use thes_post::loaded_counts::LoadedCounts;
 use thes_tables::cells::Cell;
 use thes_tables::rows::PostingRow;
 

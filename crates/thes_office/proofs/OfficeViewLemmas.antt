@@ -293,27 +293,27 @@ module _ {K : Type 0} (view : K → StorageView) where
       }
 
   -- A complete run of the next requests extends the progress by them.
-  pub run_continues : (old mid new : OfficeView K) (commands rest front later : List Command)
+  pub run_continues : (old mid new : OfficeView K) (commands rest prefix later : List Command)
       (before after last : List Answer) → RunSoFar old mid commands rest before after
       → FaultBehaviour view mid new (let x : Result (Unit {0}) Fault = Ok tt in x)
-      → CompleteRun view mid front after last new → rest ≡ front ++ later
+      → CompleteRun view mid prefix after last new → rest ≡ prefix ++ later
       → RunSoFar old new commands later before last
-  run_continues old mid new commands rest front later before after last r fault_behaviour x split = record {
+  run_continues old mid new commands rest prefix later before after last r fault_behaviour x split = record {
     limits = fault_behaviour.limits ∙ r.limits;
     was = λ up. r.was (fault_behaviour.was up);
     count = fault_behaviour.count ∙ r.count;
-    commands_done = r.commands_done ++ front;
+    commands_done = r.commands_done ++ prefix;
     all = r.all ∙ ap (λ (l : List Command). r.commands_done ++ l) split
-        ∙ sym (append_assoc r.commands_done front later);
+        ∙ sym (append_assoc r.commands_done prefix later);
     given = r.given ++ x.answers;
-    each = let a = length-append r.given x.answers in let b = length-append r.commands_done front in
+    each = let a = length-append r.given x.answers in let b = length-append r.commands_done prefix in
         omega (arith, a, b, r.each, x.each);
     kept = x.kept ∙ ap (λ (l : List Answer). l ++ x.answers) r.kept ∙ append_assoc before r.given x.answers;
     goes_on = λ up. run_of_more old.limits (view old.keeper).rows (view mid.keeper).rows
         (view new.keeper).rows r.commands_done
-        r.given front x.answers (r.goes_on (fault_behaviour.was up))
-        (subst (λ (l : Limits). TablesAfterRun l (view mid.keeper).rows front x.answers (view new.keeper).rows) r.limits
-        (x.goes_on up));
+        r.given prefix x.answers (r.goes_on (fault_behaviour.was up))
+        (subst (λ (l : Limits). TablesAfterRun l (view mid.keeper).rows prefix x.answers (view new.keeper).rows)
+        r.limits (x.goes_on up));
     same = λ up all. let parts = all_parts ChangesNothing r.given x.answers all in
         x.same up parts.1 ∙ r.same (fault_behaviour.was up) parts.0;
   }

@@ -1,18 +1,18 @@
 //! Groups of posts with different keys: each is decided in the state after those before it, and the
-//! changes of all are committed in one transaction. `Decided`, the answers and changes so far, also
-//! serves plans.
+//! changes of all are committed in one transaction.
 ghost use Rattle.std.specs.Prelude.{◌≡◌, ◌⊎◌, ◌≤◌, ◌<◌, ◌↔◌, ◌++◌, ◌+◌, ◌∷◌, [], ℕ, List, false, true};
 ghost use Rattle.std.specs.Prelude.{IsTrue, IfOk, IfErr, OnOk, OnErr, take, length};
 ghost use Rattle.thes_base.specs.declared.request.Answer.{Answer};
 ghost use Rattle.thes_base.specs.State.{State};
 ghost use Rattle.thes_core.specs.CoreView.{IsViewOf};
 ghost use Rattle.thes_core.specs.Facts.{AreFacts};
-ghost use Rattle.thes_store.specs.Storage.{CommitFrame, DeltaFitsStorage, QueryFrame, RawAfterChanges};
+ghost use Rattle.thes_store.specs.Storage.{CommitFrame, QueryFrame};
 ghost use Rattle.thes_office.specs.Groups.{AreKeysMarked, GroupDecided, IsDecided, IsGroup, IsMarked};
 ghost use Rattle.thes_office.specs.Groups.{IsNewPost, IsPostOf, MayDecideGroup, PerformsGroup, place_of_key};
 
+use crate::decided::{Decided, commit_changes};
 use crate::facts::facts_of;
-use std::alloc::{AllocError, Global};
+use std::alloc::Global;
 use thes_base::fault::Fault;
 use thes_base::request::{Answer, Command};
 use thes_base::text::Key;
@@ -26,27 +26,6 @@ const GROUP_LIMIT: usize = 128;
 
 // The number of marks for keys: each key of a group's posts has one of these places.
 const PLACES: usize = 1_024;
-
-/// The answers to the requests of a group or a plan that are decided so far, and their changes of
-/// rows.
-#[derive(Drop)]
-pub struct Decided {
-    pub answers: Vec<Answer>,
-    pub delta: Delta,
-}
-
-impl Decided {
-    /// Appends the answer to one more request and the changes of rows that the request makes.
-    pub fn append(&mut self, answer: Answer, delta: Delta) -> Result<(), AllocError>
-        ensures answers { OnOk result
-            (self.new.answers.items ≡ self.old.answers.items ++ answer ∷ []) }
-        ensures changes { OnOk result (self.new.delta ≡ self.old.delta ++ delta) }
-    {
-        append_changes(&mut self.delta, delta)?;
-        self.answers.push(answer)?;
-        Ok(())
-    }
-}
 
 // Checks whether a request of a group is a Post with the key.
 fn is_post_of(key: &Key, command: &Command) -> bool
@@ -139,17 +118,6 @@ pub fn group_length(commands: &[Command]) -> usize
     count
 }
 
-// Appends the changes of rows of one more request to those of the requests before it.
-#[tactic(auto, using(std::proofs::Common::append_assoc))]
-fn append_changes(delta: &mut Delta, more: Delta) -> Result<(), AllocError>
-    ensures { OnOk result (delta.new ≡ delta.old ++ more) }
-{
-    for change in more.into_changes() {
-        delta.push(change)?;
-    }
-    Ok(())
-}
-
 // Decides one more request on its facts, in the state after those before it, which the core holds.
 // If the request is accepted, applies it to the core. If memory runs out, the core may be ahead of
 // the tables.
@@ -210,20 +178,6 @@ fn decide_group<K: Keeper>(
         decide_with_facts(core, command, &facts, &mut decided)?;
     }
     Ok(decided)
-}
-
-/// Commits changes of rows to the storage in one transaction, if there are any.
-pub fn commit_changes<K: Keeper>(keeper: &mut K, delta: Delta) -> Result<(), Fault>
-    requires { DeltaFitsStorage delta (K.view keeper.old) }
-    ensures ok { OnOk result ((K.view keeper.new).is_up
-        → RawAfterChanges delta (K.view keeper.old).rows (K.view keeper.new).rows) }
-    ensures keeps { CommitFrame (K.view keeper.old) (K.view keeper.new) result }
-{
-    // Requests that change nothing need no commit (DECISIONS.md, The office).
-    if delta.as_slice().is_empty() {
-        return Ok(());
-    }
-    keeper.commit(delta)
 }
 
 /// Performs the requests of a group, and returns their answers: each is decided in the state that

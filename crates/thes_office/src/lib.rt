@@ -2,6 +2,7 @@
 //! memory of all but postings.
 #![tactic(auto)]
 
+mod decided;
 mod facts;
 mod group;
 mod keeper_load;

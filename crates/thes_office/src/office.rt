@@ -198,17 +198,17 @@ impl<K: Keeper> Office<K> {
     // Performs a single request, or the requests of a group in one transaction, and appends their
     // answers.
     #[tactic(auto, using(crate::proofs::GroupLemmas::group_after_reload))]
-    fn run_front(&mut self, front: &[Command], answers: &mut Vec<Answer>) -> Result<(), Fault>
-        requires { IsGroup front.now ⊎ (length front.now ≡ 1) }
+    fn run_prefix(&mut self, prefix: &[Command], answers: &mut Vec<Answer>) -> Result<(), Fault>
+        requires { IsGroup prefix.now ⊎ (length prefix.now ≡ 1) }
         ensures fault_behaviour { FaultBehaviour K.view self.old self.new result }
-        ensures ran { GroupResult K.view self.old front.now
+        ensures ran { GroupResult K.view self.old prefix.now
             answers.old.items answers.new.items result self.new }
     {
-        if front.len() == 1 {
-            return self.run_one(&front[0], answers);
+        if prefix.len() == 1 {
+            return self.run_one(&prefix[0], answers);
         }
         self.refresh()?;
-        self.run_group(front, answers)
+        self.run_group(prefix, answers)
     }
 
     /// Performs requests in order, and appends their answers. Up to 128 posts in a row with
@@ -226,8 +226,8 @@ impl<K: Keeper> Office<K> {
         let _stale = self.stale;
         let mut rest = commands;
         'groups: while !rest.is_empty() {
-            let (front, later) = rest.split_at(group_length(rest));
-            match self.run_front(front, answers) {
+            let (prefix, later) = rest.split_at(group_length(rest));
+            match self.run_prefix(prefix, answers) {
                 Ok(()) => {}
                 Err(fault) => return Err(fault),
             }

@@ -93,13 +93,13 @@ pub record CountsAfterMoves (source target : Number) (moved : ℕ) (old new : Po
 
 -- The counts that a `LoadedCounts` may have: no more postings are assigned to a concept, or withdrawn, than were
 -- accepted, and there are no moves.
-pub record AreTallyCounts (posting_counts : PostingCounts) : Type 0 where
+pub record AreLoadedCounts (posting_counts : PostingCounts) : Type 0 where
   pub standing : (n : Number) → count_of posting_counts n ≤ posting_counts.accepted
   pub withdrawn : posting_counts.withdrawn ≤ posting_counts.accepted
   pub moves : posting_counts.moves ≡ 0
 
 -- The counts after one more posting, which is withdrawn if `gone` is set, or else assigned to the concept `place`.
-pub record CountsAfterTally (place : Number) (gone : Bool) (old new : PostingCounts) : Type 0 where
+pub record CountsAfterLoad (place : Number) (gone : Bool) (old new : PostingCounts) : Type 0 where
   pub standing : (n : Number) → count_of new n ≡ count_of old n + cond (not gone && place == n) 1 0
   pub accepted : new.accepted ≡ old.accepted + 1
   pub withdrawn : new.withdrawn ≡ old.withdrawn + cond gone 1 0

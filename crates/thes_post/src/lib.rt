@@ -2,5 +2,5 @@
 #![tactic(auto)]
 
 pub mod book;
+pub mod loaded_counts;
 pub mod rising;
-pub mod tally;

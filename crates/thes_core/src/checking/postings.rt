@@ -1,8 +1,7 @@
 //! Checks of Split and Post requests.
-ghost use Rattle.std.specs.Prelude.{◌≡◌, Some, IfOk, IfNone, List, ℕ, [], map};
+ghost use Rattle.std.specs.Prelude.{◌≡◌, IfOk, IfNone, List, ℕ, [], map};
 ghost use Rattle.thes_base.specs.declared.data.History.{History};
 ghost use Rattle.thes_base.specs.declared.request.Command.TheVariants as request;
-ghost use Rattle.thes_base.specs.Resources.{IsConcept, scheme_of};
 ghost use Rattle.thes_core.specs.Facts.{posting_row_at};
 ghost use Rattle.thes_core.specs.Requests.{RefusalByParts};
 ghost use Rattle.thes_core.specs.CoreDecisions.{IsAccepted};
@@ -59,15 +58,6 @@ impl Thesaurus {
             moves: postings.len() as u64,
             ..Growth::NAMED
         }))
-    }
-
-    // Returns the scheme of a concept; each concept has one.
-    pub(crate) fn scheme(&self, concept: ResNo) -> ResNo
-        requires kept { AreLegal self.now [] }
-        requires concept { IsConcept self.now.vocab.resources concept }
-        ensures { scheme_of self.now.vocab.resources concept ≡ Some result }
-    {
-        self.vocab.resource(concept).unwrap().scheme.unwrap()
     }
 
     // Checks a Post request with a new key: whether its concept's chain of replacements ends at a

@@ -8,7 +8,7 @@ ghost use Rattle.thes_core.specs.PartsView.{parts_view, setting_of, parts_state}
 ghost use Rattle.thes_post.specs.PostingCounts.{ArePostingCounts};
 
 use crate::facts::Facts;
-use crate::named_postings::count_named;
+use crate::named_postings::count_postings;
 use crate::thesaurus::Thesaurus;
 use crate::verdict::Verdict;
 use std::alloc::AllocError;
@@ -39,7 +39,7 @@ impl Thesaurus {
             Command::Split(_, _, _, postings) => {
                 Answer::Parted(
                     self.next_resource_number().get(),
-                    count_named(postings.as_slice()),
+                    count_postings(postings.as_slice()),
                 )
             }
             Command::Post(_, _, _) => Answer::Number(self.book.accepted().saturating_add(1)),

@@ -6,7 +6,6 @@ ghost use Rattle.thes_base.specs.Changes.{state_after_deprecation, state_after_m
 ghost use Rattle.thes_base.specs.Machine.{owned_label};
 ghost use Rattle.thes_core.specs.Requests.{PartsAccept, AreMatching};
 ghost use Rattle.thes_core.specs.PartsView.{parts_state};
-ghost use Rattle.thes_links.specs.Reading.{IsRow};
 ghost use Rattle.thes_tables.specs.declared.change.Change.TheVariants as change;
 ghost use Rattle.thes_tables.specs.Changes.{add_link, drop_link};
 ghost use Rattle.thes_tables.specs.ChangeLaw.{AreChangesBetween};
@@ -18,7 +17,6 @@ use crate::thesaurus::Thesaurus;
 use std::alloc::AllocError;
 use thes_base::data::{Label, Link};
 use thes_base::number::ResNo;
-use thes_links::links::Links;
 use thes_tables::change::Change;
 use thes_tables::delta::Delta;
 use thes_tables::rows::LabelRow;
@@ -55,19 +53,6 @@ fn push_labels(delta: &mut Delta, owner: ResNo, labels: Vec<Label>) -> Result<()
 }
 
 impl Thesaurus {
-    // Returns the held links with an end at a resource, each once.
-    #[tactic(auto, using(crate::proofs::DeltaLemmas::take_got, crate::proofs::DeltaLemmas::take_none))]
-    pub(crate) fn links_at(&self, n: ResNo) -> Result<Vec<Link>, AllocError>
-        ensures { IfOk result (λ found. IsRow self.now.graph.links n found.items) }
-    {
-        let mut found = Vec::new(self.alloc);
-        let mut walk = self.graph.walk();
-        while let Some(link) = walk.link_at(n, found.len()) {
-            found.push(link)?;
-        }
-        Ok(found)
-    }
-
     // Returns the changes that mark a concept as dead and delete its links.
     #[tactic(auto, using(crate::proofs::DeltaLemmas::deprecated_leads))]
     pub(super) fn changes_of_deprecate(&self, concept: ResNo) -> Result<Delta, AllocError>

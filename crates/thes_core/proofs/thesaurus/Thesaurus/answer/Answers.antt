@@ -11,5 +11,5 @@ returns-in-Split c = λ hs ok are.
     let fits = split_fits c.args.self.now hs s.field-0 s.field-1 s.field-2 c.as_slice.result.now
     (subst (PartsAccept c.args.self.now hs) is ok) in
     let few : length c.as_slice.result.now < 2 ^ 32 = omega (arith, fits) in
-    let count = c.count_named.ensures few in
+    let count = c.count_postings.ensures few in
     search rules depth 12

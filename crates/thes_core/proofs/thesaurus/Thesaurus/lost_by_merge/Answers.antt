@@ -19,4 +19,4 @@ returns-clause-parts c =
 
 pub returns-clause-moves : goal.returns-clause-moves
 returns-clause-moves c = λ s are few. moves_lost c.args.source c.args.target s c.args.facts.now c.as_slice.result.now
-    c.count_named.result are c.as_slice.ensures.value c.count_named.ensures few
+    c.count_postings.result are c.as_slice.ensures.value c.count_postings.ensures few

@@ -44,7 +44,7 @@ returns c = record {
       let at_source = are.standing source in
       let at_target = are.standing n in
       let moves = are.moves in
-      let count = c.count_named.ensures (omega (arith, fits)) in
+      let count = c.count_postings.ensures (omega (arith, fits)) in
       split_sums t hs source tag text postings ok n number t.book c.move_listed.new.self are
       (subst (λ (k : ℕ). CountsAfterMoves source n k t.book c.move_listed.new.self) count
       (c.in_ok-move_listed.ensures.ok (subst (λ (k : ℕ). HasRoomForMoves source n k t.book) (sym count)

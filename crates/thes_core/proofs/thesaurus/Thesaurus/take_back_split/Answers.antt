@@ -29,13 +29,13 @@ returns-clause-counts c = λ s lost is accepts lost_is counts.
     let t = c.args.self.now in
     let source = c.args.source in
     let n = c.new-concept.result in
-    let k = c.count_named.result in
+    let k = c.count_postings.result in
     let book = c.take_back_named.ensures.book in
     let number = c.new-concept.ensures ∙ c.resource_count.ensures.count
     ∙ number_of_created t c.args.tag.now c.args.text.now s
     (split_created t c.args.tag.now c.args.text.now s source c.args.postings.now is) in
     counts_unsplit (setting_of t) s source c.args.tag.now c.args.text.now c.args.postings.now n k t.book
-    c.take_back_moves.new.self is.legal accepts number c.count_named.ensures counts
+    c.take_back_moves.new.self is.legal accepts number c.count_postings.ensures counts
     (λ has. subst (λ (b : PostingCounts). CountsAfterMoves source n k c.take_back_moves.new.self b) book
     (c.in_ok-take_back_moves.ensures.ok
     (subst (λ (b : PostingCounts). HasMovesToTakeBack source n k b) (sym book) has)))

@@ -9,8 +9,8 @@ groups-init g c =
     c.self.inside.limits c.self.inside.stale c.args.self.now c.args.commands.now c.args.answers.now.items
     c.self.invariant c.self.view_is
 
-pub run_front-requires : goal.run_front-requires
-run_front-requires g c = grind (arith)
+pub run_prefix-requires : goal.run_prefix-requires
+run_prefix-requires g c = grind (arith)
 
 pub groups-preserved : goal.groups-preserved
 groups-preserved g c = grind (arith, run_continues, take-append-drop)

@@ -1,6 +1,6 @@
 //! The counts of postings while a store is loaded.
 ghost use Rattle.std.specs.Prelude.{◌≡◌, ◌≤◌, ◌<◌, ◌+◌, ◌^◌, ℕ, [], OnOk, OnErr};
-ghost use Rattle.thes_post.specs.PostingCounts.{CountsAfterTally, count_of};
+ghost use Rattle.thes_post.specs.PostingCounts.{CountsAfterLoad, count_of};
 
 use crate::book::Book;
 use std::alloc::{AllocError, Global};
@@ -15,13 +15,13 @@ pub struct LoadedCounts {
 
 impl Model for LoadedCounts {
     ghost use Rattle.std.specs.Prelude.{◌≡◌};
-    ghost use Rattle.thes_post.specs.PostingCounts.{PostingCounts, AreTallyCounts};
+    ghost use Rattle.thes_post.specs.PostingCounts.{PostingCounts, AreLoadedCounts};
 
     ghost Value = { PostingCounts };
 
     ghost view = { λ a. a.book };
 
-    ghost invariant = { λ a. AreTallyCounts a.book };
+    ghost invariant = { λ a. AreLoadedCounts a.book };
 }
 
 impl LoadedCounts {
@@ -37,7 +37,7 @@ impl LoadedCounts {
     /// Counts one more posting, which is assigned to the concept `place` unless it was withdrawn.
     pub fn count_posting(&mut self, place: ResNo, withdrawn: bool) -> Result<(), AllocError>
         requires { self.old.accepted + 1 < 2 ^ 32 }
-        ensures ok { OnOk result (CountsAfterTally place withdrawn self.old self.new) }
+        ensures ok { OnOk result (CountsAfterLoad place withdrawn self.old self.new) }
         ensures err { OnErr result (self.new ≡ self.old) }
     {
         self.book.post(place, 0)?;

@@ -1,0 +1,55 @@
+//! `Decided`, the answers and the changes of rows so far of a group or a plan, and their commit.
+ghost use Rattle.std.specs.Prelude.{◌≡◌, ◌++◌, ◌∷◌, [], OnOk};
+ghost use Rattle.thes_store.specs.Storage.{CommitFrame, DeltaFitsStorage, RawAfterChanges};
+
+use std::alloc::AllocError;
+use thes_base::fault::Fault;
+use thes_base::request::Answer;
+use thes_store::keeper::Keeper;
+use thes_tables::delta::Delta;
+
+/// The answers to the requests of a group or a plan that are decided so far, and their changes of
+/// rows.
+#[derive(Drop)]
+pub struct Decided {
+    pub answers: Vec<Answer>,
+    pub delta: Delta,
+}
+
+impl Decided {
+    /// Appends the answer to one more request and the changes of rows that the request makes.
+    pub fn append(&mut self, answer: Answer, delta: Delta) -> Result<(), AllocError>
+        ensures answers { OnOk result
+            (self.new.answers.items ≡ self.old.answers.items ++ answer ∷ []) }
+        ensures changes { OnOk result (self.new.delta ≡ self.old.delta ++ delta) }
+    {
+        append_changes(&mut self.delta, delta)?;
+        self.answers.push(answer)?;
+        Ok(())
+    }
+}
+
+// Appends the changes of rows of one more request to those of the requests before it.
+#[tactic(auto, using(std::proofs::Common::append_assoc))]
+fn append_changes(delta: &mut Delta, more: Delta) -> Result<(), AllocError>
+    ensures { OnOk result (delta.new ≡ delta.old ++ more) }
+{
+    for change in more.into_changes() {
+        delta.push(change)?;
+    }
+    Ok(())
+}
+
+/// Commits changes of rows to the storage in one transaction, if there are any.
+pub fn commit_changes<K: Keeper>(keeper: &mut K, delta: Delta) -> Result<(), Fault>
+    requires { DeltaFitsStorage delta (K.view keeper.old) }
+    ensures ok { OnOk result ((K.view keeper.new).is_up
+        → RawAfterChanges delta (K.view keeper.old).rows (K.view keeper.new).rows) }
+    ensures keeps { CommitFrame (K.view keeper.old) (K.view keeper.new) result }
+{
+    // Requests that change nothing need no commit (DECISIONS.md, The office).
+    if delta.as_slice().is_empty() {
+        return Ok(());
+    }
+    keeper.commit(delta)
+}
