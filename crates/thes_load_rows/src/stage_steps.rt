@@ -8,9 +8,8 @@ ghost use Rattle.thes_tables.specs.TableOrder.{table_no};
 ghost use Rattle.thes_load_rows.specs.Progress.{stage_table, HasRead, HasRow, HasUnqueried, ReachesTable};
 ghost use Rattle.thes_load_rows.specs.LoadResults.{LoadResult};
 
+use crate::closing::close_moves;
 use crate::links::LinkedVocab;
-use crate::moves::MoveLoad;
-use crate::postings::PlacedPostings;
 use crate::stage::Stage;
 use std::alloc::{AllocError, Global};
 use std::mem;
@@ -101,23 +100,5 @@ impl Stage {
                 Ok(Err(Fault::BadStore(Table::Move)))
             }
         }
-    }
-}
-
-// Checks table move, the last one, after its last row, and returns the loaded parts, or the table's
-// fault.
-fn close_moves(
-    linked_vocab: LinkedVocab,
-    placed: PlacedPostings,
-    load: MoveLoad,
-) -> Result<LoadedParts, Fault>
-    ensures { (raw : Raw) → HasRead (stage.Move linked_vocab placed load) raw
-        → LoadResult raw result }
-{
-    if load.close(placed.stored_places.as_slice()) {
-        let book = placed.tally.close(load.taken);
-        Ok(LoadedParts { linked_vocab, book })
-    } else {
-        Err(Fault::BadStore(Table::Move))
     }
 }
