@@ -1,5 +1,5 @@
-//! The operations of a load: adding a row, stopping at a table that the database can't query, and
-//! finishing.
+//! The operations of a load: adding a row, stopping out of memory or at a table that the database
+//! can't query, and finishing.
 ghost use Rattle.std.specs.Prelude.{◌≡◌, ◌≤◌, IfOk, OnOk};
 ghost use Rattle.thes_base.specs.declared.fault.Fault.TheVariants.{BadStore};
 ghost use Rattle.thes_tables.specs.Cells.{Raw};
@@ -101,4 +101,11 @@ impl Stage {
             }
         }
     }
+}
+
+/// Stops a load with `OutOfMemory`.
+pub fn stop_out_of_memory(stage: &mut Stage)
+    ensures { stage.new ≡ Stage.Stopped Fault.OutOfMemory Table.Meta }
+{
+    drop(mem::replace(stage, Stage::Stopped(Fault::OutOfMemory, Table::Meta)));
 }
