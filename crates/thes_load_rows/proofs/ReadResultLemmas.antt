@@ -12,7 +12,7 @@ use Rattle.thes_base.specs.Resources.{entry_at}
 use Rattle.thes_load_rules.specs.Rules.{ResourceRule}
 use Rattle.thes_load_rows.specs.declared.rows.ResourceRow.{ResourceRow}
 use Rattle.thes_load_rows.specs.Forms.{HasResourceForm}
-use Rattle.thes_load_rows.specs.CellSpelling.{row_cells}
+use Rattle.thes_load_rows.specs.CellSpelling.{resource_row_cells}
 use Rattle.thes_load_rows.specs.ResourceChecks.{AppendResourceResult}
 use Rattle.thes_load_rows.proofs.NextRowLemmas.{numbered_next}
 use Rattle.thes_load_rows.proofs.RowFormLemmas.{resource_form}
@@ -65,13 +65,13 @@ resources_on n (x ∷ rs) cells more (y ∷ others) e =
     )
 
 module _ (rs : List Resource) (cells : List Cell) where
-  pub resource_read : (row : ResourceRow) → cells ≡ row_cells row → (new : List Resource) (good : Bool)
+  pub resource_read : (row : ResourceRow) → cells ≡ resource_row_cells row → (new : List Resource) (good : Bool)
       → AppendResourceResult rs new row good → ReadResult (resource_rows 1) (λ rows. rows ≡ new) ResourceRule rs cells
       good
   resource_read row spelled new good differ =
       grind (arith, common_steps, head_one, number_one, resources_on, resources_push)
 
-  pub resource_unread : ((x : ResourceRow) → HasResourceForm x → cells ≢ row_cells x) → (new : List Resource)
+  pub resource_unread : ((x : ResourceRow) → HasResourceForm x → cells ≢ resource_row_cells x) → (new : List Resource)
       → ReadResult (resource_rows 1) (λ rows. rows ≡ new) ResourceRule rs cells false
   resource_unread none new = λ more others e rule.
       let r = resources_on 1 rs cells more others e in

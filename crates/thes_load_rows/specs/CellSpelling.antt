@@ -21,5 +21,5 @@ SpellsValue kind cell (Some v) = (label_value_kind v ≡ kind) × IsLabelText ki
 SpellsValue kind cell None = (text : List ℕ) → IsLabelText kind text → cell ≢ Text text
 
 -- The cells of a row of table resource.
-abbrev pub row_cells : ResourceRow → List Cell
-row_cells row = resource_cells row.number row.resource
+abbrev pub resource_row_cells : ResourceRow → List Cell
+resource_row_cells row = resource_cells row.number row.resource

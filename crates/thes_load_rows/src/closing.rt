@@ -1,17 +1,21 @@
 //! The checks of a table after its last row. Each function returns the next stage of the load: at
-//! the next table, or stopped with a fault.
+//! the next table, or stopped with a fault. The last one returns what was loaded, or a fault.
 ghost use Rattle.std.specs.Prelude.{◌≡◌, IfOk};
 ghost use Rattle.thes_base.specs.declared.fault.Fault.TheVariants.{BadStore};
+ghost use Rattle.thes_tables.specs.Cells.{Raw};
 ghost use Rattle.thes_tables.specs.TableOrder.{next_table};
 ghost use Rattle.thes_load_rows.specs.declared.stage.Stage.TheVariants as stage;
-ghost use Rattle.thes_load_rows.specs.Progress.{Closes};
+ghost use Rattle.thes_load_rows.specs.Progress.{Closes, HasRead};
+ghost use Rattle.thes_load_rows.specs.LoadResults.{LoadResult};
 
 use crate::links::LinkedVocab;
 use crate::meta::MetaRow;
+use crate::moves::MoveLoad;
 use crate::names::OutsideLoad;
-use crate::postings::PostingLoad;
+use crate::postings::{PlacedPostings, PostingLoad};
 use crate::resources::ResourceLoad;
 use crate::stage::Stage;
+use crate::stage_steps::LoadedParts;
 use std::alloc::{AllocError, Global};
 use thes_base::fault::{Fault, Table};
 use thes_base::text::Base;
@@ -100,4 +104,22 @@ pub fn close_posting(linked_vocab: LinkedVocab, load: PostingLoad) -> Stage
 {
     let (moves, placed) = load.close();
     Stage::Move(linked_vocab, placed, moves)
+}
+
+/// Checks table move, the last one, after its last row, and returns the loaded parts, or the
+/// table's fault.
+pub fn close_moves(
+    linked_vocab: LinkedVocab,
+    placed: PlacedPostings,
+    load: MoveLoad,
+) -> Result<LoadedParts, Fault>
+    ensures { (raw : Raw) → HasRead (stage.Move linked_vocab placed load) raw
+        → LoadResult raw result }
+{
+    if load.close(placed.stored_places.as_slice()) {
+        let book = placed.tally.close(load.taken);
+        Ok(LoadedParts { linked_vocab, book })
+    } else {
+        Err(Fault::BadStore(Table::Move))
+    }
 }

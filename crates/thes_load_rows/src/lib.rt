@@ -12,5 +12,5 @@ mod postings;
 mod resources;
 pub mod rows;
 pub mod stage;
-mod stage_steps;
+pub mod stage_steps;
 pub mod turns;

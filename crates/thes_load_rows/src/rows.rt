@@ -3,7 +3,7 @@
 ghost use Rattle.std.specs.Prelude.{IfOk};
 ghost use Rattle.thes_tables.specs.Cells.{outside_cells, label_cells, link_cells, hier_cells, posting_cells, move_cells};
 ghost use Rattle.thes_load_rows.specs.Forms.{HasResourceForm, HasOutsideForm, HasLabelForm, HasLinkForm, HasHierForm, HasPostingForm, HasMoveForm};
-ghost use Rattle.thes_load_rows.specs.CellSpelling.{Spells, row_cells};
+ghost use Rattle.thes_load_rows.specs.CellSpelling.{Spells, resource_row_cells};
 
 use crate::cells::{
     flag_in, hier_type_in, label_kind_in, link_kind_in, number_in, optional_in, resource_kind_in,
@@ -26,7 +26,7 @@ pub struct ResourceRow {
 /// Parses the five cells of a row of table resource: number, kind, scheme, live flag and
 /// replacement.
 pub fn resource_in(cells: &[Cell]) -> Option<ResourceRow>
-    ensures { Spells row_cells HasResourceForm cells.now result }
+    ensures { Spells resource_row_cells HasResourceForm cells.now result }
 {
     if cells.len() != 5 {
         return None;

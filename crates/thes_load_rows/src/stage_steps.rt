@@ -1,5 +1,5 @@
-//! The operations of a load: adding a row, stopping at a table that the database can't query, and
-//! finishing.
+//! The operations of a load: adding a row, stopping out of memory or at a table that the database
+//! can't query, and finishing.
 ghost use Rattle.std.specs.Prelude.{◌≡◌, ◌≤◌, IfOk, OnOk};
 ghost use Rattle.thes_base.specs.declared.fault.Fault.TheVariants.{BadStore};
 ghost use Rattle.thes_tables.specs.Cells.{Raw};
@@ -8,9 +8,8 @@ ghost use Rattle.thes_tables.specs.TableOrder.{table_no};
 ghost use Rattle.thes_load_rows.specs.Progress.{stage_table, HasRead, HasRow, HasUnqueried, ReachesTable};
 ghost use Rattle.thes_load_rows.specs.LoadResults.{LoadResult};
 
+use crate::closing::close_moves;
 use crate::links::LinkedVocab;
-use crate::moves::MoveLoad;
-use crate::postings::PlacedPostings;
 use crate::stage::Stage;
 use std::alloc::{AllocError, Global};
 use std::mem;
@@ -104,20 +103,9 @@ impl Stage {
     }
 }
 
-// Checks table move, the last one, after its last row, and returns the loaded parts, or the table's
-// fault.
-fn close_moves(
-    linked_vocab: LinkedVocab,
-    placed: PlacedPostings,
-    load: MoveLoad,
-) -> Result<LoadedParts, Fault>
-    ensures { (raw : Raw) → HasRead (stage.Move linked_vocab placed load) raw
-        → LoadResult raw result }
+/// Stops a load with `OutOfMemory`.
+pub fn stop_out_of_memory(stage: &mut Stage)
+    ensures { stage.new ≡ Stage.Stopped Fault.OutOfMemory Table.Meta }
 {
-    if load.close(placed.stored_places.as_slice()) {
-        let book = placed.tally.close(load.taken);
-        Ok(LoadedParts { linked_vocab, book })
-    } else {
-        Err(Fault::BadStore(Table::Move))
-    }
+    drop(mem::replace(stage, Stage::Stopped(Fault::OutOfMemory, Table::Meta)));
 }

@@ -49,13 +49,6 @@ fn stop_after(stage: &mut Stage, table: Table)
     }
 }
 
-/// Stops a load with `OutOfMemory`.
-pub fn run_out(stage: &mut Stage)
-    ensures { stage.new ≡ Stage.Stopped Fault.OutOfMemory Table.Meta }
-{
-    drop(mem::replace(stage, Stage::Stopped(Fault::OutOfMemory, Table::Meta)));
-}
-
 /// Adds a row of a table to the stage. A stage that is past the table stops with `BadStore`; any
 /// other that has stopped keeps its fault.
 pub fn add_row(

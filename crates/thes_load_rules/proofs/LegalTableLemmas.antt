@@ -28,7 +28,7 @@ use Rattle.thes_load_rules.specs.Verdicts.{HasVerdict}
 use Rattle.thes_load_rules.proofs.RowListLemmas.{in_numbered, numbered_unmap, set_of_lists}
 use Rattle.thes_load_rules.proofs.LinkTableLemmas.{same_links}
 use Rattle.thes_load_rules.proofs.MoveOrderLemmas.{own_moves, numbered_in_order, row_count_is_move_count}
-use Rattle.thes_load_rules.proofs.OpenTableLemmas.{IsOpen, loads_open}
+use Rattle.thes_load_rules.proofs.OpenTableLemmas.{AllTablesPass, loads_open}
 
 -- If the tables encode a legal state, the state computed from them is that state.
 module _ (base : List ℕ) (s : State) (t : Tables) (legal : IsLegalState base s) (are : IsRowsOf base s t) where
@@ -149,7 +149,7 @@ module _ (t : Tables) (legal : IsLegalState t.base (state_of t)) (are : IsRowsOf
   }
 
   -- All tables meet their rules.
-  held_open : IsOpen (cells_of_tables t) t
+  held_open : AllTablesPass (cells_of_tables t) t
   held_open = record {
     meta = (refl, forms.base_form);
     resource = grind (arith, common_steps);

@@ -27,7 +27,7 @@ use Rattle.thes_load_rules.proofs.LinkTableLemmas.{link_lists, hier_lists}
 use Rattle.thes_load_rules.proofs.MoveCountLemmas.{row_of_move, move_of_row, has_of_in, in_of_has, all_of_in}
 use Rattle.thes_load_rules.proofs.MoveCountLemmas.{rows_counted_as_moves}
 use Rattle.thes_load_rules.proofs.MoveOrderLemmas.{rises_of_order}
-use Rattle.thes_load_rules.proofs.OpenTableLemmas.{IsOpen, open_of, open_listed}
+use Rattle.thes_load_rules.proofs.OpenTableLemmas.{AllTablesPass, open_of, open_listed}
 
 -- Two rows of table move with the same posting and the same move are equal.
 row_one : (x y : MoveRow) → x.posting ≡ y.posting → recorded_move x ≡ recorded_move y → x ≡ y
@@ -180,7 +180,7 @@ module _ (rs : List Resource) (P : List PostingRow) (M : List MoveRow) (posting 
           (subst (IsIn (recorded_move row)) (history_moves row.posting h at) there) in
           subst (λ r. IsIn r M) (row_one own.0 row (own.2 ∙ history_number row.posting h at) own.3) own.1
 
-module _ (raw : Raw) (t : Tables) (all : IsOpen raw t) where
+module _ (raw : Raw) (t : Tables) (all : AllTablesPass raw t) where
   state_has_forms : StateHasForms t.base (state_of t)
   state_has_forms = record {
     base_form = all.meta.1;

@@ -12,7 +12,7 @@ use Rattle.thes_load_rules.specs.Rules.{ResourceRule, OutsideRule, LabelRule, Li
 use Rattle.thes_load_rules.specs.Verdicts.{IsTable, IsMeta, HasVersion, IsNewer, IsOlder, HasVerdict}
 
 -- All tables meet their rules.
-pub record IsOpen (raw : Raw) (t : Tables) : Type 0 where
+pub record AllTablesPass (raw : Raw) (t : Tables) : Type 0 where
   pub meta : IsMeta raw.meta t.base
   pub resource : IsTable (resource_rows 1) ResourceRule raw.resource t.resource
   pub outside : IsTable (map outside_cells) (OutsideRule t.base t.resource) raw.outside t.outside
@@ -48,14 +48,14 @@ pub pass_meta : {F G H : Type 0} {Rest : List ℕ → Type 0} (raw : RawTable) (
 pass_meta raw base meta rest = inr (not_newer raw base meta, inr (not_older raw base meta, inr (base, meta, rest)))
 
 -- If the tables load, all of them meet their rules.
-pub open_of : (raw : Raw) (t : Tables) → HasVerdict raw (Ok t) → IsOpen raw t
+pub open_of : (raw : Raw) (t : Tables) → HasVerdict raw (Ok t) → AllTablesPass raw t
 open_of raw t loads = grind (arith, common_steps, no_fault)
 
-pub loads_open : (raw : Raw) (t : Tables) → IsOpen raw t → HasVerdict raw (Ok t)
+pub loads_open : (raw : Raw) (t : Tables) → AllTablesPass raw t → HasVerdict raw (Ok t)
 loads_open raw t all = pass_meta raw.meta t.base all.meta (pass t.resource all.resource (pass t.outside all.outside
     (pass t.label all.label (pass t.link all.link (pass t.hier all.hier (pass t.posting all.posting
     (pass t.move all.move refl)))))))
 
 -- If all tables meet their rules, the rows of cells are those of the tables.
-pub open_listed : (raw : Raw) (t : Tables) → IsOpen raw t → raw ≡ cells_of_tables t
+pub open_listed : (raw : Raw) (t : Tables) → AllTablesPass raw t → raw ≡ cells_of_tables t
 open_listed raw t all = grind (arith, common_steps)

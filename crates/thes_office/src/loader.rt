@@ -14,7 +14,8 @@ use thes_base::data::Limits;
 use thes_base::fault::{Fault, Table};
 use thes_core::Core;
 use thes_load_rows::stage::Stage;
-use thes_load_rows::turns::{add_row, run_out, stage_after_unqueried};
+use thes_load_rows::stage_steps::stop_out_of_memory;
+use thes_load_rows::turns::{add_row, stage_after_unqueried};
 use thes_store::sink::RowSink;
 use thes_tables::cells::Cell;
 
@@ -114,7 +115,7 @@ impl RowSink for Loader {
     // Loading).
     fn row(&mut self, table: Table, row: &[Cell]) -> Result<(), Fault> {
         if add_row(&mut self.stage, self.alloc, table, row).is_err() {
-            run_out(&mut self.stage);
+            stop_out_of_memory(&mut self.stage);
             return Err(Fault::OutOfMemory);
         }
         Ok(())

@@ -10,7 +10,7 @@ use Rattle.thes_tables.specs.Cells.{Raw, RawTable, cells_of_tables}
 use Rattle.thes_load_rules.specs.Rules.{state_of}
 use Rattle.thes_load_rules.specs.Verdicts.{HasVerdict}
 use Rattle.thes_load_rules.proofs.LegalTableLemmas.{held_loads}
-use Rattle.thes_load_rules.proofs.OpenTableLemmas.{IsOpen, open_of}
+use Rattle.thes_load_rules.proofs.OpenTableLemmas.{AllTablesPass, open_of}
 use Rattle.thes_load_rules.proofs.OneVerdictLemmas.{loads_single}
 use Rattle.thes_load_rules.proofs.LoadedStateLemmas.{loaded_state_legal}
 use Rattle.thes_core.specs.CoreView.{CoreView, IsViewOf}
@@ -80,8 +80,8 @@ tables_of_sorted raw other sorted again same s t = record {
 
 -- If the rows of tables load, sorting an arrangement of them gives the same rows, with each
 -- numbered table sorted.
-tables_of_listed : (t : Tables) (raw sorted : Raw) → IsOpen (cells_of_tables t) t → AreArranged (cells_of_tables t)
-    raw → AreSorted raw sorted → AreTables (cells_of_tables t) sorted
+tables_of_listed : (t : Tables) (raw sorted : Raw) → AllTablesPass (cells_of_tables t) t
+    → AreArranged (cells_of_tables t) raw → AreSorted raw sorted → AreTables (cells_of_tables t) sorted
 tables_of_listed t raw sorted all same s = record {
   meta = subst (IsArranged (cells_of_tables t).meta) (sym s.meta) same.meta;
   resource = sorted_cells _ raw.resource sorted.resource (resources_rise 1 t.resource) same.resource s.resource;

@@ -70,8 +70,8 @@ pub record EditsTable (old : Trees) (edit : Edit) (new : Trees) : Type 0 where
   pub others : LeavesOtherTables edit.table.tree old new
 
 -- A write to the table changes no other table of a store.
-abbrev pub IsAlone : Schema → Table → Type 0
-IsAlone schema table = (db next : Trees) (edit : Edit) → edit.table ≡ table
+abbrev pub WritesOnlyItself : Schema → Table → Type 0
+WritesOnlyItself schema table = (db next : Trees) (edit : Edit) → edit.table ≡ table
     → Writes schema Enforced db edit (Ok next) → EditsTable db edit next
 
 -- The table that a foreign key's action changes is none of those of a store.
@@ -190,6 +190,6 @@ module _ (added : Additions) (apart : AllByRecursion IsApart added.tables) (keys
 
 -- A write to a table of a store changes no other table of the store, whatever additions the schema has.
 pub writes_alone : (added : Additions) → AllByRecursion IsApart added.tables → (at : ℕ) (table : Table)
-    → slice_get store_tables at ≡ Some table → IsAlone (schema_with added) table
+    → slice_get store_tables at ≡ Some table → WritesOnlyItself (schema_with added) table
 writes_alone added apart at table is db next edit same h =
     edited_once added apart Enforced at db next edit (is ∙ ap (λ (t : Table). Some t) (sym same)) h

@@ -27,7 +27,7 @@ use Rattle.sqlite_schema.specs.declared.program.Program.{Program}
 use Rattle.sqlite_rules.specs.Calls.{ids_of}
 use Rattle.sqlite.specs.State.{State, mode_of, Writes}
 use Rattle.sqlite_schema.specs.declared.schema.Keys.TheVariants.{Enforced}
-use Rattle.thes_sql.proofs.ForeignKeyLemmas.{EditsTable, IsAlone}
+use Rattle.thes_sql.proofs.ForeignKeyLemmas.{EditsTable, WritesOnlyItself}
 
 cond_same : (b : Bool) (x : Value) → cond b x x ≡ x
 cond_same true x = refl
@@ -95,7 +95,7 @@ read_then task q given db edit rows w h = grind (arith, common_steps)
 -- Assumes a statement on the table at this position of the schema.
 module _ (schema : Schema) (at : ℕ) (table : Table) (params : Row) (text : List ℕ) (old new : State) (count : ℕ)
     (has : old.now.schema ≡ schema) (is : slice_get schema.tables at ≡ Some table)
-    (alone : IsAlone schema table) where
+    (alone : WritesOnlyItself schema table) where
   abbrev task : Task
   task = record { limit = old.step_limit; keys = Enforced; schema = schema; table = table; params = params }
 

@@ -37,16 +37,16 @@ abbrev pub is_strict : List ℕ → Column → Bool
 is_strict name c = same_name c.name name && (c.is_strict && is_binary c.collation)
 
 -- Whether the column has this name, and takes only integers or NULL.
-abbrev pub is_key : List ℕ → Column → Bool
-is_key name c = is_strict name c && (is_integer c.kind && not c.not_null)
+abbrev pub is_optional_number : List ℕ → Column → Bool
+is_optional_number name c = is_strict name c && (is_integer c.kind && not c.not_null)
 
 -- Whether the column has this name, and takes only integers.
 abbrev pub is_number : List ℕ → Column → Bool
 is_number name c = is_strict name c && (is_integer c.kind && c.not_null)
 
 -- Whether the column has this name, and takes only texts.
-abbrev pub is_words : List ℕ → Column → Bool
-is_words name c = is_strict name c && (is_text c.kind && c.not_null)
+abbrev pub is_text_column : List ℕ → Column → Bool
+is_text_column name c = is_strict name c && (is_text c.kind && c.not_null)
 
 -- Whether the column is declared NOT NULL.
 abbrev pub needs_value : Column → Bool
@@ -59,27 +59,29 @@ are_optional columns = not (list_any needs_value columns)
 -- Whether the columns are those of table meta, perhaps followed by columns that may be NULL.
 abbrev pub has_meta_columns : List Column → Bool
 has_meta_columns (one ∷ version ∷ base ∷ more) =
-    is_key (codes "one") one && (is_number (codes "version") version &&
-    (is_words (codes "base") base && are_optional more))
+    is_optional_number (codes "one") one && (is_number (codes "version") version &&
+    (is_text_column (codes "base") base && are_optional more))
 has_meta_columns _ = false
 
 -- Whether the columns are those of table resource, perhaps followed by columns that may be NULL.
 abbrev pub has_resource_columns : List Column → Bool
 has_resource_columns (num ∷ kind ∷ scheme ∷ live ∷ replaced ∷ more) =
-    is_key (codes "num") num && (is_number (codes "kind") kind && (is_key (codes "scheme") scheme
-    && (is_number (codes "live") live && (is_key (codes "replaced") replaced && are_optional more))))
+    is_optional_number (codes "num") num && (is_number (codes "kind") kind
+    && (is_optional_number (codes "scheme") scheme && (is_number (codes "live") live
+    && (is_optional_number (codes "replaced") replaced && are_optional more))))
 has_resource_columns _ = false
 
 -- Whether the columns are those of table outside, perhaps followed by columns that may be NULL.
 abbrev pub has_outside_columns : List Column → Bool
-has_outside_columns (num ∷ iri ∷ more) = is_key (codes "num") num && (is_words (codes "iri") iri && are_optional more)
+has_outside_columns (num ∷ iri ∷ more) =
+    is_optional_number (codes "num") num && (is_text_column (codes "iri") iri && are_optional more)
 has_outside_columns _ = false
 
 -- Whether the columns are those of table label, perhaps followed by columns that may be NULL.
 abbrev pub has_label_columns : List Column → Bool
 has_label_columns (owner ∷ kind ∷ tag ∷ text ∷ more) =
-    is_number (codes "owner") owner && (is_number (codes "kind") kind && (is_words (codes "tag") tag
-    && (is_words (codes "text") text && are_optional more)))
+    is_number (codes "owner") owner && (is_number (codes "kind") kind && (is_text_column (codes "tag") tag
+    && (is_text_column (codes "text") text && are_optional more)))
 has_label_columns _ = false
 
 -- Whether the columns are three columns of integers with these names, as in tables link and hier, perhaps followed by
@@ -92,7 +94,8 @@ has_three_columns first second third _ = false
 -- Whether the columns are those of table posting, perhaps followed by columns that may be NULL.
 abbrev pub has_posting_columns : List Column → Bool
 has_posting_columns (num ∷ pkey ∷ record_name ∷ first ∷ place ∷ withdrawn ∷ more) =
-    is_key (codes "num") num && (is_words (codes "pkey") pkey && (is_words (codes "record") record_name
+    is_optional_number (codes "num") num && (is_text_column (codes "pkey") pkey
+    && (is_text_column (codes "record") record_name
     && (is_number (codes "first_at") first && (is_number (codes "at") place
     && (is_number (codes "withdrawn") withdrawn && are_optional more)))))
 has_posting_columns _ = false
@@ -100,7 +103,7 @@ has_posting_columns _ = false
 -- Whether the columns are those of table move, perhaps followed by columns that may be NULL.
 abbrev pub has_move_columns : List Column → Bool
 has_move_columns (num ∷ more) =
-    is_key (codes "num") num && has_three_columns (codes "posting") (codes "source") (codes "target") more
+    is_optional_number (codes "num") num && has_three_columns (codes "posting") (codes "source") (codes "target") more
 has_move_columns _ = false
 
 -- Whether the columns are those that a store's table of this name has, perhaps followed by columns that may be NULL.

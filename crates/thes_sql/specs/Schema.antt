@@ -18,8 +18,8 @@ column_of kind required name =
     record { name = name; kind = kind; is_strict = true; not_null = required; default = Null; collation = Binary }
 
 -- A column of integers that may be NULL.
-abbrev pub key_column : List ℕ → Column
-key_column = column_of Integer false
+abbrev pub optional_number_column : List ℕ → Column
+optional_number_column = column_of Integer false
 
 -- A column of integers that mustn't be NULL.
 abbrev pub number_column : List ℕ → Column
@@ -58,21 +58,21 @@ set_table name columns places = plain_table name columns None places (places ∷
 
 -- Table meta: one row with the version and the base.
 abbrev pub meta_table : Table
-meta_table = numbered_table (codes "meta") (key_column (codes "one") ∷ number_column (codes "version") ∷ text_column
-    (codes "base") ∷ []) [] []
+meta_table = numbered_table (codes "meta")
+    (optional_number_column (codes "one") ∷ number_column (codes "version") ∷ text_column (codes "base") ∷ []) [] []
 
 -- Table resource: each scheme, concept, collection and outside concept, by number.
 abbrev pub resource_table : Table
 resource_table = numbered_table (codes "resource")
-    (key_column (codes "num") ∷ number_column (codes "kind") ∷ key_column (codes "scheme") ∷ number_column
-    (codes "live")
-    ∷ key_column (codes "replaced") ∷ []) [] []
+    (optional_number_column (codes "num") ∷ number_column (codes "kind") ∷ optional_number_column (codes "scheme")
+    ∷ number_column (codes "live")
+    ∷ optional_number_column (codes "replaced") ∷ []) [] []
 
 -- Table outside: the IRI of each outside concept.
 abbrev pub outside_table : Table
 outside_table =
-    numbered_table (codes "outside") (key_column (codes "num") ∷ text_column (codes "iri") ∷ []) ((2 ∷ []) ∷ [])
-    (plain ∷ [])
+    numbered_table (codes "outside") (optional_number_column (codes "num") ∷ text_column (codes "iri") ∷ [])
+    ((2 ∷ []) ∷ []) (plain ∷ [])
 
 -- Table label: the labels and notes of all resources.
 abbrev pub label_table : Table
@@ -95,15 +95,15 @@ hier_table = set_table (codes "hier") (number_column (codes "a") ∷ number_colu
 -- withdrawn.
 abbrev pub posting_table : Table
 posting_table = numbered_table (codes "posting")
-    (key_column (codes "num") ∷ text_column (codes "pkey") ∷ text_column (codes "record") ∷ number_column
+    (optional_number_column (codes "num") ∷ text_column (codes "pkey") ∷ text_column (codes "record") ∷ number_column
     (codes "first_at")
     ∷ number_column (codes "at") ∷ number_column (codes "withdrawn") ∷ []) ((2 ∷ []) ∷ []) (plain ∷ [])
 
 -- Table move: the moves of all postings, by number.
 abbrev pub move_table : Table
 move_table = numbered_table (codes "move")
-    (key_column (codes "num") ∷ number_column (codes "posting") ∷ number_column (codes "source") ∷ number_column
-    (codes "target") ∷ []) [] []
+    (optional_number_column (codes "num") ∷ number_column (codes "posting") ∷ number_column (codes "source")
+    ∷ number_column (codes "target") ∷ []) [] []
 
 -- An index that isn't unique, on the table in this tree. `columns` are the positions of its columns, counted from 1.
 abbrev pub index_of : List ℕ → ℕ → List ℕ → Index

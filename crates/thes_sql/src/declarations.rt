@@ -42,8 +42,8 @@ fn is_strict(column: &Column, name: &str) -> bool
 }
 
 // Checks whether a column is declared with this name, and takes only integers or NULL.
-fn is_key(column: &Column, name: &str) -> bool
-    ensures { result ≡ wanted.is_key name.now column.now }
+fn is_optional_number(column: &Column, name: &str) -> bool
+    ensures { result ≡ wanted.is_optional_number name.now column.now }
 {
     is_strict(column, name) && is_integer(column.kind) && !column.not_null
 }
@@ -56,8 +56,8 @@ fn is_number(column: &Column, name: &str) -> bool
 }
 
 // Checks whether a column is declared with this name, and takes only texts.
-fn is_words(column: &Column, name: &str) -> bool
-    ensures { result ≡ wanted.is_words name.now column.now }
+fn is_text_column(column: &Column, name: &str) -> bool
+    ensures { result ≡ wanted.is_text_column name.now column.now }
 {
     is_strict(column, name) && is_text(column.kind) && column.not_null
 }
@@ -83,9 +83,9 @@ fn has_meta_columns(columns: &[Column]) -> bool
 {
     match columns {
         [one, version, base, more @ ..] => {
-            is_key(one, "one")
+            is_optional_number(one, "one")
                 && is_number(version, "version")
-                && is_words(base, "base")
+                && is_text_column(base, "base")
                 && are_optional(more)
         }
         _ => false,
@@ -99,11 +99,11 @@ fn has_resource_columns(columns: &[Column]) -> bool
 {
     match columns {
         [num, kind, scheme, live, replaced, more @ ..] => {
-            is_key(num, "num")
+            is_optional_number(num, "num")
                 && is_number(kind, "kind")
-                && is_key(scheme, "scheme")
+                && is_optional_number(scheme, "scheme")
                 && is_number(live, "live")
-                && is_key(replaced, "replaced")
+                && is_optional_number(replaced, "replaced")
                 && are_optional(more)
         }
         _ => false,
@@ -117,7 +117,7 @@ fn has_outside_columns(columns: &[Column]) -> bool
 {
     match columns {
         [num, iri, more @ ..] => {
-            is_key(num, "num") && is_words(iri, "iri") && are_optional(more)
+            is_optional_number(num, "num") && is_text_column(iri, "iri") && are_optional(more)
         }
         _ => false,
     }
@@ -132,8 +132,8 @@ fn has_label_columns(columns: &[Column]) -> bool
         [owner, kind, tag, text, more @ ..] => {
             is_number(owner, "owner")
                 && is_number(kind, "kind")
-                && is_words(tag, "tag")
-                && is_words(text, "text")
+                && is_text_column(tag, "tag")
+                && is_text_column(text, "text")
                 && are_optional(more)
         }
         _ => false,
@@ -160,9 +160,9 @@ fn has_posting_columns(columns: &[Column]) -> bool
 {
     match columns {
         [num, pkey, record, first, place, withdrawn, more @ ..] => {
-            is_key(num, "num")
-                && is_words(pkey, "pkey")
-                && is_words(record, "record")
+            is_optional_number(num, "num")
+                && is_text_column(pkey, "pkey")
+                && is_text_column(record, "record")
                 && is_number(first, "first_at")
                 && is_number(place, "at")
                 && is_number(withdrawn, "withdrawn")
@@ -178,7 +178,7 @@ fn has_move_columns(columns: &[Column]) -> bool
     ensures { result ≡ wanted.has_move_columns columns.now }
 {
     match columns {
-        [num, more @ ..] => is_key(num, "num")
+        [num, more @ ..] => is_optional_number(num, "num")
             && has_three_columns(more, "posting", "source", "target"),
         _ => false,
     }

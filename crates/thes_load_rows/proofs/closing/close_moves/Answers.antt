@@ -1,6 +1,6 @@
 use Rattle.std.proofs.Common.{◌∙◌}
 use Rattle.thes_load_rows.proofs.LoadResultLemmas.{move_good, move_bad}
-use Rattle.thes_load_rows.proofs.stage_steps.close_moves.Goals as goal
+use Rattle.thes_load_rows.proofs.closing.close_moves.Goals as goal
 
 pub returns-then-close : goal.returns-then-close
 returns-then-close c = λ raw h.
