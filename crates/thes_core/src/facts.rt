@@ -45,8 +45,8 @@ impl Facts {
         ensures some { IfSome result (λ answer. (state : State)
             → AreFacts command.now state.histories self.now
             → IsKnownKeyAnswer command.now state answer) }
-        ensures none { IfNone result ((state : State) → AreFacts command.now state.histories self.now
-            → HasNewKey command.now state) }
+        ensures none { IfNone result ((state : State)
+            → AreFacts command.now state.histories self.now → HasNewKey command.now state) }
     {
         let Command::Post(_, rec, concept) = command else {
             return None;

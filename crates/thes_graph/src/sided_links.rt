@@ -91,8 +91,8 @@ pub fn count_before(row: &[SidedLink], number: u8) -> usize
     search_before(row, number)
 }
 
-// Returns what `count_until` does: looks at the first `MOST_SCANNED` links one by one, and then calls
-// `search_until`.
+// Returns what `count_until` does: looks at the first `MOST_SCANNED` links one by one, and then
+// calls `search_until`.
 #[inline(always)]
 fn scan_until(row: &[SidedLink], number: u8) -> usize
     ensures bound { result ≤ length row.now }

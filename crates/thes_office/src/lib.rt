@@ -2,7 +2,7 @@
 //! memory of all but postings.
 #![tactic(auto)]
 
-mod decided;
+mod decisions;
 mod facts;
 mod group;
 mod keeper_load;
