@@ -64,7 +64,7 @@ pub fn work_in_memory<T: Devices>(
         progress: _,
     } = job;
     let StoreSetting { base, limits } = setting;
-    // No effect; states for the proof that the base has its form.
+    // No effect; for the proof, states that the base has its form.
     let _ = base.as_str();
     let keeper = MemKeeper::new(given.alloc, base);
     let (status, keeper) = work_over_keeper(given, work, keeper, limits, None);

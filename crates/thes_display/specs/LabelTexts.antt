@@ -32,7 +32,7 @@ pub record AreSortedTexts (n : ℕ) (texts : List (List ℕ)) (terms : List Term
   pub same : IsPermutation (map (term_with n) texts) terms
   pub order : IsSorted term_cmp terms
 
--- The lines of a symbol for these terms.
+-- The lines with this symbol, one for each of these terms, in their order.
 abbrev pub term_lines : Symbol → List Term → List ℕ
 term_lines symbol terms = flat_map (λ (t : Term). entry_line (symbol_text symbol) t.text) terms
 

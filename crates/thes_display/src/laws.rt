@@ -2,19 +2,19 @@
 ghost use Rattle.thes_display.specs.Alphabetical.{HasOneAlphabetical};
 ghost use Rattle.thes_display.specs.Hierarchical.{EachHasOneHome, HasOneHierarchical};
 
-/// No effect; states for the proof that a scheme of a state has at most one alphabetical display in
-/// a language.
+/// No effect; for the proof, states that a scheme of a state has at most one alphabetical display
+/// in a language.
 pub fn one_alphabetical()
     ensures { HasOneAlphabetical }
 {}
 
-/// No effect; states for the proof that a scheme of a state has at most one hierarchical display in
-/// a language.
+/// No effect; for the proof, states that a scheme of a state has at most one hierarchical display
+/// in a language.
 pub fn one_hierarchical()
     ensures { HasOneHierarchical }
 {}
 
-/// No effect; states for the proof that in the hierarchical display of a legal state each live
+/// No effect; for the proof, states that in the hierarchical display of a legal state each live
 /// concept of the scheme has exactly one line at home: as a top concept, or below the broader
 /// concept that is its home.
 pub fn one_home()

@@ -69,7 +69,7 @@ fn add_member(
     requires listed { AreMembersUpTo core.now i members.old }
     ensures { OnOk result (AreMembersUpTo core.now (i + 1) members.new) }
 {
-    // No effect; states for the proof that there are fewer than 2³² resources.
+    // No effect; for the proof, states that there are fewer than 2³² resources.
     let _resources = core.resources();
     let n = ResNo::new(i as u32 + 1);
     let collections = core.collections_of(alloc, n)?;

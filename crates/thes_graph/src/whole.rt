@@ -47,8 +47,8 @@ fn has_cycle<L: Links>(
     Ok(false)
 }
 
-// Appends these nodes to those whose class of exact matches has been checked, unless they are
-// there.
+// Appends to the nodes whose class of exact matches has been checked each of these nodes that isn't
+// among them yet.
 fn add_done(done: &mut Nodes, nodes: &[ResNo]) -> Result<(), AllocError>
     ensures { OnOk result (GrowsBy done.old done.new (Contains nodes.now)) }
 {

@@ -85,7 +85,7 @@ fn import_bytes<W: Write, K: Keeper>(
         office.old office.new file.now result }
     ensures paid { PaysCalls writer.old writer.new budget.old budget.new }
 {
-    // No effect; states for the proof that the tables encode a state.
+    // No effect; for the proof, states that the tables encode a state.
     let _ = office.is_stale();
     let mut reader = match open_rows(alloc, file) {
         Ok(reader) => reader,

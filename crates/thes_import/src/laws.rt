@@ -5,13 +5,13 @@ ghost use Rattle.thes_import.specs.RepeatedImport.{ImportsAgain};
 pub use thes_posting_files::laws::answers_again;
 use thes_store::keeper::Keeper;
 
-/// No effect; states for the proof that a file and the state before determine the report of an
-/// import, and the state after it, over any two storages and unless a fault halts it.
+/// No effect; for the proof, states that a file and the state before determine the report of an
+/// import and the state after it, whichever storages are used, unless a fault halts the import.
 pub fn one_import<K: Keeper, L: Keeper>()
     ensures { HasOneImport K.view L.view }
 {}
 
-/// No effect; states for the proof that importing a file again, with no other request between,
+/// No effect; for the proof, states that importing a file again, with no other request between,
 /// changes no table: accepted rows are answered with the same postings' numbers, refused rows
 /// change nothing, and other rows have the same faults.
 pub fn imports_again()

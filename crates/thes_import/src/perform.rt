@@ -27,7 +27,7 @@ pub(crate) fn import_block<K: Keeper>(
     ensures imports { ImportsBlock K.view office.old reader.old report.old result report.new
         reader.new office.new }
 {
-    // No effect; states for the proof that the tables encode a state.
+    // No effect; for the proof, states that the tables encode a state.
     let _ = office.is_stale();
     read_block(alloc, reader, block)?;
     // Room for the lines is made first, so that no row is performed without its line.

@@ -29,7 +29,7 @@ pub fn import_postings<K: Keeper>(
         (fault_in result) }
     ensures imports { Imports K.view office.old file.now result office.new }
 {
-    // No effect; states for the proof that the tables encode a state.
+    // No effect; for the proof, states that the tables encode a state.
     let _ = office.is_stale();
     let mut reader = match open_rows(alloc, file) {
         Ok(reader) => reader,

@@ -72,7 +72,7 @@ module _ (rs : List Resource) (ps : List PostingRow) (taken : ℕ) (places : Lis
     known = let b = numbered_bound places r.posting r.source next.source_place in let f = has.place_is.fit in
         numbered_some ps r.posting b.0 (let q = b.1 in omega (arith, q, f))
 
-    -- The place of the row's posting, after the moves before the row, is the row's source.
+    -- The source of the row's move is the place to which the moves before it have led its posting.
     from_here : (n : ℕ) (p : PostingRow) → entry_at ps n ≡ Some p → r.posting ≡ p.number → r.source
         ≡ place_after_moves p.first (moves_of p.number rows)
     from_here n p e same = same_Some _ _ (sym next.source_place ∙ ap (entry_at places) (same ∙ has.order n p e)

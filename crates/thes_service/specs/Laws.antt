@@ -1,5 +1,6 @@
--- The laws of an office's answers: unless a failure is reported, the bytes of requests over HTTP, or of a script, and
--- the state before determine the responses, or the output, and the state after.
+-- The laws of an office's answers. Unless a failure is reported, the bytes of HTTP requests and the state before
+-- determine the responses and the state after; so do the bytes of a script and the state before its output and the
+-- state after.
 use Rattle.std.specs.Prelude.{◌≡◌, ◌⊎◌, ◌++◌, ℕ, Bool, List, map}
 use Rattle.std.specs.List.{AllByRecursion}
 use Rattle.thes_base.specs.declared.fault.Fault.TheVariants.{OutOfMemory, Store}

@@ -179,7 +179,7 @@ pub fn office_script<K: Keeper, M: PlanMode, R: Read, W: Write>(
     ensures reached { IsReachedByRun K.view handler.old handler.new }
     ensures calls { KeepsSharedCallLimit reader.old reader.new writer.old writer.new }
 {
-    // No effect; states for the proof that the tables encode a state.
+    // No effect; for the proof, states that the tables encode a state.
     let _ = handler.office.is_stale();
     script(alloc, reader, writer, handler)
 }
@@ -202,7 +202,7 @@ pub fn office_serve<N: Net + Clock, K: Keeper, M: PlanMode>(
     ensures served { LeadsBy (office_behaviour K.view M.takes) count handler.old handler.new }
     ensures reached { IsReachedByRun K.view handler.old handler.new }
 {
-    // No effect; states for the proof that the tables encode a state.
+    // No effect; for the proof, states that the tables encode a state.
     let _ = handler.office.is_stale();
     serve::<N, OfficeHandler<K, M>>(alloc, clock, listener, count, handler)
 }

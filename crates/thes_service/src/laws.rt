@@ -3,20 +3,21 @@ ghost use Rattle.thes_service.specs.Laws.{HasOneListOfResponses, HasOneOfficeAns
 
 use thes_store::keeper::Keeper;
 
-/// No effect; states for the proof that the bytes, the limits and the state before determine the
+/// No effect; for the proof, states that the bytes, the limits and the state before determine the
 /// response and the state after it, over any two storages, unless memory runs out or a storage
 /// fails.
 pub fn one_office_answer<K: Keeper, L: Keeper>()
     ensures { HasOneOfficeAnswer K.view L.view }
 {}
 
-/// No effect; states for the proof that the bytes of requests, in their order, and the state before
-/// determine the responses and the state after them, unless memory runs out or a storage fails.
+/// No effect; for the proof, states that the bytes of requests, in their order, and the state
+/// before determine the responses and the state after them, unless memory runs out or a storage
+/// fails.
 pub fn one_list_of_responses<K: Keeper, L: Keeper>()
     ensures { HasOneListOfResponses K.view L.view }
 {}
 
-/// No effect; states for the proof that the bytes of a script and the state before determine its
+/// No effect; for the proof, states that the bytes of a script and the state before determine its
 /// output and the state after it, unless a line is answered with a fault.
 pub fn one_script<K: Keeper, L: Keeper>()
     ensures { HasOneScript K.view L.view }

@@ -171,7 +171,7 @@ pub fn close_files<D: Disk + Drop>(
     ensures { IfOk result (λ files. AreClean D.Disk files.log files.db
         → ClosesFiles D.Disk (file_state conn) files) }
 {
-    // No effect; states for the proof that the schema is that which the database lists.
+    // No effect; for the proof, states that the schema is that which the database lists.
     let _ = conn.schema();
     conn.close_files()
 }

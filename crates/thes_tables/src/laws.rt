@@ -3,13 +3,13 @@
 ghost use Rattle.thes_tables.specs.ChangeLaw.{ChangesLead};
 ghost use Rattle.thes_tables.specs.OldRows.{MigrationKeepsState};
 
-/// No effect; states for the proof that tables encode a state in version 1 of the schema exactly
+/// No effect; for the proof, states that tables encode a state in version 1 of the schema exactly
 /// when the migrated tables encode it in version 2.
 pub fn migration_keeps_state()
     ensures { MigrationKeepsState }
 {}
 
-/// No effect; states for the proof that the changes of a request that is accepted in a legal state
+/// No effect; for the proof, states that the changes of a request that is accepted in a legal state
 /// turn the rows of that state into those of the next state.
 pub fn changes_lead()
     ensures { ChangesLead }

@@ -188,7 +188,8 @@ preferred_searched own tag (Err i) sorted bound found = λ text has. go text has
         (λ l. preferred_ord tag l ≡ Greater) own i → ⊥
     go text has p = grind (arith, common_steps, cases_lt, none)
 
--- A preferred label at an index is a member of the list.
+-- If the label at an index is preferred in the language and has the text, the list has the text as a preferred label in
+-- the language.
 pub preferred_at : (own : List LabelData) (tag text : List ℕ) (place : ℕ) (l : LabelData)
     → IsPreferredAt own tag place → get_or own place l ≡ l → l.text ≡ text → HasOwnPreferred own tag text
 preferred_at own tag text place l at is e = grind (arith, common_steps, list_any_at, tie_of_label_data)

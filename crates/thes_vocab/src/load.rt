@@ -101,7 +101,7 @@ impl VocabLoad {
         have_iris(self.resources.as_slice(), &self.iris)
     }
 
-    /// No effect; states for the proof what holds of the rows loaded so far.
+    /// No effect; for the proof, states what holds of the rows loaded so far.
     pub fn learn_rows_so_far(&self)
         ensures sound { AreSound self.now.resources }
         ensures iris { AreIrisSoFar self.now.base self.now.resources self.now.iris }

@@ -33,7 +33,7 @@ fn normal<L: Links>(links: &L, link: &Link) -> Link
     normalize_ends(link, links.is_outside(link.a) || links.is_outside(link.b))
 }
 
-// No effect; states for the proof that each link held has two different ends.
+// No effect; for the proof, states that each link held has two different ends.
 fn learn_two_ends<L: Links>(links: &L, n: ResNo)
     ensures { HaveTwoEnds (Holds (L.net links.now).links) }
 {
