@@ -122,8 +122,8 @@ pub fn is_import(task: &Task) -> bool
 }
 
 /// Returns what to do with the database of a store once it is open: make its tables, if it was
-/// opened for a new store and has none (`is_blank`), or else remove the mark of an unfinished store,
-/// unless the task only reads (`reads_only`).
+/// opened for a new store and has none (`is_blank`), or else remove the mark of an unfinished
+/// store, unless the task only reads (`reads_only`).
 pub fn preparation_of(opening: Opening, is_blank: bool, reads_only: bool) -> Preparation
     ensures { result ≡ choices.preparation_of opening is_blank reads_only }
 {
