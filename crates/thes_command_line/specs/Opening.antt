@@ -10,8 +10,8 @@ use Rattle.std.specs.declared.io.ErrorKind.TheVariants.{NotFound}
 use Rattle.thes_base.specs.Types.{Bytes}
 use Rattle.thes_base.specs.declared.fault.Fault.{Fault}
 use Rattle.thes_base.specs.declared.fault.Fault.TheVariants.{Store}
+use Rattle.thes_command_line.specs.CommandLine.{only_reads}
 use Rattle.thes_command_line.specs.declared.arguments.Task.{Task}
-use Rattle.thes_command_line.specs.declared.arguments.Task.TheVariants as tasks
 use Rattle.thes_command_line.specs.declared.opening.FileState.{FileState}
 use Rattle.thes_command_line.specs.declared.opening.FileState.TheVariants as found
 use Rattle.thes_command_line.specs.declared.opening.Opening.{Opening}
@@ -29,14 +29,6 @@ IsFileState (Ok metadata) found.Other = ¬ IsFile (file_type metadata)
 IsFileState (Err error) found.Absent = error_kind error ≡ NotFound
 IsFileState (Err error) (found.Bytes n) = ⊥
 IsFileState (Err error) found.Other = error_kind error ≢ NotFound
-
--- Whether a task only reads the store: a check, an export and the displays do.
-abbrev pub only_reads : Task → Bool
-only_reads tasks.Check = true
-only_reads tasks.Export = true
-only_reads (tasks.Alphabetical options) = true
-only_reads (tasks.Hierarchical options) = true
-only_reads _ = false
 
 -- A task that only reads makes no store, and fails with this trouble; every other task makes the store.
 abbrev pub new_store : Task → StoreTrouble → Result Opening StoreTrouble
@@ -64,11 +56,6 @@ opening_of task found.Absent is_marked = new_store task troubles.NoFile
 opening_of task (found.Bytes n) is_marked =
     if n == 0 then new_store task troubles.NotDatabase else opening_of_file task n is_marked
 opening_of task found.Other is_marked = Ok Existing
-
--- Whether a task imports a posting file.
-abbrev pub is_import : Task → Bool
-is_import (tasks.Import file) = true
-is_import _ = false
 
 -- What to do with the database of a store once it is open: a blank one that was opened for a new store gets its tables;
 -- else the mark of an unfinished store is removed, but not for a task that only reads.

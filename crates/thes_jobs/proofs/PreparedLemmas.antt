@@ -11,7 +11,8 @@ use Rattle.thes_sql.specs.StoredRows.{KeepsIn}
 use Rattle.thes_sql.specs.TransactionEffects.{IsEmpty}
 use Rattle.thes_sqlite.specs.DatabaseFiles.{IsInitialStore, HoldsStore, ServesFiles}
 use Rattle.thes_sqlite.specs.KeeperView.{ServesTables}
-use Rattle.thes_command_line.specs.Opening.{only_reads, preparation_of}
+use Rattle.thes_command_line.specs.CommandLine.{only_reads}
+use Rattle.thes_command_line.specs.Opening.{preparation_of}
 use Rattle.thes_command_line.specs.declared.arguments.Task.{Task}
 use Rattle.thes_command_line.specs.declared.opening.Opening.{Opening}
 use Rattle.thes_command_line.specs.declared.opening.Opening.TheVariants.{New, Existing}

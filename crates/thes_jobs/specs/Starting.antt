@@ -8,7 +8,7 @@ use Rattle.sqlite.specs.Held.{Held}
 use Rattle.sqlite_trees.specs.declared.store.Store.{Ghosts}
 use Rattle.sqlite_wal.specs.Recovery.{Image}
 use Rattle.thes_base.specs.declared.fault.Fault.{Fault}
-use Rattle.thes_command_line.specs.Opening.{is_import, only_reads}
+use Rattle.thes_command_line.specs.CommandLine.{is_import, only_reads}
 use Rattle.thes_command_line.specs.declared.early_exit.EarlyExit.{EarlyExit}
 use Rattle.thes_command_line.specs.declared.arguments.Job.{Job}
 use Rattle.thes_command_line.specs.declared.arguments.Task.{Task}

@@ -27,11 +27,10 @@ use std::io::IsTerminal;
 use std::net::{Ipv4Addr, TcpListener};
 use thes_base::fault::Fault;
 use thes_base::text::Base;
-use thes_command_line::arguments::{Job, StoreSetting, Task};
+use thes_command_line::arguments::{Job, StoreSetting, Task, is_import, only_reads};
 use thes_command_line::early_exit::EarlyExit;
 use thes_command_line::opening::{
-    FileState, Opening, Preparation, file_state, is_import, is_mark_void, only_reads, opening_of,
-    preparation_of,
+    FileState, Opening, Preparation, file_state, is_mark_void, opening_of, preparation_of,
 };
 use thes_command_line::printing::OpenFailure;
 use thes_command_line::start_failure::StartFailure;
