@@ -17,7 +17,7 @@ use Rattle.thes_command_line.specs.StartFailure.{ReportsStartFailure}
 use Rattle.thes_command_line.specs.declared.early_exit.EarlyExit.{EarlyExit}
 use Rattle.thes_command_line.specs.declared.arguments.Job.{Job}
 use Rattle.thes_command_line.specs.declared.arguments.Task.TheVariants.{Migrate}
-use Rattle.thes_command_line.specs.declared.printing.OpenFailure.{OpenFailure}
+use Rattle.thes_command_line.specs.declared.start_failure.OpenFailure.{OpenFailure}
 use Rattle.thes_command_line.specs.declared.start_failure.StartFailure.{StartFailure}
 use Rattle.thes_command_line.specs.declared.trouble.StoreTrouble.{StoreTrouble}
 use Rattle.thes_jobs.specs.Migrating.{MigratesDatabase, version_line}

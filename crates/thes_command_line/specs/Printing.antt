@@ -12,8 +12,8 @@ use Rattle.thes_base.specs.declared.fault.PipeFault.TheVariants as faults
 use Rattle.thes_base.specs.declared.fault.Refusal.{Refusal}
 use Rattle.thes_base.specs.declared.pipe.Pipe.{Pipe}
 use Rattle.thes_command_line.specs.Opening.{trouble_of_fault, words_of}
-use Rattle.thes_command_line.specs.declared.printing.OpenFailure.{OpenFailure}
-use Rattle.thes_command_line.specs.declared.printing.OpenFailure.TheVariants.{File, Socket, Connection}
+use Rattle.thes_command_line.specs.declared.start_failure.OpenFailure.{OpenFailure}
+use Rattle.thes_command_line.specs.declared.start_failure.OpenFailure.TheVariants.{File, Socket, Connection}
 use Rattle.thes_command_line.specs.declared.trouble.StoreTrouble.{StoreTrouble}
 
 -- The line of a fault: `thesaurus: fault NAME`, with the table for `BadStore`.

@@ -5,6 +5,7 @@ ghost use Rattle.thes_command_line.specs.Opening as opening;
 ghost use Rattle.thes_command_line.specs.Printing as lines;
 ghost use Rattle.thes_command_line.specs.Printing.{AreFreshOutputs, HasPrinted, Prints, PrintsText};
 
+use crate::start_failure::OpenFailure;
 use crate::trouble::StoreTrouble;
 use arrayvec::ArrayString;
 use std::io::Write;
@@ -122,17 +123,6 @@ pub fn report_net_fault<E: Write>(errors: &mut Pipe<E>) -> u8
 {
     print_error(errors, "thesaurus: fault Net\n".as_bytes());
     3
-}
-
-/// The file or the socket that a task couldn't open.
-#[derive(Clone, Copy, Debug, PartialEq, Eq)]
-pub enum OpenFailure {
-    /// The posting file of an import.
-    File,
-    /// The socket on which a server listens.
-    Socket,
-    /// A connection: the system lets the program open too few files.
-    Connection,
 }
 
 // Prints that the system lets the program open too few files to serve connections, and returns the

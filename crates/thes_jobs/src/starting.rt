@@ -32,8 +32,7 @@ use thes_command_line::early_exit::EarlyExit;
 use thes_command_line::opening::{
     FileState, Opening, Preparation, file_state, is_mark_void, opening_of, preparation_of,
 };
-use thes_command_line::printing::OpenFailure;
-use thes_command_line::start_failure::StartFailure;
+use thes_command_line::start_failure::{OpenFailure, StartFailure};
 use thes_command_line::trouble::{StoreTrouble, name_trouble};
 use thes_sqlite::cause::Cause;
 use thes_sqlite::unread::unread_object;
