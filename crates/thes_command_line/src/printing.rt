@@ -1,7 +1,6 @@
 //! Prints texts and the lines of faults and refusals, and returns the exit statuses that follow.
 ghost use Rattle.std.specs.Prelude.{◌≡◌, ◌++◌};
 ghost use Rattle.thes_base.specs.Pipe.{IsFresh};
-ghost use Rattle.thes_command_line.specs.Opening as opening;
 ghost use Rattle.thes_command_line.specs.Printing as lines;
 ghost use Rattle.thes_command_line.specs.Printing.{AreFreshOutputs, HasPrinted, Prints, PrintsText};
 
@@ -180,7 +179,7 @@ fn print_file<E: Write>(errors: &mut Pipe<E>, file: &str, trouble: Option<StoreT
 // Returns the reason to print with a fault of a store: `trouble` for Store, and None for any other
 // fault.
 fn trouble_of_fault(fault: Fault, trouble: StoreTrouble) -> Option<StoreTrouble>
-    ensures { result ≡ opening.trouble_of_fault fault trouble }
+    ensures { result ≡ lines.trouble_of_fault fault trouble }
 {
     match fault {
         Fault::Store => Some(trouble),

@@ -4,7 +4,8 @@ use Rattle.thes_base.specs.declared.fault.Fault.{Fault}
 use Rattle.thes_base.specs.declared.fault.Fault.TheVariants.{OutOfMemory, Store}
 use Rattle.thes_sqlite.specs.Causes.{fault_of_cause}
 use Rattle.thes_sqlite.specs.declared.cause.Cause.{Cause}
-use Rattle.thes_command_line.specs.Opening.{name_trouble, opening_of}
+use Rattle.thes_command_line.specs.Opening.{opening_of}
+use Rattle.thes_command_line.specs.Trouble.{name_trouble}
 use Rattle.thes_command_line.specs.declared.arguments.Task.{Task}
 use Rattle.thes_command_line.specs.declared.opening.FileState.{FileState}
 use Rattle.thes_command_line.specs.declared.opening.Opening.{Opening}
