@@ -12,7 +12,7 @@ use sqlite_disk::{Disk, Files};
 use std::marker::PhantomData;
 use thes_base::fault::Fault;
 use thes_sqlite::cause::Cause;
-use thes_sqlite::reopening::{HeldTables, Reopen};
+use thes_sqlite::reopening::{HeldImage, Reopen};
 
 /// A way to open the databases of stores by the names of their files, and to close them.
 ///
@@ -24,7 +24,7 @@ pub trait Databases {
 
     /// What opens a database again. In contracts it names the contents of the files before they are
     /// opened.
-    type Opener: Reopen<Connection<Self::Engine>> + HeldTables + Drop;
+    type Opener: Reopen<Connection<Self::Engine>> + HeldImage + Drop;
 
     /// What closing a database leaves, or an opening that fails.
     type Left: Drop;

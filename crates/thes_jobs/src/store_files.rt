@@ -13,7 +13,7 @@ use std::os::unix::fs::MetadataExt;
 use thes_base::fault::Fault;
 use thes_sqlite::cause::Cause;
 use thes_sqlite::files::{close_files, open_files};
-use thes_sqlite::reopening::{HeldTables, Reopen};
+use thes_sqlite::reopening::{HeldImage, Reopen};
 
 /// A sign that files are opened again, which only this module makes.
 #[derive(Drop)]
@@ -134,7 +134,7 @@ impl<'r, S> StoreFiles<'r, S> {
     }
 }
 
-impl<S: Start> HeldTables for StoreFiles<'_, S> {
+impl<S: Start> HeldImage for StoreFiles<'_, S> {
     ghost image = { image_at S.Start };
 }
 

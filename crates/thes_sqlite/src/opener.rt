@@ -15,7 +15,7 @@ pub trait Reopen<C> {
 }
 
 /// What the files of a database held before they were opened, which only contracts use.
-pub trait HeldTables {
+pub trait HeldImage {
     // The contents of the two files.
     ghost image: { Image };
 }

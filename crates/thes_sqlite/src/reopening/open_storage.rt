@@ -9,7 +9,7 @@ ghost use Rattle.thes_sqlite.specs.Reopening.{FindsOfFirst, IsStillOpen, KeepsOn
 ghost use Rattle.thes_sqlite.specs.Reopening.{StaysUnwritten, AppliesOpen, ShowsChanges};
 
 use crate::cause::FaultCause;
-use crate::opener::{HeldTables, Reopen};
+use crate::opener::{HeldImage, Reopen};
 use crate::progress::Progress;
 use crate::progress::counting_sink::load_counted;
 use crate::reopening::ReopeningKeeper;
@@ -18,7 +18,7 @@ use thes_base::fault::Fault;
 use thes_store::sink::RowSink;
 use thes_tables::change::Change;
 
-impl<S: Alter + Drop, O: Reopen<Connection<S>> + HeldTables, L: Progress> ReopeningKeeper<S, O, L> {
+impl<S: Alter + Drop, O: Reopen<Connection<S>> + HeldImage, L: Progress> ReopeningKeeper<S, O, L> {
     // Checks whether changes were made although their commit failed and shut the database, which it
     // opens again. Returns false if the database isn't shut; returns false and sets `is_in_doubt`
     // if the changes can't be checked.

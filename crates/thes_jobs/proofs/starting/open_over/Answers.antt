@@ -28,7 +28,7 @@ returns-in-Err-prepare_store-clause-opens g c = rw c.failed_over-in-Err-prepare_
 
 pub returns-in-Err-prepare_store-clause-serves : goal.returns-in-Err-prepare_store-clause-serves
 returns-in-Err-prepare_store-clause-serves g c = rw c.failed_over-in-Err-prepare_store.ensures
-    (serves_after (HoldsStore g.D.Opener.HeldTables.image) (state g.D.Engine.Store c.args.store.conn)
+    (serves_after (HoldsStore g.D.Opener.HeldImage.image) (state g.D.Engine.Store c.args.store.conn)
     (state g.D.Engine.Store c.prepare_store.new.store.conn) c.requires.opened.serves c.prepare_store.ensures.keeps)
 
 -- The file's full path wasn't found.
@@ -36,7 +36,7 @@ pub returns-in-Err-reopener-clause-opens : goal.returns-in-Err-reopener-clause-o
 returns-in-Err-reopener-clause-opens g c = rw c.failed_over-in-Err-reopener.ensures (
   refl,
   lost refl c.prepare_store.new.store.conn refl refl
-      (is_prepared g.D.Engine.Store g.D.Opener.HeldTables.image c.args.job.task
+      (is_prepared g.D.Engine.Store g.D.Opener.HeldImage.image c.args.job.task
       c.args.job.setting.base c.args.store c.only_reads-reads_only.result c.prepare_store.new.store.conn
       c.only_reads-reads_only.ensures c.requires.opens c.requires.opened c.in-Ok-prepare_store.ensures.prepares
       c.prepare_store.ensures.idle c.prepare_store.ensures.keeps c.prepare_store.ensures.settles),
@@ -44,7 +44,7 @@ returns-in-Err-reopener-clause-opens g c = rw c.failed_over-in-Err-reopener.ensu
 
 pub returns-in-Err-reopener-clause-serves : goal.returns-in-Err-reopener-clause-serves
 returns-in-Err-reopener-clause-serves g c = rw c.failed_over-in-Err-reopener.ensures
-    (serves_after (HoldsStore g.D.Opener.HeldTables.image) (state g.D.Engine.Store c.args.store.conn)
+    (serves_after (HoldsStore g.D.Opener.HeldImage.image) (state g.D.Engine.Store c.args.store.conn)
     (state g.D.Engine.Store c.prepare_store.new.store.conn) c.requires.opened.serves c.prepare_store.ensures.keeps)
 
 pub returns-in-Some-clause-opens : goal.returns-in-Some-clause-opens
@@ -52,7 +52,7 @@ returns-in-Some-clause-opens g c = rw c.into_connection-conn.ensures (record {
   does = rw c.in-Some.is at c.in-Ok.ensures;
   file = refl;
   setting = refl;
-  connects = is_prepared g.D.Engine.Store g.D.Opener.HeldTables.image c.args.job.task
+  connects = is_prepared g.D.Engine.Store g.D.Opener.HeldImage.image c.args.job.task
       c.args.job.setting.base c.args.store c.only_reads-reads_only.result c.prepare_store.new.store.conn
       c.only_reads-reads_only.ensures c.requires.opens c.requires.opened c.in-Ok-prepare_store.ensures.prepares
       c.prepare_store.ensures.idle c.prepare_store.ensures.keeps c.prepare_store.ensures.settles;
@@ -63,7 +63,7 @@ pub returns-clause-opens : goal.returns-clause-opens
 returns-clause-opens g c = rw c.into_connection-conn.ensures (
   migrates _ _ c.args.job.task (is_some c.screen_of-progress.result) (rw c.in-None.is at c.in-Ok.ensures),
   refl,
-  is_prepared g.D.Engine.Store g.D.Opener.HeldTables.image c.args.job.task
+  is_prepared g.D.Engine.Store g.D.Opener.HeldImage.image c.args.job.task
       c.args.job.setting.base c.args.store c.only_reads-reads_only.result c.prepare_store.new.store.conn
       c.only_reads-reads_only.ensures c.requires.opens c.requires.opened c.in-Ok-prepare_store.ensures.prepares
       c.prepare_store.ensures.idle c.prepare_store.ensures.keeps c.prepare_store.ensures.settles,
@@ -72,7 +72,7 @@ returns-clause-opens g c = rw c.into_connection-conn.ensures (
 pub returns-in-Some-clause-ready : goal.returns-in-Some-clause-ready
 returns-in-Some-clause-ready g c = rw c.into_connection-conn.ensures (record {
   idle = c.prepare_store.ensures.idle;
-  serves = prepared_serves g.D.Engine.Store g.D.Opener.HeldTables.image c.args.store.opening
+  serves = prepared_serves g.D.Engine.Store g.D.Opener.HeldImage.image c.args.store.opening
       c.only_reads-reads_only.result c.args.job.setting.base c.args.store.conn c.prepare_store.new.store.conn
       c.requires.opened c.in-Ok-prepare_store.ensures.prepares c.prepare_store.ensures.keeps
       c.prepare_store.ensures.settles;
