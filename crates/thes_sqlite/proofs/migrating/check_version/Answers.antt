@@ -4,7 +4,7 @@ use Rattle.thes_base.specs.declared.fault.Table.TheVariants as table
 use Rattle.thes_sql.specs.Reads.{read_text}
 use Rattle.thes_sql.specs.Queries.{Finds}
 use Rattle.thes_sqlite.proofs.MigrationLemmas.{rows_judged, meta_unread}
-use Rattle.thes_sqlite.proofs.migrating.judge_version.Goals as goal
+use Rattle.thes_sqlite.proofs.migrating.check_version.Goals as goal
 
 pub returns-in-Ok-clause-judged : goal.returns-in-Ok-clause-judged
 returns-in-Ok-clause-judged g c = rows_judged g.S.Store c.args.conn.now c.version_rows.new.conn c.as_slice.result.now
