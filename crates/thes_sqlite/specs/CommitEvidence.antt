@@ -60,8 +60,8 @@ last_turning changes (c ∷ rest) =
 
 -- The change that shows whether all were made: the first insertion for good, else the first mark, else the last change
 -- of a row that is there afterwards and wasn't before, or the reverse. None if no change shows it.
-abbrev pub telling : List Change → Option Change
-telling changes =
+abbrev pub evidence : List Change → Option Change
+evidence changes =
     option_or (find inserts_for_good changes) (option_or (find marks_for_good changes) (last_turning changes changes))
 
 -- The change has an effect: the tables after it show it, and those before it don't; a change of places always counts as
@@ -88,7 +88,7 @@ pub record HaveSameRows (t u : Tables) : Type 0 where
 -- If each change has an effect, the answer is right for tables that have all changes or none: it is `true` over the
 -- tables without them only if the changes leave the rows the same, and `false` over the tables with them only if there
 -- are no changes. None is no answer.
-pub record Tells (changes : List Change) (db : Database) (answer : Option Bool) : Type 0 where
+pub record IsRightAnswer (changes : List Change) (db : Database) (answer : Option Bool) : Type 0 where
   pub with_none : (t : Tables) → HaveEffect changes t → Keeps db t → answer ≡ Some true
       → HaveSameRows t (tables_after_delta changes t)
   pub with_all : (t : Tables) → HaveEffect changes t → Keeps db (tables_after_delta changes t) → answer ≡ Some false

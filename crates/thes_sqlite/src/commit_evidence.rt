@@ -8,8 +8,8 @@ ghost use Rattle.sqlite.specs.Held.{state};
 ghost use Rattle.sqlite.specs.State.{HasCleanDisk};
 ghost use Rattle.thes_sql.specs.Reads.{LeavesTables};
 ghost use Rattle.thes_sql.specs.Traces.{row_of};
-ghost use Rattle.thes_sqlite.specs.Telling as telling;
-ghost use Rattle.thes_sqlite.specs.Telling.{are_same, Tells};
+ghost use Rattle.thes_sqlite.specs.CommitEvidence as evidence;
+ghost use Rattle.thes_sqlite.specs.CommitEvidence.{are_same, IsRightAnswer};
 
 use sqlite::{Alter, Connection};
 use thes_base::data::Link;
@@ -20,7 +20,7 @@ use thes_tables::rows::{HierRow, LabelRow};
 // Returns whether a change inserts a row that is never deleted, so that the row shows after a
 // failed commit whether the change was made.
 fn inserts_for_good(change: &Change) -> bool
-    ensures { result ≡ telling.inserts_for_good change.now }
+    ensures { result ≡ evidence.inserts_for_good change.now }
 {
     match change {
         Change::AddResource(_, _)
@@ -34,7 +34,7 @@ fn inserts_for_good(change: &Change) -> bool
 // Returns whether a change marks a row, and no other change removes the mark, so that the mark
 // shows after a failed commit whether the change was made.
 fn marks_for_good(change: &Change) -> bool
-    ensures { result ≡ telling.marks_for_good change.now }
+    ensures { result ≡ evidence.marks_for_good change.now }
 {
     match change {
         Change::Retire(_) | Change::Replace(_, _) | Change::Withdraw(_) => true,
@@ -45,7 +45,7 @@ fn marks_for_good(change: &Change) -> bool
 // Returns whether a change sets the places of postings, and inserts no move, so that no row shows
 // after a failed commit whether the change was made.
 fn sets_places(change: &Change) -> bool
-    ensures { result ≡ telling.sets_places change.now }
+    ensures { result ≡ evidence.sets_places change.now }
 {
     match change {
         Change::SetPlace(_, _) | Change::MoveAll(_, _) => true,
@@ -98,7 +98,7 @@ fn is_of_same_row(change: &Change, other: &Change) -> bool
 // Returns whether the row of a change is there after the changes and wasn't before, or the reverse:
 // insertions and deletions of a row alternate.
 fn changes_its_row(changes: &[Change], change: &Change) -> bool
-    ensures { result ≡ telling.turns changes.now (row_of change.now) }
+    ensures { result ≡ evidence.turns changes.now (row_of change.now) }
 {
     let mut is_changed = false;
     for other in changes {
@@ -111,7 +111,7 @@ fn changes_its_row(changes: &[Change], change: &Change) -> bool
 
 // Returns the first change that inserts a row for good, for a look-up after a failed commit.
 fn first_insert(changes: &[Change]) -> Option<&Change>
-    ensures { option_copied result ≡ find telling.inserts_for_good changes.now }
+    ensures { option_copied result ≡ find evidence.inserts_for_good changes.now }
 {
     for change in changes {
         if inserts_for_good(change) {
@@ -123,7 +123,7 @@ fn first_insert(changes: &[Change]) -> Option<&Change>
 
 // Returns the first change that marks a row for good, for a look-up after a failed commit.
 fn first_mark(changes: &[Change]) -> Option<&Change>
-    ensures { option_copied result ≡ find telling.marks_for_good changes.now }
+    ensures { option_copied result ≡ find evidence.marks_for_good changes.now }
 {
     for change in changes {
         if marks_for_good(change) {
@@ -136,7 +136,7 @@ fn first_mark(changes: &[Change]) -> Option<&Change>
 // Returns the last change whose row is there after the changes and wasn't before, or the reverse,
 // for a look-up after a failed commit.
 fn last_turning(changes: &[Change]) -> Option<&Change>
-    ensures { option_copied result ≡ telling.last_turning changes.now changes.now }
+    ensures { option_copied result ≡ evidence.last_turning changes.now changes.now }
 {
     let mut last = None;
     for change in changes {
@@ -150,8 +150,8 @@ fn last_turning(changes: &[Change]) -> Option<&Change>
 // Returns the change whose trace in a database shows that all changes were made: one that no other
 // change of the list can undo, since a plan may remove what it has made. None if no change of a row
 // shows it.
-fn telling_change(changes: &[Change]) -> Option<&Change>
-    ensures { option_copied result ≡ telling.telling changes.now }
+fn evidence_change(changes: &[Change]) -> Option<&Change>
+    ensures { option_copied result ≡ evidence.evidence changes.now }
 {
     if let Some(change) = first_insert(changes) {
         return Some(change);
@@ -164,7 +164,7 @@ fn telling_change(changes: &[Change]) -> Option<&Change>
 
 // Returns whether some change sets the places of postings, and inserts no move.
 fn set_places(changes: &[Change]) -> bool
-    ensures { result ≡ list_any telling.sets_places changes.now }
+    ensures { result ≡ list_any evidence.sets_places changes.now }
 {
     for change in changes {
         if sets_places(change) {
@@ -177,13 +177,13 @@ fn set_places(changes: &[Change]) -> bool
 /// Checks whether changes whose commit failed were made; None if the database can't be queried, or
 /// if places of postings are all that they change. Changes that leave the rows as they were count
 /// as made, an empty list of changes as not made.
-#[tactic(auto, using(crate::proofs::TellingLemmas::tells_by_change, crate::proofs::TellingLemmas::tells_nothing, crate::proofs::TellingLemmas::tells_without_change))]
+#[tactic(auto, using(crate::proofs::CommitEvidenceLemmas::right_answer_by_change, crate::proofs::CommitEvidenceLemmas::right_without_answer, crate::proofs::CommitEvidenceLemmas::right_answer_without_evidence))]
 pub(crate) fn has_changes<S: Alter>(conn: &mut Connection<S>, changes: &[Change]) -> Option<bool>
-    ensures tells { HasCleanDisk (state S.Store conn.new)
-        → Tells changes.now (state S.Store conn.old).now result }
+    ensures answer { HasCleanDisk (state S.Store conn.new)
+        → IsRightAnswer changes.now (state S.Store conn.old).now result }
     ensures leaves { LeavesTables S.Store conn.old conn.new }
 {
-    let Some(change) = telling_change(changes) else {
+    let Some(change) = evidence_change(changes) else {
         if set_places(changes) {
             return None;
         }

@@ -1,7 +1,7 @@
 use Rattle.std.proofs.Common.{◌≡◌, drop, cond, not}
 use Rattle.thes_sql.specs.Traces.{row_of}
-use Rattle.thes_sqlite.specs.Telling.{turns}
-use Rattle.thes_sqlite.proofs.telling.changes_its_row.Given as goal
+use Rattle.thes_sqlite.specs.CommitEvidence.{turns}
+use Rattle.thes_sqlite.proofs.commit_evidence.changes_its_row.Given as goal
 
 abbrev pub invariant-loop-other : goal.invariant-loop-other
 invariant-loop-other l =

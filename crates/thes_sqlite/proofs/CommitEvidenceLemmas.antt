@@ -29,8 +29,9 @@ use Rattle.thes_sql.specs.StoredRows.{Keeps, numbered_from}
 use Rattle.thes_sql.specs.Traces.{ListedRow, is_same_hier, row_of, has_row, shows_change, has_resource, has_dead}
 use Rattle.thes_sql.specs.Traces.{has_outside, has_posting, has_withdrawn, has_move}
 use Rattle.thes_sql.proofs.NumberedChangeLemmas.{change_if_at_number, dead_is, list_changed_at}
-use Rattle.thes_sqlite.specs.Telling.{inserts_for_good, marks_for_good, sets_places, is_equal_row, are_same, turns}
-use Rattle.thes_sqlite.specs.Telling.{last_turning, telling, HasEffect, HaveEffect, HaveSameRows, Tells}
+use Rattle.thes_sqlite.specs.CommitEvidence.{inserts_for_good, marks_for_good, sets_places, is_equal_row, are_same}
+use Rattle.thes_sqlite.specs.CommitEvidence.{turns, last_turning, evidence, HasEffect, HaveEffect, HaveSameRows}
+use Rattle.thes_sqlite.specs.CommitEvidence.{IsRightAnswer}
 
 -- Rows that are there for good.
 
@@ -407,9 +408,9 @@ good_mark : (c : Change) → marks_for_good c ≡ true → is_for_good c ≡ tru
 good_mark c h = grind (arith, common_steps)
 
 -- The chosen change is shown by the tables with all changes, and not by those without.
-told_apart : (changes : List Change) (t : Tables) (c : Change) → HaveEffect changes t → telling changes ≡ Some c
+evidence_decides : (changes : List Change) (t : Tables) (c : Change) → HaveEffect changes t → evidence changes ≡ Some c
     → ShowsApart c changes t
-told_apart changes t c does h = go (find inserts_for_good changes) refl (find marks_for_good changes) refl
+evidence_decides changes t c does h = go (find inserts_for_good changes) refl (find marks_for_good changes) refl
   where
     go : (o : Option Change) → find inserts_for_good changes ≡ o → (p : Option Change) → find marks_for_good changes ≡ p
         → ShowsApart c changes t
@@ -473,9 +474,9 @@ others_kept (d ∷ changes) t a b c =
     }
 
 -- If no change shows it, the rows are the same before and after.
-same_without_telling : (changes : List Change) (t : Tables) → HaveEffect changes t → telling changes ≡ None
+same_without_evidence : (changes : List Change) (t : Tables) → HaveEffect changes t → evidence changes ≡ None
     → list_any sets_places changes ≡ false → HaveSameRows t (tables_after_delta changes t)
-same_without_telling changes t does h places =
+same_without_evidence changes t does h places =
     go (find inserts_for_good changes) refl (find marks_for_good changes) refl (last_turning changes changes) refl
   where
     go : (o : Option Change) → find inserts_for_good changes ≡ o → (p : Option Change) → find marks_for_good changes ≡ p
@@ -499,32 +500,33 @@ same_without_telling changes t does h places =
 
 -- The answers of `has_changes`.
 
-pub tells_by_change : (changes : List Change) (db : Database) (c : Change) (found : Bool) → telling changes ≡ Some c
-    → ((t : Tables) → Keeps db t → found ≡ shows_change c t) → Tells changes db (Some found)
-tells_by_change changes db c found is shows = record {
+pub right_answer_by_change : (changes : List Change) (db : Database) (c : Change) (found : Bool)
+    → evidence changes ≡ Some c
+    → ((t : Tables) → Keeps db t → found ≡ shows_change c t) → IsRightAnswer changes db (Some found)
+right_answer_by_change changes db c found is shows = record {
   with_none = λ t does keeps said.
-      let apart = told_apart changes t c does is in
+      let apart = evidence_decides changes t c does is in
       let shown = shows t keeps in
       let never = apart.with_none in
       absurd (let yes : found ≡ true = grind (arith, common_steps) in cc);
   with_all = λ t does keeps said.
-      let apart = told_apart changes t c does is in
+      let apart = evidence_decides changes t c does is in
       let shown = shows (tables_after_delta changes t) keeps in
       let always = apart.with_all in
       absurd (let no : found ≡ false = grind (arith, common_steps) in cc);
 }
 
-pub tells_nothing : (changes : List Change) (db : Database) → Tells changes db None
-tells_nothing changes db =
+pub right_without_answer : (changes : List Change) (db : Database) → IsRightAnswer changes db None
+right_without_answer changes db =
     record {
       with_none = λ t does keeps said. absurd (cc);
       with_all = λ t does keeps said. absurd (cc);
     }
 
-pub tells_without_change : (changes : List Change) (db : Database) → telling changes ≡ None
-    → list_any sets_places changes ≡ false → Tells changes db (Some (not (length changes == 0)))
-tells_without_change changes db is places = record {
-  with_none = λ t does keeps said. same_without_telling changes t does is places;
+pub right_answer_without_evidence : (changes : List Change) (db : Database) → evidence changes ≡ None
+    → list_any sets_places changes ≡ false → IsRightAnswer changes db (Some (not (length changes == 0)))
+right_answer_without_evidence changes db is places = record {
+  with_none = λ t does keeps said. same_without_evidence changes t does is places;
   with_all = λ t does keeps said. empty changes said;
 }
   where

@@ -1,6 +1,6 @@
 use mathlib.Core.Logic.{inl, inr}
-use Rattle.thes_sqlite.proofs.TellingLemmas.{label_decided}
-use Rattle.thes_sqlite.proofs.telling.is_of_label.Goals as goal
+use Rattle.thes_sqlite.proofs.CommitEvidenceLemmas.{label_decided}
+use Rattle.thes_sqlite.proofs.commit_evidence.is_of_label.Goals as goal
 
 pub returns-in-AddLabel : goal.returns-in-AddLabel
 returns-in-AddLabel c =
