@@ -21,10 +21,10 @@ use Rattle.thes_command_line.specs.declared.start_failure.OpenFailure.{OpenFailu
 use Rattle.thes_command_line.specs.declared.start_failure.StartFailure.{StartFailure}
 use Rattle.thes_command_line.specs.declared.trouble.StoreTrouble.{StoreTrouble}
 use Rattle.thes_jobs.specs.Migrating.{MigratesDatabase, version_line}
-use Rattle.thes_jobs.specs.Starting.{IsReadyJob, OpensPlan}
-use Rattle.thes_jobs.specs.declared.starting.FailedStart.{FailedStart}
-use Rattle.thes_jobs.specs.declared.starting.OpenJob.{OpenJob}
-use Rattle.thes_jobs.specs.declared.starting.OpenJob.TheVariants.{InFile, InMemory, Migration, Version}
+use Rattle.thes_jobs.specs.Opening.{IsReadyJob, OpensPlan}
+use Rattle.thes_jobs.specs.declared.opening.FailedStart.{FailedStart}
+use Rattle.thes_jobs.specs.declared.opening.OpenJob.{OpenJob}
+use Rattle.thes_jobs.specs.declared.opening.OpenJob.TheVariants.{InFile, InMemory, Migration, Version}
 use Rattle.thes_cli.specs.Stores.{ClosesLeft, EndsIfClosed, LeadsInFiles, WorksInMemory, WorksToClosing, open_leaving}
 use Rattle.thes_cli.specs.declared.closing.Closed.{Closed}
 use Rattle.thes_cli.specs.declared.streams.Streams.{Streams}

@@ -19,8 +19,8 @@ use Rattle.thes_command_line.specs.declared.opening.Opening.TheVariants.{New, Ex
 use Rattle.thes_jobs.specs.Databases.{KeepsTables, OpensFrom, Settles}
 use Rattle.thes_jobs.specs.NewStore.{Prepares, PreparesStore}
 use Rattle.thes_jobs.specs.OpenStore.{IsOpenedFor}
-use Rattle.thes_jobs.specs.Starting.{IsPreparedFor}
-use Rattle.thes_jobs.specs.declared.starting.StoreDatabase.{StoreDatabase}
+use Rattle.thes_jobs.specs.Opening.{IsPreparedFor}
+use Rattle.thes_jobs.specs.declared.opening.StoreDatabase.{StoreDatabase}
 use Rattle.thes_jobs.proofs.DatabaseLemmas.{serves_after}
 
 module _ {S : Type 0} (g : Ghosts S) where

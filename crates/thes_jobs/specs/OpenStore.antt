@@ -12,8 +12,8 @@ use Rattle.thes_command_line.specs.declared.opening.Opening.{Opening}
 use Rattle.thes_command_line.specs.declared.trouble.StoreTrouble.{StoreTrouble}
 use Rattle.thes_command_line.specs.declared.trouble.StoreTrouble.TheVariants.{Unreadable, Unwritable}
 use Rattle.thes_jobs.specs.Trouble.{trouble_of}
-use Rattle.thes_jobs.specs.declared.starting.StoreDatabase.{StoreDatabase}
-use Rattle.thes_jobs.specs.declared.starting.UnopenedStore.{UnopenedStore}
+use Rattle.thes_jobs.specs.declared.opening.StoreDatabase.{StoreDatabase}
+use Rattle.thes_jobs.specs.declared.opening.UnopenedStore.{UnopenedStore}
 
 -- The way to open a file in this state for a task, whether or not it is marked as that of an unfinished store; or the
 -- trouble and the fault of the names next to it, or of that choice.

@@ -17,18 +17,18 @@ use thes_sqlite::reopening::{HeldImage, Reopen};
 
 /// A sign that files are opened again, which only this module makes.
 #[derive(Drop)]
-pub struct Reopening(());
+pub struct ReopeningToken(());
 
 /// What files hold before they are opened again, as a value for contracts. Making one takes a sign,
 /// so no one else makes a second image of what files held at first.
 pub trait ReopenedImage {
     /// Returns the image of files that are opened again.
-    fn image_of_reopened(sign: Reopening) -> Self;
+    fn image_of_reopened(sign: ReopeningToken) -> Self;
 }
 
 /// Nothing is known of files that are opened again.
 impl ReopenedImage for Unknown {
-    fn image_of_reopened(_sign: Reopening) -> Unknown {
+    fn image_of_reopened(_sign: ReopeningToken) -> Unknown {
         Unknown
     }
 }
@@ -154,7 +154,7 @@ impl<S: Start + ReopenedImage> Reopen<Connection<FileStore<FileFrom<S>>>> for St
         if !self.is_in_place() {
             return Err(Cause::Missing);
         }
-        let image = S::image_of_reopened(Reopening(()));
+        let image = S::image_of_reopened(ReopeningToken(()));
         match open_database_files(self.rt, image, self.file.as_str()) {
             Ok(conn) => Ok(conn),
             Err((cause, _)) => Err(cause),

@@ -1,6 +1,6 @@
 use Rattle.std.proofs.Common.{refl, sym, ◌∙◌}
-use Rattle.thes_jobs.proofs.StartingLemmas.{makes_in_blank}
-use Rattle.thes_jobs.proofs.starting.prepare_store.Goals as goal
+use Rattle.thes_jobs.proofs.OpeningLemmas.{makes_in_blank}
+use Rattle.thes_jobs.proofs.opening.prepare_store.Goals as goal
 
 pub returns-in-MakeTables-clause-prepares : goal.returns-in-MakeTables-clause-prepares
 returns-in-MakeTables-clause-prepares g c = record {

@@ -24,10 +24,10 @@ use Rattle.thes_jobs.specs.NewStore.{PreparesStore}
 use Rattle.thes_jobs.specs.OpenStore.{IsOpenedFor, IsUnopenedStore}
 use Rattle.thes_jobs.specs.PlannedWork.{OpensPlanned, planned_work}
 use Rattle.thes_jobs.specs.declared.screen.Screen.{Screen}
-use Rattle.thes_jobs.specs.declared.starting.FailedStart.{FailedStart}
-use Rattle.thes_jobs.specs.declared.starting.OpenJob.{OpenJob}
-use Rattle.thes_jobs.specs.declared.starting.OpenJob.TheVariants.{InFile, InMemory, Migration, Version}
-use Rattle.thes_jobs.specs.declared.starting.StoreDatabase.{StoreDatabase}
+use Rattle.thes_jobs.specs.declared.opening.FailedStart.{FailedStart}
+use Rattle.thes_jobs.specs.declared.opening.OpenJob.{OpenJob}
+use Rattle.thes_jobs.specs.declared.opening.OpenJob.TheVariants.{InFile, InMemory, Migration, Version}
+use Rattle.thes_jobs.specs.declared.opening.StoreDatabase.{StoreDatabase}
 use Rattle.thes_jobs.specs.declared.work.DatabaseWork.{DatabaseWork}
 use Rattle.thes_jobs.specs.declared.work.MemoryWork.{MemoryWork}
 

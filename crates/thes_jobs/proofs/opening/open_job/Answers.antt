@@ -1,8 +1,8 @@
 use Rattle.std.proofs.Common.{◌≡◌, Some, refl, subst}
 use Rattle.thes_command_line.specs.declared.arguments.Job.{Job}
-use Rattle.thes_jobs.specs.Starting.{OpensJob}
-use Rattle.thes_jobs.proofs.StartingLemmas.{same_job}
-use Rattle.thes_jobs.proofs.starting.open_job.Goals as goal
+use Rattle.thes_jobs.specs.Opening.{OpensJob}
+use Rattle.thes_jobs.proofs.OpeningLemmas.{same_job}
+use Rattle.thes_jobs.proofs.opening.open_job.Goals as goal
 
 pub returns-in-Some-clause-opens : goal.returns-in-Some-clause-opens
 returns-in-Some-clause-opens g c =

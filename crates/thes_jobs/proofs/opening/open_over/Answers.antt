@@ -1,11 +1,11 @@
 use Rattle.std.proofs.Common.{is_some, refl}
 use Rattle.sqlite.specs.Held.{state}
 use Rattle.thes_sqlite.specs.DatabaseFiles.{HoldsStore}
-use Rattle.thes_jobs.specs.Starting.{lost, unprepared}
+use Rattle.thes_jobs.specs.Opening.{lost, unprepared}
 use Rattle.thes_jobs.proofs.DatabaseLemmas.{serves_after}
 use Rattle.thes_jobs.proofs.PreparedLemmas.{is_prepared, prepared_serves}
-use Rattle.thes_jobs.proofs.StartingLemmas.{migrates}
-use Rattle.thes_jobs.proofs.starting.open_over.Goals as goal
+use Rattle.thes_jobs.proofs.OpeningLemmas.{migrates}
+use Rattle.thes_jobs.proofs.opening.open_over.Goals as goal
 
 -- The file or socket of the task couldn't be opened: the connection is returned as it was opened.
 pub returns-in-Err-clause-opens : goal.returns-in-Err-clause-opens

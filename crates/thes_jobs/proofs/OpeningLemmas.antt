@@ -11,7 +11,7 @@ use Rattle.thes_command_line.specs.declared.opening.Opening.{Opening}
 use Rattle.thes_command_line.specs.declared.opening.Opening.TheVariants.{New, Existing}
 use Rattle.thes_command_line.specs.declared.opening.Preparation.TheVariants.{MakeTables}
 use Rattle.thes_jobs.specs.PlannedWork.{OpensPlanned, planned_work}
-use Rattle.thes_jobs.specs.Starting.{job_in_file}
+use Rattle.thes_jobs.specs.Opening.{job_in_file}
 
 -- A task without work is a migration.
 pub migrates : (F L : Type 0) (task : Task) (prints_it : Bool)

@@ -1,6 +1,6 @@
 use Rattle.std.proofs.Common.{◌≡◌, Err, refl, rules}
 use Rattle.thes_jobs.specs.OpenStore.{unchosen, unopened}
-use Rattle.thes_jobs.proofs.starting.open_store.Goals as goal
+use Rattle.thes_jobs.proofs.opening.open_store.Goals as goal
 
 pub returns-in-Err-opening_for-clause-opens : goal.returns-in-Err-opening_for-clause-opens
 returns-in-Err-opening_for-clause-opens g c = rw c.without_files-in-Err-opening_for.ensures

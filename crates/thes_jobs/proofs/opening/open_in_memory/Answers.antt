@@ -1,6 +1,6 @@
 use Rattle.std.proofs.Common.{is_some, refl}
-use Rattle.thes_jobs.proofs.StartingLemmas.{migrates}
-use Rattle.thes_jobs.proofs.starting.open_in_memory.Goals as goal
+use Rattle.thes_jobs.proofs.OpeningLemmas.{migrates}
+use Rattle.thes_jobs.proofs.opening.open_in_memory.Goals as goal
 
 pub returns-in-Ok-Some-clause-opens : goal.returns-in-Ok-Some-clause-opens
 returns-in-Ok-Some-clause-opens g c = record {

@@ -1,5 +1,5 @@
 use Rattle.std.proofs.Common.{refl}
-use Rattle.thes_jobs.proofs.starting.open_database.Goals as goal
+use Rattle.thes_jobs.proofs.opening.open_database.Goals as goal
 
 pub returns-after-is_mark_void-clause-err : goal.returns-after-is_mark_void-clause-err
 returns-after-is_mark_void-clause-err g c = record {

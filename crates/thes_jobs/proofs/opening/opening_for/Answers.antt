@@ -1,5 +1,5 @@
 use Rattle.std.proofs.Common.{◌∙◌, inl, inr, refl, sym}
-use Rattle.thes_jobs.proofs.starting.opening_for.Goals as goal
+use Rattle.thes_jobs.proofs.opening.opening_for.Goals as goal
 
 pub returns-in-Some : goal.returns-in-Some
 returns-in-Some c = inl (c.has_long_name.result, sym c.name_trouble.ensures ∙ c.in-Some.is)

@@ -1,6 +1,6 @@
 use Rattle.std.proofs.Common.{◌∙◌, Some, ap}
 use Rattle.std.specs.Result.{result_map_both}
-use Rattle.thes_jobs.proofs.starting.open_work.Goals as goal
+use Rattle.thes_jobs.proofs.opening.open_work.Goals as goal
 
 pub returns-in-Import : goal.returns-in-Import
 returns-in-Import c = rw (← c.planned_work.ensures, c.in-Import.is)

@@ -9,7 +9,7 @@ ghost use Rattle.thes_jobs.specs.NewStore.{MakesStore, PreparesStore};
 ghost use Rattle.thes_jobs.specs.OpenStore.{ChoosesOpening, IsOpenedFor, IsUnopenedDatabase, OpensStore};
 ghost use Rattle.thes_jobs.specs.PlannedWork as work;
 ghost use Rattle.thes_jobs.specs.PlannedWork.{IsSocketFailure, OpensPlanned};
-ghost use Rattle.thes_jobs.specs.Starting.{IsReadyJob, ListensTo, OpensJob, OpensPlan, job_in_file, job_in_memory};
+ghost use Rattle.thes_jobs.specs.Opening.{IsReadyJob, ListensTo, OpensJob, OpensPlan, job_in_file, job_in_memory};
 
 use crate::databases::Databases;
 use crate::making::MakingMark;
