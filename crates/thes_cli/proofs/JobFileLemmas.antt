@@ -25,10 +25,10 @@ use Rattle.thes_command_line.specs.declared.arguments.StoreSetting.{StoreSetting
 use Rattle.thes_command_line.specs.declared.start_failure.StartFailure.{StartFailure}
 use Rattle.thes_command_line.specs.declared.start_failure.StartFailure.TheVariants as failures
 use Rattle.thes_jobs.specs.Databases.{ClosesStore, ServesIfOpen}
-use Rattle.thes_jobs.specs.Starting.{IsOpenFailure, OpensPlan}
-use Rattle.thes_jobs.specs.declared.starting.FailedStart.{FailedStart}
-use Rattle.thes_jobs.specs.declared.starting.OpenJob.{OpenJob}
-use Rattle.thes_jobs.specs.declared.starting.OpenJob.TheVariants.{InFile, InMemory, Migration, Version}
+use Rattle.thes_jobs.specs.Opening.{IsOpenFailure, OpensPlan}
+use Rattle.thes_jobs.specs.declared.opening.FailedStart.{FailedStart}
+use Rattle.thes_jobs.specs.declared.opening.OpenJob.{OpenJob}
+use Rattle.thes_jobs.specs.declared.opening.OpenJob.TheVariants.{InFile, InMemory, Migration, Version}
 use Rattle.thes_jobs.specs.declared.work.DatabaseWork.{DatabaseWork}
 use Rattle.thes_cli.specs.Running.{EndsInFiles, LeadsIfClosed, LeavesNoFiles, MigratesInFile, PrintsStartFault}
 use Rattle.thes_cli.specs.Running.{ReportsNoJob, by_migration, by_work, without_work}

@@ -17,14 +17,14 @@ use Rattle.thes_command_line.specs.StartFailure.{ReportsStartFailure}
 use Rattle.thes_command_line.specs.declared.early_exit.EarlyExit.{EarlyExit}
 use Rattle.thes_command_line.specs.declared.arguments.Job.{Job}
 use Rattle.thes_command_line.specs.declared.arguments.Task.TheVariants.{Migrate}
-use Rattle.thes_command_line.specs.declared.printing.OpenFailure.{OpenFailure}
+use Rattle.thes_command_line.specs.declared.start_failure.OpenFailure.{OpenFailure}
 use Rattle.thes_command_line.specs.declared.start_failure.StartFailure.{StartFailure}
 use Rattle.thes_command_line.specs.declared.trouble.StoreTrouble.{StoreTrouble}
 use Rattle.thes_jobs.specs.Migrating.{MigratesDatabase, version_line}
-use Rattle.thes_jobs.specs.Starting.{IsReadyJob, OpensPlan}
-use Rattle.thes_jobs.specs.declared.starting.FailedStart.{FailedStart}
-use Rattle.thes_jobs.specs.declared.starting.OpenJob.{OpenJob}
-use Rattle.thes_jobs.specs.declared.starting.OpenJob.TheVariants.{InFile, InMemory, Migration, Version}
+use Rattle.thes_jobs.specs.Opening.{IsReadyJob, OpensPlan}
+use Rattle.thes_jobs.specs.declared.opening.FailedStart.{FailedStart}
+use Rattle.thes_jobs.specs.declared.opening.OpenJob.{OpenJob}
+use Rattle.thes_jobs.specs.declared.opening.OpenJob.TheVariants.{InFile, InMemory, Migration, Version}
 use Rattle.thes_cli.specs.Stores.{ClosesLeft, EndsIfClosed, LeadsInFiles, WorksInMemory, WorksToClosing, open_leaving}
 use Rattle.thes_cli.specs.declared.closing.Closed.{Closed}
 use Rattle.thes_cli.specs.declared.streams.Streams.{Streams}

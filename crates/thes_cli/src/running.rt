@@ -20,7 +20,7 @@ use thes_command_line::early_exit::EarlyExit;
 use thes_command_line::start_failure::report_start_failure;
 use thes_jobs::databases::{Databases, FileDatabases};
 use thes_jobs::migrating::{migrate_in_database, print_version};
-use thes_jobs::starting::{FailedStart, OpenJob, open_job};
+use thes_jobs::opening::{FailedStart, OpenJob, open_job};
 use thes_jobs::store_files::ReopenedImage;
 
 // Migrates the store in a database, closes the database, and returns the exit status with what is

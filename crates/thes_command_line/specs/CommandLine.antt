@@ -119,6 +119,19 @@ ReadsDisplayOptions arguments (Err NotText) = ⊥
 abbrev pub NamesDisplay : Text → Type 0
 NamesDisplay name = (name ≡ codes "alphabetical") ⊎ (name ≡ codes "hierarchical")
 
+-- Whether a task only reads the store: a check, an export and the displays do.
+abbrev pub only_reads : Task → Bool
+only_reads Check = true
+only_reads Export = true
+only_reads (Alphabetical options) = true
+only_reads (Hierarchical options) = true
+only_reads _ = false
+
+-- Whether a task imports a posting file.
+abbrev pub is_import : Task → Bool
+is_import (Import file) = true
+is_import _ = false
+
 -- The task of a command with its arguments, or the reason for an early exit: a form fault, or running out of memory.
 abbrev pub PlansTask : Text → List Row → Result Task EarlyExit → Type 0
 PlansTask name arguments (Ok task) = (name ≡ command_of task) × SetsTask arguments task

@@ -1,4 +1,5 @@
 pub mod Opening
+pub mod Trouble
 pub mod Printing
 pub mod EarlyExit
 pub mod Commands

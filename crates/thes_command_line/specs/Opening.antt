@@ -1,17 +1,12 @@
--- Defines whether a task makes a store or uses the one in its file, and the reasons why a store
--- can't be used.
-use Rattle.std.specs.Prelude.{◌≡◌, ◌≢◌, ◌==◌, ◌&&◌, nat_le, not, ℕ, Bool, true, false, if◌then◌else◌, Option, Some, None, Result, Ok, Err}
-use Rattle.std.specs.Prelude.{codes}
+-- Defines whether a task makes a store or uses the one in its file.
+use Rattle.std.specs.Prelude.{◌≡◌, ◌≢◌, ◌==◌, ◌&&◌, nat_le, not, ℕ, Bool, true, false, if◌then◌else◌, Result, Ok, Err}
 use Rattle.std.specs.Fs.{IsFile, file_type, metadata_len}
 use Rattle.std.specs.IoError.{error_kind}
 use Rattle.std.specs.declared.fs.attrs.Metadata.{Metadata}
 use Rattle.std.specs.declared.io.Error.{Error}
 use Rattle.std.specs.declared.io.ErrorKind.TheVariants.{NotFound}
-use Rattle.thes_base.specs.Types.{Bytes}
-use Rattle.thes_base.specs.declared.fault.Fault.{Fault}
-use Rattle.thes_base.specs.declared.fault.Fault.TheVariants.{Store}
+use Rattle.thes_command_line.specs.CommandLine.{only_reads}
 use Rattle.thes_command_line.specs.declared.arguments.Task.{Task}
-use Rattle.thes_command_line.specs.declared.arguments.Task.TheVariants as tasks
 use Rattle.thes_command_line.specs.declared.opening.FileState.{FileState}
 use Rattle.thes_command_line.specs.declared.opening.FileState.TheVariants as found
 use Rattle.thes_command_line.specs.declared.opening.Opening.{Opening}
@@ -29,14 +24,6 @@ IsFileState (Ok metadata) found.Other = ¬ IsFile (file_type metadata)
 IsFileState (Err error) found.Absent = error_kind error ≡ NotFound
 IsFileState (Err error) (found.Bytes n) = ⊥
 IsFileState (Err error) found.Other = error_kind error ≢ NotFound
-
--- Whether a task only reads the store: a check, an export and the displays do.
-abbrev pub only_reads : Task → Bool
-only_reads tasks.Check = true
-only_reads tasks.Export = true
-only_reads (tasks.Alphabetical options) = true
-only_reads (tasks.Hierarchical options) = true
-only_reads _ = false
 
 -- A task that only reads makes no store, and fails with this trouble; every other task makes the store.
 abbrev pub new_store : Task → StoreTrouble → Result Opening StoreTrouble
@@ -65,11 +52,6 @@ opening_of task (found.Bytes n) is_marked =
     if n == 0 then new_store task troubles.NotDatabase else opening_of_file task n is_marked
 opening_of task found.Other is_marked = Ok Existing
 
--- Whether a task imports a posting file.
-abbrev pub is_import : Task → Bool
-is_import (tasks.Import file) = true
-is_import _ = false
-
 -- What to do with the database of a store once it is open: a blank one that was opened for a new store gets its tables;
 -- else the mark of an unfinished store is removed, but not for a task that only reads.
 abbrev pub preparation_of : Opening → Bool → Bool → Preparation
@@ -83,28 +65,3 @@ is_mark_void troubles.InUse left = false
 is_mark_void _ found.Absent = true
 is_mark_void _ (found.Bytes n) = n == 0
 is_mark_void _ found.Other = false
-
--- The trouble and the fault if the names of the files next to a store's file are too long, or couldn't be checked.
-abbrev pub name_trouble : Result Bool Fault → Option (StoreTrouble × Fault)
-name_trouble (Ok true) = Some (troubles.LongName, Store)
-name_trouble (Ok false) = None
-name_trouble (Err fault) = Some (troubles.Unreadable, fault)
-
--- The reason to print with a fault of a store: the given one for Store, and None for any other fault.
-abbrev pub trouble_of_fault : Fault → StoreTrouble → Option StoreTrouble
-trouble_of_fault Store trouble = Some trouble
-trouble_of_fault _ trouble = None
-
--- The words for a reason, as they are printed.
-abbrev pub words_of : StoreTrouble → Bytes
-words_of troubles.InUse = codes "in use by another program"
-words_of troubles.NoFile = codes "no such file"
-words_of troubles.NotDatabase = codes "not a database"
-words_of troubles.Linked = codes "the file has a second name"
-words_of troubles.LongName = codes "the name is too long"
-words_of troubles.Unreadable = codes "can't be read"
-words_of troubles.Unwritable = codes "can't be written"
-words_of troubles.NoRoom = codes "no room"
-words_of troubles.Damaged = codes "damaged"
-words_of troubles.Journal = codes "SQLite was cut short, and left a journal"
-words_of troubles.UnknownSchema = codes "something in its schema can't be read"

@@ -5,15 +5,16 @@ use Rattle.thes_base.specs.FaultNames.{form_code, pipe_text, refusal_code}
 use Rattle.thes_base.specs.Pipe.{failed_of, denied_of, written_bytes, AppendsPrefix, IsFresh}
 use Rattle.thes_base.specs.Types.{Bytes}
 use Rattle.thes_base.specs.declared.fault.Fault.{Fault}
+use Rattle.thes_base.specs.declared.fault.Fault.TheVariants.{Store}
 use Rattle.thes_base.specs.declared.fault.FormFault.{FormFault}
 use Rattle.thes_base.specs.declared.fault.PipeFault.{PipeFault}
 use Rattle.thes_base.specs.declared.fault.PipeFault.TheVariants.{Read, Write}
 use Rattle.thes_base.specs.declared.fault.PipeFault.TheVariants as faults
 use Rattle.thes_base.specs.declared.fault.Refusal.{Refusal}
 use Rattle.thes_base.specs.declared.pipe.Pipe.{Pipe}
-use Rattle.thes_command_line.specs.Opening.{trouble_of_fault, words_of}
-use Rattle.thes_command_line.specs.declared.printing.OpenFailure.{OpenFailure}
-use Rattle.thes_command_line.specs.declared.printing.OpenFailure.TheVariants.{File, Socket, Connection}
+use Rattle.thes_command_line.specs.Trouble.{words_of}
+use Rattle.thes_command_line.specs.declared.start_failure.OpenFailure.{OpenFailure}
+use Rattle.thes_command_line.specs.declared.start_failure.OpenFailure.TheVariants.{File, Socket, Connection}
 use Rattle.thes_command_line.specs.declared.trouble.StoreTrouble.{StoreTrouble}
 
 -- The line of a fault: `thesaurus: fault NAME`, with the table for `BadStore`.
@@ -35,6 +36,11 @@ refusal_line refusal = codes "thesaurus: " ++ (refusal_code refusal).name ++ cod
 -- The line of a form fault: `thesaurus: NAME`.
 abbrev pub form_line : FormFault → Bytes
 form_line fault = codes "thesaurus: " ++ (form_code fault).name ++ codes "\n"
+
+-- The reason to print with a fault of a store: the given one for Store, and None for any other fault.
+abbrev pub trouble_of_fault : Fault → StoreTrouble → Option StoreTrouble
+trouble_of_fault Store trouble = Some trouble
+trouble_of_fault _ trouble = None
 
 -- The end of the line that names the file of a store: the reason for its fault, if there is one, and a line feed.
 abbrev pub file_end : Option StoreTrouble → Bytes

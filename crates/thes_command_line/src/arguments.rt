@@ -2,6 +2,7 @@
 ghost use Rattle.std.specs.Prelude.{◌≡◌, ◌↔◌, IsTrue, codes, map, option_map, string_bytes, IfOk, IsSome};
 ghost use Rattle.std.specs.Vec.Iter.{into_iter_items};
 ghost use Rattle.clap.specs.Words.{first_of, found_of, rows_of, subcommand_rows_of};
+ghost use Rattle.thes_command_line.specs.CommandLine as tasks;
 ghost use Rattle.thes_command_line.specs.CommandLine.{base_in, command_of, NamesDisplay, IsCompleteCommand, HasCommand, HasLimit, HasLimits, HasOptions, HasPort, IsServeOptions, is_set, limits_in, number_of_option, PlanResult, MatchedPlanResult, PlansTask, ReadsDisplayOptions};
 
 use crate::commands::program;
@@ -71,6 +72,23 @@ pub fn is_display(task: &Task) -> bool
     ensures { IsTrue result ↔ NamesDisplay (command_of task.now) }
 {
     matches!(task, Task::Alphabetical(_) | Task::Hierarchical(_))
+}
+
+/// Returns whether a task only reads the store, and so makes none.
+pub fn only_reads(task: &Task) -> bool
+    ensures { result ≡ tasks.only_reads task.now }
+{
+    match task {
+        Task::Check | Task::Export | Task::Alphabetical(_) | Task::Hierarchical(_) => true,
+        Task::Script(_) | Task::Import(_) | Task::Serve(_) | Task::Migrate => false,
+    }
+}
+
+/// Returns whether a task imports a posting file: the rows done are reported for an import alone.
+pub fn is_import(task: &Task) -> bool
+    ensures { result ≡ tasks.is_import task.now }
+{
+    matches!(task, Task::Import(_))
 }
 
 /// The base and the limits of a store, from the options of the command line.

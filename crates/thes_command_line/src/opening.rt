@@ -3,7 +3,7 @@ ghost use Rattle.std.specs.Prelude.{◌≡◌};
 ghost use Rattle.thes_command_line.specs.Opening as choices;
 ghost use Rattle.thes_command_line.specs.Opening.{IsFileState};
 
-use crate::arguments::Task;
+use crate::arguments::{Task, only_reads};
 use crate::trouble::StoreTrouble;
 use std::fs::Metadata;
 use std::io;
@@ -57,16 +57,6 @@ pub fn file_state(found: &io::Result<Metadata>) -> FileState
     }
 }
 
-/// Returns whether a task only reads the store, and so makes none.
-pub fn only_reads(task: &Task) -> bool
-    ensures { result ≡ choices.only_reads task.now }
-{
-    match task {
-        Task::Check | Task::Export | Task::Alphabetical(_) | Task::Hierarchical(_) => true,
-        Task::Script(_) | Task::Import(_) | Task::Serve(_) | Task::Migrate => false,
-    }
-}
-
 // Returns `New`, or this trouble for a task that only reads.
 fn new_store(task: &Task, trouble: StoreTrouble) -> Result<Opening, StoreTrouble>
     ensures { result ≡ choices.new_store task.now trouble }
@@ -112,13 +102,6 @@ pub fn opening_of(task: &Task, found: FileState, is_marked: bool) -> Result<Open
         FileState::Bytes(size) => opening_of_file(task, size, is_marked),
         FileState::Other => Ok(Opening::Existing),
     }
-}
-
-/// Returns whether a task imports a posting file: the rows done are reported for an import alone.
-pub fn is_import(task: &Task) -> bool
-    ensures { result ≡ choices.is_import task.now }
-{
-    matches!(task, Task::Import(_))
 }
 
 /// Returns what to do with the database of a store once it is open: make its tables, if it was

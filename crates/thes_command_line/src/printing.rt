@@ -1,10 +1,10 @@
 //! Prints texts and the lines of faults and refusals, and returns the exit statuses that follow.
 ghost use Rattle.std.specs.Prelude.{◌≡◌, ◌++◌};
 ghost use Rattle.thes_base.specs.Pipe.{IsFresh};
-ghost use Rattle.thes_command_line.specs.Opening as opening;
 ghost use Rattle.thes_command_line.specs.Printing as lines;
 ghost use Rattle.thes_command_line.specs.Printing.{AreFreshOutputs, HasPrinted, Prints, PrintsText};
 
+use crate::start_failure::OpenFailure;
 use crate::trouble::StoreTrouble;
 use arrayvec::ArrayString;
 use std::io::Write;
@@ -124,17 +124,6 @@ pub fn report_net_fault<E: Write>(errors: &mut Pipe<E>) -> u8
     3
 }
 
-/// The file or the socket that a task couldn't open.
-#[derive(Clone, Copy, Debug, PartialEq, Eq)]
-pub enum OpenFailure {
-    /// The posting file of an import.
-    File,
-    /// The socket on which a server listens.
-    Socket,
-    /// A connection: the system lets the program open too few files.
-    Connection,
-}
-
 // Prints that the system lets the program open too few files to serve connections, and returns the
 // exit status 3.
 fn report_few_files<E: Write>(errors: &mut Pipe<E>) -> u8
@@ -190,7 +179,7 @@ fn print_file<E: Write>(errors: &mut Pipe<E>, file: &str, trouble: Option<StoreT
 // Returns the reason to print with a fault of a store: `trouble` for Store, and None for any other
 // fault.
 fn trouble_of_fault(fault: Fault, trouble: StoreTrouble) -> Option<StoreTrouble>
-    ensures { result ≡ opening.trouble_of_fault fault trouble }
+    ensures { result ≡ lines.trouble_of_fault fault trouble }
 {
     match fault {
         Fault::Store => Some(trouble),

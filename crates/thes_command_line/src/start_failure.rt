@@ -3,11 +3,22 @@ ghost use Rattle.thes_command_line.specs.Printing.{AreFreshOutputs};
 ghost use Rattle.thes_command_line.specs.StartFailure.{ReportsStartFailure};
 
 use crate::early_exit::{EarlyExit, exit_early};
-use crate::printing::{OpenFailure, report_in_file, report_open_failure};
+use crate::printing::{report_in_file, report_open_failure};
 use crate::trouble::StoreTrouble;
 use std::io::Write;
 use thes_base::fault::Fault;
 use thes_base::pipe::Pipe;
+
+/// The file or the socket that a task couldn't open.
+#[derive(Clone, Copy, Debug, PartialEq, Eq)]
+pub enum OpenFailure {
+    /// The posting file of an import.
+    File,
+    /// The socket on which a server listens.
+    Socket,
+    /// A connection: the system lets the program open too few files.
+    Connection,
+}
 
 /// The reason why the work of a job doesn't begin.
 #[derive(Debug, Drop)]

@@ -1,7 +1,7 @@
 //! The reasons why a store can't be used, as far as the system reports them.
 ghost use Rattle.std.specs.Prelude.{◌≡◌};
-ghost use Rattle.thes_command_line.specs.Opening as choices;
-ghost use Rattle.thes_command_line.specs.Opening.{words_of};
+ghost use Rattle.thes_command_line.specs.Trouble as troubles;
+ghost use Rattle.thes_command_line.specs.Trouble.{words_of};
 
 use thes_base::fault::Fault;
 
@@ -59,7 +59,7 @@ impl StoreTrouble {
 /// Returns the reason and the fault if the names of the files next to a store's file are too long
 /// for the system, or couldn't be checked.
 pub fn name_trouble(has_long_name: Result<bool, Fault>) -> Option<(StoreTrouble, Fault)>
-    ensures { result ≡ choices.name_trouble has_long_name }
+    ensures { result ≡ troubles.name_trouble has_long_name }
 {
     match has_long_name {
         Ok(true) => Some((StoreTrouble::LongName, Fault::Store)),

@@ -1,3 +1,3 @@
 pub mod DatabaseLemmas
 pub mod PreparedLemmas
-pub mod StartingLemmas
+pub mod OpeningLemmas

@@ -11,15 +11,16 @@ use Rattle.thes_sql.specs.StoredRows.{KeepsIn}
 use Rattle.thes_sql.specs.TransactionEffects.{IsEmpty}
 use Rattle.thes_sqlite.specs.DatabaseFiles.{IsInitialStore, HoldsStore, ServesFiles}
 use Rattle.thes_sqlite.specs.KeeperView.{ServesTables}
-use Rattle.thes_command_line.specs.Opening.{only_reads, preparation_of}
+use Rattle.thes_command_line.specs.CommandLine.{only_reads}
+use Rattle.thes_command_line.specs.Opening.{preparation_of}
 use Rattle.thes_command_line.specs.declared.arguments.Task.{Task}
 use Rattle.thes_command_line.specs.declared.opening.Opening.{Opening}
 use Rattle.thes_command_line.specs.declared.opening.Opening.TheVariants.{New, Existing}
 use Rattle.thes_jobs.specs.Databases.{KeepsTables, OpensFrom, Settles}
 use Rattle.thes_jobs.specs.NewStore.{Prepares, PreparesStore}
 use Rattle.thes_jobs.specs.OpenStore.{IsOpenedFor}
-use Rattle.thes_jobs.specs.Starting.{IsPreparedFor}
-use Rattle.thes_jobs.specs.declared.starting.StoreDatabase.{StoreDatabase}
+use Rattle.thes_jobs.specs.Opening.{IsPreparedFor}
+use Rattle.thes_jobs.specs.declared.opening.StoreDatabase.{StoreDatabase}
 use Rattle.thes_jobs.proofs.DatabaseLemmas.{serves_after}
 
 module _ {S : Type 0} (g : Ghosts S) where

@@ -4,4 +4,4 @@ pub mod PlannedWork
 pub mod NewStore
 pub mod Migrating
 pub mod OpenStore
-pub mod Starting
+pub mod Opening

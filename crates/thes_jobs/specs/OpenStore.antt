@@ -4,15 +4,16 @@ use Rattle.thes_base.specs.declared.fault.Fault.{Fault}
 use Rattle.thes_base.specs.declared.fault.Fault.TheVariants.{OutOfMemory, Store}
 use Rattle.thes_sqlite.specs.Causes.{fault_of_cause}
 use Rattle.thes_sqlite.specs.declared.cause.Cause.{Cause}
-use Rattle.thes_command_line.specs.Opening.{name_trouble, opening_of}
+use Rattle.thes_command_line.specs.Opening.{opening_of}
+use Rattle.thes_command_line.specs.Trouble.{name_trouble}
 use Rattle.thes_command_line.specs.declared.arguments.Task.{Task}
 use Rattle.thes_command_line.specs.declared.opening.FileState.{FileState}
 use Rattle.thes_command_line.specs.declared.opening.Opening.{Opening}
 use Rattle.thes_command_line.specs.declared.trouble.StoreTrouble.{StoreTrouble}
 use Rattle.thes_command_line.specs.declared.trouble.StoreTrouble.TheVariants.{Unreadable, Unwritable}
 use Rattle.thes_jobs.specs.Trouble.{trouble_of}
-use Rattle.thes_jobs.specs.declared.starting.StoreDatabase.{StoreDatabase}
-use Rattle.thes_jobs.specs.declared.starting.UnopenedStore.{UnopenedStore}
+use Rattle.thes_jobs.specs.declared.opening.StoreDatabase.{StoreDatabase}
+use Rattle.thes_jobs.specs.declared.opening.UnopenedStore.{UnopenedStore}
 
 -- The way to open a file in this state for a task, for some answer to whether it is marked as that of an unfinished
 -- store; or the trouble and the fault of that choice, or of the names of the files next to it.

@@ -6,8 +6,8 @@ use Rattle.thes_command_line.specs.declared.arguments.DisplayOptions.{DisplayOpt
 use Rattle.thes_command_line.specs.declared.arguments.ServeOptions.{ServeOptions}
 use Rattle.thes_command_line.specs.declared.arguments.Task.{Task}
 use Rattle.thes_command_line.specs.declared.arguments.Task.TheVariants as tasks
-use Rattle.thes_command_line.specs.declared.printing.OpenFailure.{OpenFailure}
-use Rattle.thes_command_line.specs.declared.printing.OpenFailure.TheVariants.{File, Socket, Connection}
+use Rattle.thes_command_line.specs.declared.start_failure.OpenFailure.{OpenFailure}
+use Rattle.thes_command_line.specs.declared.start_failure.OpenFailure.TheVariants.{File, Socket, Connection}
 use Rattle.thes_requests.specs.declared.request.Display.{Display}
 use Rattle.thes_requests.specs.declared.request.Display.TheVariants as displays
 use Rattle.thes_jobs.specs.declared.work.PlannedWork.{PlannedWork}

@@ -13,7 +13,7 @@ use sqlite_disk::{Disk, Files};
 use std::marker::PhantomData;
 use thes_base::fault::Fault;
 use thes_sqlite::cause::Cause;
-use thes_sqlite::reopening::{HeldTables, Reopen};
+use thes_sqlite::reopening::{HeldImage, Reopen};
 
 /// A way to open the databases of stores by the names of their files, and to close them.
 ///
@@ -25,7 +25,7 @@ pub trait Databases {
 
     /// A value that opens a database again. In contracts, its type also gives the contents of the
     /// files before they are opened.
-    type Opener: Reopen<Connection<Self::Engine>> + HeldTables + Drop;
+    type Opener: Reopen<Connection<Self::Engine>> + HeldImage + Drop;
 
     /// What is left of a database's files once it is closed, or when it couldn't be opened.
     type Left: Drop;

@@ -13,22 +13,22 @@ use std::os::unix::fs::MetadataExt;
 use thes_base::fault::Fault;
 use thes_sqlite::cause::Cause;
 use thes_sqlite::files::{close_files, open_files};
-use thes_sqlite::reopening::{HeldTables, Reopen};
+use thes_sqlite::reopening::{HeldImage, Reopen};
 
 /// A token that only this module makes, when it opens files again.
 #[derive(Drop)]
-pub struct Reopening(());
+pub struct ReopeningToken(());
 
 /// The contents of files before they are opened again, as a value for contracts. Making it takes a
 /// `Reopening`, so no other code makes a second image of what files held at first.
 pub trait ReopenedImage {
     /// Returns the image of files that are opened again.
-    fn image_of_reopened(sign: Reopening) -> Self;
+    fn image_of_reopened(sign: ReopeningToken) -> Self;
 }
 
 /// Nothing is known of files that are opened again.
 impl ReopenedImage for Unknown {
-    fn image_of_reopened(_sign: Reopening) -> Unknown {
+    fn image_of_reopened(_sign: ReopeningToken) -> Unknown {
         Unknown
     }
 }
@@ -133,7 +133,7 @@ impl<'r, S> StoreFiles<'r, S> {
     }
 }
 
-impl<S: Start> HeldTables for StoreFiles<'_, S> {
+impl<S: Start> HeldImage for StoreFiles<'_, S> {
     ghost image = { image_at S.Start };
 }
 
@@ -153,7 +153,7 @@ impl<S: Start + ReopenedImage> Reopen<Connection<FileStore<FileFrom<S>>>> for St
         if !self.is_in_place() {
             return Err(Cause::Missing);
         }
-        let image = S::image_of_reopened(Reopening(()));
+        let image = S::image_of_reopened(ReopeningToken(()));
         match open_database_files(self.rt, image, self.file.as_str()) {
             Ok(conn) => Ok(conn),
             Err((cause, _)) => Err(cause),

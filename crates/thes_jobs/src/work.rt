@@ -7,7 +7,7 @@ use std::io;
 use thes_command_line::arguments::{
     DisplayOptions, ScriptOptions, ServeOptions, StoreSetting, Task,
 };
-use thes_command_line::printing::OpenFailure;
+use thes_command_line::start_failure::OpenFailure;
 use thes_requests::request::Display;
 
 /// A listening socket, its port, the number of connections to serve, and whether plans are taken.

@@ -25,7 +25,7 @@ use Rattle.thes_sqlite.specs.FoundRows.{FindsTable, AreFoundRows, PassesTable, P
 use Rattle.thes_sqlite.specs.FoundRows.{FindsInKeeper, IsKeeperOpen}
 use Rattle.thes_sqlite.specs.MigrationEffects.{LeavesUnwritten}
 use Rattle.thes_sqlite.specs.RowReads.{YieldsTable}
-use Rattle.thes_sqlite.specs.Telling.{Tells}
+use Rattle.thes_sqlite.specs.CommitEvidence.{IsRightAnswer}
 use Rattle.thes_sqlite.proofs.KeeperLemmas.{before_read, tables_then}
 
 -- The rows found in some tables, followed by those found in one more, are those found in all of these tables.
@@ -148,11 +148,11 @@ pub unwritten : {S : Type 0} (g : Ghosts S) (old new : Held S) → LeavesTables 
 unwritten g old new leaves settled up = grind (arith, common_steps, before_read)
 
 -- What a database showed before a query that left it unwritten, it also shows afterwards.
-pub tells_after : {S : Type 0} (g : Ghosts S) (changes : List Change) (old new : Held S) (answer : Option Bool)
-    → LeavesUnwritten g old new → (HasCleanDisk (state g new) → Tells changes (state g old).now answer)
-    → IsUp (state g new) → Tells changes (state g new).now answer
-tells_after g changes old new answer leaves tells up =
-    subst (λ (db : Database). Tells changes db answer) (sym (leaves up).1.0) (tells up.0)
+pub right_answer_after : {S : Type 0} (g : Ghosts S) (changes : List Change) (old new : Held S) (answer : Option Bool)
+    → LeavesUnwritten g old new → (HasCleanDisk (state g new) → IsRightAnswer changes (state g old).now answer)
+    → IsUp (state g new) → IsRightAnswer changes (state g new).now answer
+right_answer_after g changes old new answer leaves right up =
+    subst (λ (db : Database). IsRightAnswer changes db answer) (sym (leaves up).1.0) (right up.0)
 
 module _ {S R : Type 0} (g : Ghosts S)
     (gives : R → Table × Option (List Cell) → Result (Unit {0}) Fault → R → Type 0) where

@@ -36,8 +36,8 @@ use Rattle.thes_sqlite.specs.Faults.{IsKeeperFault, HasFailed, error_fault}
 use Rattle.thes_sqlite.specs.KeeperView.{IsUp, raw_in, raw_of_keeper, IsStore, IsKeeperState, IsKeeperUp}
 use Rattle.thes_sqlite.specs.KeeperView.{KeeperView}
 use Rattle.thes_sqlite.specs.MigrationEffects.{IsMigrateFault, HasMetaVersion, IsMetaVerdict, IsVerdictOn}
-use Rattle.thes_sqlite.specs.MigrationEffects.{IsVersionVerdict, IsMigrationVerdict, Judges, meta_fault_of}
-use Rattle.thes_sqlite.specs.MigrationEffects.{IsUnwritten, Migrates, ServesRows}
+use Rattle.thes_sqlite.specs.MigrationEffects.{IsVersionVerdict, IsMigrationVerdict, IsVerdictUnlessFailed}
+use Rattle.thes_sqlite.specs.MigrationEffects.{IsUnwritten, Migrates, ServesRows, meta_fault_of}
 use Rattle.thes_sqlite.specs.MigrationLaws.{HoldsOldState, HoldsState, MigratesState, MigratesStates}
 use Rattle.thes_sqlite.proofs.KeeperLemmas.{raw_of}
 
@@ -104,7 +104,7 @@ module _ {S : Type 0} (g : Ghosts S) (old new : Held S) where
   -- The rows of table meta determine the verdict on the version.
   pub rows_judged : (rows : List Row) (r : Result Bool Fault)
       → (HasCleanDisk (state g new) → Finds (read_text table.Meta) (state g old).now (Some rows))
-      → (r ≡ Err faults.OutOfMemory) ⊎ IsMetaVerdict (Some rows) r → Judges g IsVersionVerdict old new r
+      → (r ≡ Err faults.OutOfMemory) ⊎ IsMetaVerdict (Some rows) r → IsVerdictUnlessFailed g IsVersionVerdict old new r
   rows_judged rows r finds judged clean = grind (arith, common_steps)
 
   unread : (e : Error) → FailsToFind (read_text table.Meta) (state g old) (state g new) e
@@ -115,7 +115,7 @@ module _ {S : Type 0} (g : Ghosts S) (old new : Held S) where
   -- If table meta can't be read, the verdict is a fault, unless the store has failed.
   pub meta_unread : (e : Error) (fault : Fault) → fault ≡ meta_fault_of e
       → (HasCleanDisk (state g new) → FailsToFind (read_text table.Meta) (state g old) (state g new) e)
-      → Judges {V = Bool} g IsVersionVerdict old new (Err fault)
+      → IsVerdictUnlessFailed {V = Bool} g IsVersionVerdict old new (Err fault)
   meta_unread e fault is fails clean = subst (λ f. HasFailed (state g old) (state g new) f
       ⊎ IsVersionVerdict (state g old).now (Err f)) (sym is) (unread e (fails clean))
 
@@ -144,8 +144,8 @@ module _ {S : Type 0} (g : Ghosts S) (old new : Held S) (idle : old.in_transacti
   no_crash = survives_weaker (state g old) (state g new) _ _ (λ _ db none. absurd none) leaves.crash
 
   -- The verdict, or a failure of the store, ends the call with a fault.
-  pub migration_refused : (fault : Fault) → IsMigrateFault fault → Judges {V = Bool} g IsMigrationVerdict old new
-      (Err fault) → Migrates g old new (Err fault)
+  pub migration_refused : (fault : Fault) → IsMigrateFault fault
+      → IsVerdictUnlessFailed {V = Bool} g IsMigrationVerdict old new (Err fault) → Migrates g old new (Err fault)
   migration_refused fault named judged = record {
     idle = leaves.tables.mode idle;
     version = tt;
@@ -172,7 +172,7 @@ module _ {S : Type 0} (g : Ghosts S) (old new : Held S) (idle : old.in_transacti
 
   -- A database of version 2 is unchanged.
   pub migration_current : (HasCleanDisk (state g new) → IsUnwritten (state g old) (state g new))
-      → Judges {V = Bool} g IsMigrationVerdict old new (Ok false) → Migrates g old new (Ok 2)
+      → IsVerdictUnlessFailed {V = Bool} g IsMigrationVerdict old new (Ok false) → Migrates g old new (Ok 2)
   migration_current same judged = record {
     idle = leaves.tables.mode idle;
     version = refl;
@@ -197,7 +197,7 @@ module _ {S : Type 0} (g : Ghosts S) (old new : Held S) (idle : old.in_transacti
 
 module _ {S : Type 0} (g : Ghosts S) (old mid new : Held S) (idle : old.in_transaction ≡ false)
     (leaves : LeavesAlone g old mid) (kept : HasCleanDisk (state g mid) → IsUnwritten (state g old) (state g mid))
-    (judged : Judges {V = Bool} g IsMigrationVerdict old mid (Ok true))
+    (judged : IsVerdictUnlessFailed {V = Bool} g IsMigrationVerdict old mid (Ok true))
     (less : doubt (state g mid).is_clean ≤ doubt (state g new).is_clean) (crash : Survives (state g mid) (state g new)
     (λ trees. (t : Tables) → KeepsOld (state g mid).now t → Hold trees (tables_after_migration t))) where
   clean_mid : HasCleanDisk (state g new) → HasCleanDisk (state g mid)

@@ -11,7 +11,7 @@ use Rattle.thes_sqlite.specs.DatabaseFiles.{ServesFiles}
 use Rattle.thes_sqlite.specs.KeeperView.{KeeperView, IsKeeperState}
 use Rattle.thes_sqlite.specs.MigrationEffects.{LeavesUnwritten}
 use Rattle.thes_sqlite.specs.Reopening.{ReopeningView, IsKeptOrLost, IsOfFiles, LosesShut, ReturnsFirst}
-use Rattle.thes_sqlite.specs.Reopening.{ShowsChanges, StaysUnwritten, TellsOpen, first_storage}
+use Rattle.thes_sqlite.specs.Reopening.{ShowsChanges, StaysUnwritten, IsRightAnswerOpen, first_storage}
 
 -- A connection that was opened again isn't reported as the first one.
 pub reports_reopened : {A : Type 0} (o : A) (returned : A × Bool) → returned ≡ (o, true) → returned.1 ≡ false → ⊥
@@ -105,9 +105,9 @@ reopened_without g image false (Some k) lost kept none = absurd (cc)
 
 -- The answer that the open database gives is one that `ShowsChanges` allows.
 pub shows_answer : {S : Type 0} (g : Ghosts S) (changes : List Change) (old new : ReopeningView S) (found : Bool)
-    → TellsOpen g changes new.storage found → ShowsChanges g changes old new found
-shows_answer g changes old new true tells = tells
-shows_answer g changes old new false tells = inr (inl tells)
+    → IsRightAnswerOpen g changes new.storage found → ShowsChanges g changes old new found
+shows_answer g changes old new true right = right
+shows_answer g changes old new false right = inr (inl right)
 
 -- A connection that isn't used stays unwritten.
 pub stays_itself : {S : Type 0} (g : Ghosts S) (storage : Option (KeeperView S)) → StaysUnwritten g storage storage

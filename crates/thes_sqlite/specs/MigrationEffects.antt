@@ -79,14 +79,14 @@ IsMigrationVerdict db r = (found : Option (List Row)) × Finds (read_text table.
     × IsVerdictOn db.schema found r
 
 -- If the disk hasn't failed silently, the result is the verdict on the database, unless the store has failed.
-abbrev pub Judges : {S V : Type 0} → Ghosts S → (Database → Result V Fault → Type 0) → Held S → Held S → Result V Fault
-    → Type 0
-Judges g Is old new r =
+abbrev pub IsVerdictUnlessFailed : {S V : Type 0} → Ghosts S → (Database → Result V Fault → Type 0) → Held S → Held S
+    → Result V Fault → Type 0
+IsVerdictUnlessFailed g Is old new r =
     HasCleanDisk (state g new) → IsErrAnd r (HasFailed (state g old) (state g new)) ⊎ Is (state g old).now r
 
 -- The effect of every check for a migration: success keeps the database and what is committed of it, no result changes
 -- a database in which nothing is uncommitted, and a fault is one that a migration returns.
-pub record JudgeFrame {S V : Type 0} (g : Ghosts S) (old new : Held S) (r : Result V Fault) : Type 0 where
+pub record VerdictFrame {S V : Type 0} (g : Ghosts S) (old new : Held S) (r : Result V Fault) : Type 0 where
   pub database : KeepsDatabase g old new r
   pub effect : LeavesAlone g old new
   pub fault : IfErr r IsMigrateFault

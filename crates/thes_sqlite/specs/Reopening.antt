@@ -16,7 +16,7 @@ use Rattle.thes_sqlite.specs.KeeperView.{KeeperView, keeper_view_code, raw_of_ke
 use Rattle.thes_sqlite.specs.KeeperView.{IsUp}
 use Rattle.thes_sqlite.specs.Commits.{AppliesAll}
 use Rattle.thes_sqlite.specs.MigrationEffects.{LeavesUnwritten}
-use Rattle.thes_sqlite.specs.Telling.{Tells}
+use Rattle.thes_sqlite.specs.CommitEvidence.{IsRightAnswer}
 
 -- The storage over a connection, before any call.
 abbrev pub keeper_of_connection : {S : Type 0} → Held S → KeeperView S
@@ -161,17 +161,18 @@ AppliesOpen g changes (Some k) (Some l) = AppliesAll g changes k.conn l.conn
 AppliesOpen g changes _ _ = ⊥
 
 -- There is a connection, and the answer is whether its database, if it is up, shows the changes.
-abbrev pub TellsOpen : {S : Type 0} → Ghosts S → List Change → Option (KeeperView S) → Bool → Type 0
-TellsOpen g changes None answer = ⊥
-TellsOpen g changes (Some k) answer = IsUp (state g k.conn) → Tells changes (state g k.conn).now (Some answer)
+abbrev pub IsRightAnswerOpen : {S : Type 0} → Ghosts S → List Change → Option (KeeperView S) → Bool → Type 0
+IsRightAnswerOpen g changes None answer = ⊥
+IsRightAnswerOpen g changes (Some k) answer =
+    IsUp (state g k.conn) → IsRightAnswer changes (state g k.conn).now (Some answer)
 
 -- The answer to whether changes were made although their commit failed: `true` only if the database, opened again,
 -- shows them; `false` only if it shows that they weren't made, if it was open and unwritten, or if the request is in
 -- doubt.
 abbrev pub ShowsChanges : {S : Type 0} → Ghosts S → List Change → ReopeningView S → ReopeningView S → Bool → Type 0
-ShowsChanges g changes old new true = TellsOpen g changes new.storage true
+ShowsChanges g changes old new true = IsRightAnswerOpen g changes new.storage true
 ShowsChanges g changes old new false = StaysUnwritten g old.storage new.storage
-    ⊎ (TellsOpen g changes new.storage false ⊎ (new.is_in_doubt ≡ true))
+    ⊎ (IsRightAnswerOpen g changes new.storage false ⊎ (new.is_in_doubt ≡ true))
 
 -- The answer of a commit: success only if the changes were made, or the database, opened again, shows them; a fault
 -- only if the database was open and unwritten, if, opened again, it shows that they weren't made, or if the request is
@@ -179,7 +180,7 @@ ShowsChanges g changes old new false = StaysUnwritten g old.storage new.storage
 abbrev pub EndsCommit : {S T : Type 0} → Ghosts S → List Change → ReopeningView S → ReopeningView S → Result T Fault
     → Type 0
 EndsCommit g changes old new (Ok x) = AppliesOpen g changes old.storage new.storage
-    ⊎ TellsOpen g changes new.storage true
+    ⊎ IsRightAnswerOpen g changes new.storage true
 EndsCommit g changes old new (Err fault) = ShowsChanges g changes old new false
 
 -- The first connection is returned, which no failure is known to have shut. At the start its database was that of files

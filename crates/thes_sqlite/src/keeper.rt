@@ -15,18 +15,18 @@ ghost use Rattle.thes_sqlite.specs.KeeperView.{IsUp, IsStore, IsKeeperState, IsK
 ghost use Rattle.thes_sqlite.specs.KeeperView.{raw_table, raw_of_keeper, storage_view};
 ghost use Rattle.thes_sqlite.specs.MigrationEffects.{Migrates, HasCountedCause, ServesAfterMigration, LeavesUnwritten};
 ghost use Rattle.thes_sqlite.specs.Commits.{AppliesAll, DatabaseFrame, KeeperCommitFrame, IsCrashSafe};
-ghost use Rattle.thes_sqlite.specs.Telling.{Tells};
+ghost use Rattle.thes_sqlite.specs.CommitEvidence.{IsRightAnswer};
 ghost use Rattle.thes_sqlite.specs.FoundRows.{IsKeeperOpen, FindsInKeeper, PassesTable, PassesNamed};
 ghost use Rattle.thes_sql.specs.Reads.{LeavesTables};
 ghost use Rattle.sqlite.specs.Held.{state};
 ghost use Rattle.sqlite.specs.State.{HasCleanDisk};
 
 use crate::cause::{Cause, FaultCause};
+use crate::commit_evidence::has_changes;
 use crate::faults::{count_fault, count_if_store, fault_of};
 use crate::migrating::migrate_database;
 use crate::posting_look_ups::{find_posting, find_row, find_with_moves};
 use crate::row_streams::{collect_numbers, yield_postings, yield_table_rows};
-use crate::telling::has_changes;
 use sqlite::{Alter, Connection};
 use std::alloc::Global;
 use std::marker::Model;
@@ -207,8 +207,8 @@ impl<S: Alter> SqlKeeper<S> {
     /// don't show this, or can't be queried.
     #[tactic(auto, using(crate::proofs::FoundRowLemmas::unwritten))]
     pub(crate) fn has_changes(&mut self, changes: &[Change]) -> Option<bool>
-        ensures tells { IsUp (state S.Store self.new.conn)
-            → Tells changes.now (state S.Store self.new.conn).now result }
+        ensures answer { IsUp (state S.Store self.new.conn)
+            → IsRightAnswer changes.now (state S.Store self.new.conn).now result }
         ensures keeps { KeepsStorage (storage_view S.Store self.old)
             (storage_view S.Store self.new) }
         ensures first { self.new.first ≡ self.old.first }

@@ -3,6 +3,7 @@
 
 mod any_cells;
 pub mod cause;
+mod commit_evidence;
 pub mod faults;
 pub mod files;
 mod head;
@@ -16,5 +17,4 @@ pub mod progress;
 pub mod reopening;
 mod row_streams;
 mod rows;
-mod telling;
 pub mod unread;

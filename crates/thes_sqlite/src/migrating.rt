@@ -1,6 +1,6 @@
 //! Migrates a database from version 1 of the tables to version 2.
 ghost use Rattle.std.specs.Prelude.{◌≡◌, ◌⊎◌, Some, Err, IfErr, false};
-ghost use Rattle.thes_sqlite.specs.MigrationEffects.{IsMigrateFault, IsMetaVerdict, IsVersionVerdict, IsLinkVerdict, IsMigrationVerdict, JudgeFrame, Judges, Migrates};
+ghost use Rattle.thes_sqlite.specs.MigrationEffects.{IsMigrateFault, IsMetaVerdict, IsVersionVerdict, IsLinkVerdict, IsMigrationVerdict, VerdictFrame, IsVerdictUnlessFailed, Migrates};
 ghost use Rattle.thes_sqlite.specs.MigrationEffects.{meta_fault_of, links_verdict_of, hier_verdict_of};
 ghost use Rattle.thes_sqlite.specs.Causes.{error_cause};
 ghost use Rattle.thes_sqlite.specs.Versions.{SpellsVersion};
@@ -87,13 +87,13 @@ fn meta_fault(error: Error, cause: &mut Cause) -> Fault
 
 // Returns whether a database has version 1 rather than version 2, by its table meta; anything else
 // is a fault.
-fn judge_version<S: Alter>(
+fn check_version<S: Alter>(
     alloc: Global,
     conn: &mut Connection<S>,
     cause: &mut Cause,
 ) -> Result<bool, Fault>
-    ensures judged { Judges S.Store IsVersionVerdict conn.old conn.new result }
-    ensures frame { JudgeFrame S.Store conn.old conn.new result }
+    ensures judged { IsVerdictUnlessFailed S.Store IsVersionVerdict conn.old conn.new result }
+    ensures frame { VerdictFrame S.Store conn.old conn.new result }
 {
     match version_rows(conn) {
         Ok(rows) => is_version_1(alloc, rows.as_slice()),
@@ -131,10 +131,10 @@ fn hier_verdict(there: Result<bool, Error>, cause: &mut Cause) -> Result<(), Fau
 
 // Checks that a database has the tables of links of version 1: link can be queried, and there is no
 // hier.
-fn judge_links<S: Alter>(conn: &mut Connection<S>, cause: &mut Cause) -> Result<(), Fault>
-    ensures judged { Judges S.Store (λ (db : Database). IsLinkVerdict db.schema) conn.old conn.new
-        result }
-    ensures frame { JudgeFrame S.Store conn.old conn.new result }
+fn check_link_tables<S: Alter>(conn: &mut Connection<S>, cause: &mut Cause) -> Result<(), Fault>
+    ensures judged { IsVerdictUnlessFailed S.Store (λ (db : Database). IsLinkVerdict db.schema)
+        conn.old conn.new result }
+    ensures frame { VerdictFrame S.Store conn.old conn.new result }
 {
     links_verdict(has_links(conn), cause)?;
     hier_verdict(has_hier(conn), cause)
@@ -142,18 +142,18 @@ fn judge_links<S: Alter>(conn: &mut Connection<S>, cause: &mut Cause) -> Result<
 
 // Returns true for a database of version 1 that can be migrated, and false for one of version 2;
 // any other database is a fault.
-fn judge<S: Alter>(
+fn check_migration<S: Alter>(
     alloc: Global,
     conn: &mut Connection<S>,
     cause: &mut Cause,
 ) -> Result<bool, Fault>
-    ensures judged { Judges S.Store IsMigrationVerdict conn.old conn.new result }
-    ensures frame { JudgeFrame S.Store conn.old conn.new result }
+    ensures judged { IsVerdictUnlessFailed S.Store IsMigrationVerdict conn.old conn.new result }
+    ensures frame { VerdictFrame S.Store conn.old conn.new result }
 {
-    if !judge_version(alloc, conn, cause)? {
+    if !check_version(alloc, conn, cause)? {
         return Ok(false);
     }
-    judge_links(conn, cause)?;
+    check_link_tables(conn, cause)?;
     Ok(true)
 }
 
@@ -170,7 +170,7 @@ pub(crate) fn migrate_database<S: Alter>(
 {
     let settled = conn.is_autocommit();
     prove!(settled);
-    if !judge(alloc, conn, cause)? {
+    if !check_migration(alloc, conn, cause)? {
         return Ok(2);
     }
     match migrate_tables(conn) {

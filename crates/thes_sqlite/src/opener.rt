@@ -15,7 +15,7 @@ pub trait Reopen<C> {
 }
 
 /// The contents that a database's files had before they were opened; only contracts use them.
-pub trait HeldTables {
+pub trait HeldImage {
     // The contents of the two files: the database file and its log.
     ghost image: { Image };
 }

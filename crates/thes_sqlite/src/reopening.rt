@@ -14,7 +14,7 @@ mod open_storage;
 use crate::cause::{Cause, FaultCause};
 use crate::faults::{count_fault, count_fault_in};
 use crate::keeper::SqlKeeper;
-pub use crate::opener::{HeldTables, Reopen};
+pub use crate::opener::{HeldImage, Reopen};
 use crate::progress::Progress;
 use sqlite::{Alter, Connection};
 use std::alloc::Global;
@@ -31,7 +31,7 @@ use thes_tables::rows::PostingRow;
 /// Storage that keeps its tables in a database, opens the database again after a failure has shut
 /// it, and reports its progress. Contracts describe its rows up to the first such failure; after
 /// that, only its faults, and what a commit's answer means. They don't mention the reports.
-pub struct ReopeningKeeper<S: Alter, O: Reopen<Connection<S>> + HeldTables, L> {
+pub struct ReopeningKeeper<S: Alter, O: Reopen<Connection<S>> + HeldImage, L> {
     // The storage over the open connection; None while the database can't be opened.
     storage: Option<SqlKeeper<S>>,
     // Whether a failure has shut the first connection.
@@ -53,7 +53,7 @@ pub struct ReopeningKeeper<S: Alter, O: Reopen<Connection<S>> + HeldTables, L> {
     alloc: Global,
 }
 
-impl<S: Alter, O: Reopen<Connection<S>> + HeldTables, L> Model for ReopeningKeeper<S, O, L> {
+impl<S: Alter, O: Reopen<Connection<S>> + HeldImage, L> Model for ReopeningKeeper<S, O, L> {
     ghost use Rattle.thes_sqlite.specs.Reopening.{IsCertain, IsKeptOrLost, IsOfFiles, ReopeningView, first_storage};
     ghost use Rattle.thes_sqlite.specs.Reopening.{reopening_view_code};
 
@@ -84,7 +84,7 @@ pub struct Leaving<S: Alter> {
     pub is_reopened: bool,
 }
 
-impl<S: Alter + Drop, O: Reopen<Connection<S>> + HeldTables, L: Progress> ReopeningKeeper<S, O, L> {
+impl<S: Alter + Drop, O: Reopen<Connection<S>> + HeldImage, L: Progress> ReopeningKeeper<S, O, L> {
     /// Takes over a connection without reading from it. Loads and look-ups of postings by their
     /// keys are reported to `progress`.
     pub fn new(
@@ -201,7 +201,7 @@ impl<S: Alter + Drop, O: Reopen<Connection<S>> + HeldTables, L: Progress> Reopen
 }
 
 /// The cause may also be that of a failure to open the database again.
-impl<S: Alter, O: Reopen<Connection<S>> + HeldTables, L> FaultCause for ReopeningKeeper<S, O, L> {
+impl<S: Alter, O: Reopen<Connection<S>> + HeldImage, L> FaultCause for ReopeningKeeper<S, O, L> {
     fn cause(&self) -> Cause {
         self.cause
     }
@@ -209,7 +209,7 @@ impl<S: Alter, O: Reopen<Connection<S>> + HeldTables, L> FaultCause for Reopenin
 
 /// A load, or a commit that fails, opens the database again if a failure has shut it; look-ups
 /// don't. Loads and look-ups by key are reported.
-impl<S: Alter + Drop, O: Reopen<Connection<S>> + HeldTables, L: Progress> Keeper
+impl<S: Alter + Drop, O: Reopen<Connection<S>> + HeldImage, L: Progress> Keeper
     for ReopeningKeeper<S, O, L> {
     ghost use Rattle.thes_sqlite.specs.Reopening.{storage_still, IsStillOpen, FindsStill};
 

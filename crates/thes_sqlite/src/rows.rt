@@ -19,7 +19,7 @@ use thes_tables::rows::{MoveRow, PostingRow};
 
 // Returns a value of the database as a cell; None for a value that no table has (a real, a blob, or
 // a text that isn't UTF-8).
-fn cell_of(alloc: Global, value: ValueRef<'_>) -> Result<Option<Cell>, AllocError>
+fn stored_cell_of(alloc: Global, value: ValueRef<'_>) -> Result<Option<Cell>, AllocError>
     ensures { IfOk result (λ cell. IfSome cell (λ c. value_of c ≡ owned value.entry)) }
 {
     match value {
@@ -43,7 +43,7 @@ fn cells_of(alloc: Global, row: &Row) -> Result<Option<Vec<Cell>>, AllocError>
         let Ok(value) = row.get_ref(at) else {
             return Ok(None);
         };
-        match cell_of(alloc, value)? {
+        match stored_cell_of(alloc, value)? {
             Some(cell) => cells.push(cell)?,
             None => return Ok(None),
         }

@@ -10,7 +10,7 @@ ghost use Rattle.thes_sqlite.specs.Reopening.{FindsOfFirst, IsStillOpen, KeepsOn
 ghost use Rattle.thes_sqlite.specs.Reopening.{StaysUnwritten, AppliesOpen, ShowsChanges};
 
 use crate::cause::FaultCause;
-use crate::opener::{HeldTables, Reopen};
+use crate::opener::{HeldImage, Reopen};
 use crate::progress::Progress;
 use crate::progress::counting_sink::load_counted;
 use crate::reopening::ReopeningKeeper;
@@ -19,7 +19,7 @@ use thes_base::fault::Fault;
 use thes_store::sink::RowSink;
 use thes_tables::change::Change;
 
-impl<S: Alter + Drop, O: Reopen<Connection<S>> + HeldTables, L: Progress> ReopeningKeeper<S, O, L> {
+impl<S: Alter + Drop, O: Reopen<Connection<S>> + HeldImage, L: Progress> ReopeningKeeper<S, O, L> {
     // Opens the database again if the failed commit of these changes has shut it, and returns
     // whether they were made nevertheless. Returns false if the database wasn't shut. If it can't
     // be checked whether they were made, sets `is_in_doubt` and returns false.

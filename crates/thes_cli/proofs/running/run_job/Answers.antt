@@ -3,7 +3,7 @@ use Rattle.thes_cli.proofs.running.run_job.Goals as goal
 
 pub returns-in-Ok-InFile-clause-leads : goal.returns-in-Ok-InFile-clause-leads
 returns-in-Ok-InFile-clause-leads g c =
-    leads_by_work g.D.Engine.Store g.D.Opener.HeldTables.image g.C.Errors.Write.contents
+    leads_by_work g.D.Engine.Store g.D.Opener.HeldImage.image g.C.Errors.Write.contents
     g.D.Databases.is_clean g.D.Databases.holds g.D.Databases.keeps _ g.C.Input.Read.remaining
     g.C.Output.Write.contents c.args.planned c.args.given.now.streams
     c.work_in_database.new.given.streams c.work_in_database.result.0 c.in-Ok-InFile.job
@@ -12,13 +12,13 @@ returns-in-Ok-InFile-clause-leads g c =
 
 pub returns-in-Ok-InMemory-clause-leads : goal.returns-in-Ok-InMemory-clause-leads
 returns-in-Ok-InMemory-clause-leads g c =
-    leads_without_files g.D.Engine.Store g.D.Opener.HeldTables.image g.C.Errors.Write.contents
+    leads_without_files g.D.Engine.Store g.D.Opener.HeldImage.image g.C.Errors.Write.contents
     g.D.Databases.is_clean g.D.Databases.holds g.D.Databases.keeps c.args.planned c.args.given.now.streams.errors
     c.work_in_memory.new.given.streams.errors c.work_in_memory.result c.without_files.result c.without_files.ensures
 
 pub returns-in-Ok-Migration-clause-leads : goal.returns-in-Ok-Migration-clause-leads
 returns-in-Ok-Migration-clause-leads g c =
-    leads_by_migration g.D.Engine.Store g.D.Opener.HeldTables.image g.C.Errors.Write.contents
+    leads_by_migration g.D.Engine.Store g.D.Opener.HeldImage.image g.C.Errors.Write.contents
     g.D.Databases.is_clean g.D.Databases.holds g.D.Databases.keeps g.row.D-Opener.Denot
     g.C.Output.Write.contents c.args.planned c.args.given.now.streams
     c.migrate.new.given.streams c.migrate.result.0 c.in-Ok-Migration.file c.in-Ok-Migration.conn
@@ -27,13 +27,13 @@ returns-in-Ok-Migration-clause-leads g c =
 
 pub returns-in-Ok-Version-clause-leads : goal.returns-in-Ok-Version-clause-leads
 returns-in-Ok-Version-clause-leads g c =
-    leads_without_files g.D.Engine.Store g.D.Opener.HeldTables.image g.C.Errors.Write.contents
+    leads_without_files g.D.Engine.Store g.D.Opener.HeldImage.image g.C.Errors.Write.contents
     g.D.Databases.is_clean g.D.Databases.holds g.D.Databases.keeps c.args.planned c.args.given.now.streams.errors _ _
     c.without_files-in-Ok-Version.result c.without_files-in-Ok-Version.ensures
 
 pub returns-in-Err-clause-leads : goal.returns-in-Err-clause-leads
 returns-in-Err-clause-leads g c =
-    leads_without_work g.D.Engine.Store g.D.Opener.HeldTables.image g.C.Errors.Write.contents
+    leads_without_work g.D.Engine.Store g.D.Opener.HeldImage.image g.C.Errors.Write.contents
     g.D.Databases.is_clean g.D.Databases.holds g.D.Databases.keeps g.row.D-Opener.Denot
     g.C.Output.Write.contents c.args.planned c.args.given.now.streams
     c.report_no_job.new.given.streams c.report_no_job.result.0 c.in-Err.failed c.report_no_job.result.1

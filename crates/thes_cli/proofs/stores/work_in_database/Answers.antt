@@ -11,7 +11,7 @@ pub returns : goal.returns
 returns g c =
     works_to_closing g.D.Engine.Store g.T.PostingFile.Read.remaining g.T.Input.Read.remaining
     g.T.Output.Write.contents g.T.Errors.Write.contents g.D.Databases.is_clean g.D.Databases.holds
-    g.D.Opener.HeldTables.image c.args.job c.args.given.now.streams c.work_over_keeper-status.new.given.streams
+    g.D.Opener.HeldImage.image c.args.job c.args.given.now.streams c.work_over_keeper-status.new.given.streams
     c.work_over_keeper-status.result.0 c.leave.result
     record {
       keeper = c.work_over_keeper-status.result.1;
@@ -32,5 +32,5 @@ returns g c =
 
 pub new-keeper-requires-clause-of_files : goal.new-keeper-requires-clause-of_files
 new-keeper-requires-clause-of_files g c =
-    serves_files g.D.Opener.HeldTables.image c.args.job.setting.base (state g.D.Engine.Store c.args.job.conn)
+    serves_files g.D.Opener.HeldImage.image c.args.job.setting.base (state g.D.Engine.Store c.args.job.conn)
     c.requires.ready.serves

@@ -9,7 +9,7 @@ pub returns-clause-returns : goal.returns-clause-returns
 returns-clause-returns g c =
     let is = ap (λ (v : ReopeningView _). v.first) c.self.view_is in
     elim c.match-storage.branch [
-      | in-Some w ↦ λ stays. returns_first g.S.Store g.O.HeldTables.image c.args.self c.self.inside.is_reopened
+      | in-Some w ↦ λ stays. returns_first g.S.Store g.O.HeldImage.image c.args.self c.self.inside.is_reopened
           c.self.inside.storage w.in-Some.keeper w.into_connection.result c.match-storage.conn is w.in-Some.is
           c.self.invariant.0 w.into_connection.ensures.is w.into_connection.ensures.kept w.conn-is stays
       | in-None w ↦ λ stays. absurd (reports_reopened _ c.match-storage.conn w.conn-is stays)
@@ -17,11 +17,11 @@ returns-clause-returns g c =
 
 pub returns-clause-lost : goal.returns-clause-lost
 returns-clause-lost g c = elim c.match-storage.branch [
-  | in-Some w ↦ λ again. lost_when_reopened g.S.Store g.O.HeldTables.image c.self.inside.is_reopened
+  | in-Some w ↦ λ again. lost_when_reopened g.S.Store g.O.HeldImage.image c.self.inside.is_reopened
       c.self.inside.storage c.self.inside.loss.value c.self.invariant.1.1
       (sym (ap (λ (r : Option (Held _) × Bool). r.1) w.conn-is) ∙ again)
-  | in-None w ↦ λ again. lost_when_reopened g.S.Store g.O.HeldTables.image c.self.inside.is_reopened
+  | in-None w ↦ λ again. lost_when_reopened g.S.Store g.O.HeldImage.image c.self.inside.is_reopened
       c.self.inside.storage c.self.inside.loss.value c.self.invariant.1.1
-      (reopened_without g.S.Store g.O.HeldTables.image c.self.inside.is_reopened c.self.inside.storage
+      (reopened_without g.S.Store g.O.HeldImage.image c.self.inside.is_reopened c.self.inside.storage
       c.self.inside.loss.value c.self.invariant.1.1 w.in-None.is)
 ]

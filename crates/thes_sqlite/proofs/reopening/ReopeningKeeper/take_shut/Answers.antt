@@ -17,7 +17,7 @@ invariant_of-self-2 g c = elim c.if-not-self.branch [
           tt,
           (
             tt,
-            loses_shut g.S.Store g.O.HeldTables.image c.self.inside.is_reopened c.self.inside.storage
+            loses_shut g.S.Store g.O.HeldImage.image c.self.inside.is_reopened c.self.inside.storage
                 c.if-not-self.self-inside.loss.value None v.in-Some.keeper v.is_shut.new.self c.in-Some-take.keeper
                 c.self.invariant.0 fresh v.in-Some.is lost v.is_shut.ensures.first v.is_shut.ensures.leaves
                 (v.is_shut.ensures.shut v.if-not-is_shut.false)
@@ -40,7 +40,7 @@ invariant_of-self-2 g c = elim c.if-not-self.branch [
           tt,
           (
             tt,
-            stays_lost g.S.Store g.O.HeldTables.image c.self.inside.is_reopened c.self.inside.storage
+            stays_lost g.S.Store g.O.HeldImage.image c.self.inside.is_reopened c.self.inside.storage
                 c.self.inside.loss.value c.if-not-self.self-inside.loss.value None c.self.invariant.1.1 before same,
           ),
         )
@@ -51,7 +51,7 @@ invariant_of-self-2 g c = elim c.if-not-self.branch [
           tt,
           (
             tt,
-            stays_lost g.S.Store g.O.HeldTables.image c.self.inside.is_reopened c.self.inside.storage
+            stays_lost g.S.Store g.O.HeldImage.image c.self.inside.is_reopened c.self.inside.storage
                 c.self.inside.loss.value c.if-not-self.self-inside.loss.value None c.self.invariant.1.1 before same,
           ),
         )

@@ -1,7 +1,0 @@
-use Rattle.std.proofs.Common.{◌≡◌, drop}
-use Rattle.std.specs.List.{find}
-use Rattle.thes_sqlite.specs.Telling.{marks_for_good}
-use Rattle.thes_sqlite.proofs.telling.first_mark.Given as goal
-
-abbrev pub invariant-loop-change : goal.invariant-loop-change
-invariant-loop-change l = find marks_for_good (drop l.change-index l.changes) ≡ find marks_for_good l.changes

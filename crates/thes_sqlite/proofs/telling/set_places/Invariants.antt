@@ -1,7 +1,0 @@
-use Rattle.std.proofs.Common.{◌≡◌, drop}
-use Rattle.std.specs.List.{list_any}
-use Rattle.thes_sqlite.specs.Telling.{sets_places}
-use Rattle.thes_sqlite.proofs.telling.set_places.Given as goal
-
-abbrev pub invariant-loop-change : goal.invariant-loop-change
-invariant-loop-change l = list_any sets_places (drop l.change-index l.changes) ≡ list_any sets_places l.changes
