@@ -111,7 +111,7 @@ fn with_good_references(plan: Vec<PlanRequest>) -> Result<Vec<PlanRequest>, Plan
 }
 
 // Reads a plan from the items of an array.
-#[tactic(auto, using(crate::proofs::ReferenceLemmas::plan_array_length))]
+#[tactic(auto, using(crate::proofs::PlanReadingLemmas::plan_array_length))]
 fn plan_of_items(alloc: Global, items: Vec<Value<'_>>) -> Result<Vec<PlanRequest>, PlanStop>
     ensures { GivesPlan (PlanValueReadsAs (array (items_view items.entry.items))) result }
 {
