@@ -58,7 +58,11 @@ fn write_terms(text: &mut Vec<u8>, terms: &[Term], symbol: Symbol) -> Result<(),
 }
 
 // Appends the lines of one symbol for these labels.
-fn write_texts(text: &mut Vec<u8>, labels: &[&Label], symbol: Symbol) -> Result<(), AllocError>
+fn write_label_lines(
+    text: &mut Vec<u8>,
+    labels: &[&Label],
+    symbol: Symbol,
+) -> Result<(), AllocError>
     ensures { OnOk result (text.new.items ≡ text.old.items ++ label_lines symbol labels.now) }
 {
     for label in labels {
@@ -83,7 +87,7 @@ fn write_labels(
 {
     let labels = labels_in(source.alloc, source.core, n, kind, source.tag)?;
     if labels.len() <= 1 {
-        return write_texts(text, labels.as_slice(), symbol);
+        return write_label_lines(text, labels.as_slice(), symbol);
     }
     let terms = sorted_labels(source.alloc, labels.as_slice(), n)?;
     write_terms(text, terms.as_slice(), symbol)
