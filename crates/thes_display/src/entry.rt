@@ -16,7 +16,7 @@ use crate::entry_terms::{
 };
 use crate::heading::{Heading, headings_of};
 use crate::heading_index::{HeadingIndex, index_of, sorted_places};
-use crate::ranks::rank_of;
+use crate::number_table::value_at;
 use crate::symbol::{Hierarchy, Symbol};
 use crate::term::Term;
 use std::alloc::{AllocError, Global};
@@ -216,7 +216,7 @@ fn write_use(source: &EntrySource<'_>, text: &mut Vec<u8>, n: ResNo) -> Result<(
         OnOk result (text.new.items ≡ text.old.items ++ entry_line (codes "USE") used) }
 {
     let index = source.index;
-    match rank_of(index.places.as_slice(), n.get() as usize) {
+    match value_at(index.places.as_slice(), n.get() as usize) {
         Some(place) => push_entry_line(text, b"USE", text_of(index.headings.as_slice(), place)),
         None => {
             let term = source.core.term(source.alloc, n, source.tag)?;
