@@ -6,8 +6,9 @@ use std::io;
 use std::io::ErrorKind;
 use test_office::Store;
 use thes_base::request::{Answer, Command};
+use thes_requests::JsonScratch;
 use thes_requests::answer::{Reply, reply_line};
-use thes_requests::request::{Request, RequestScratch, read_request};
+use thes_requests::request::{Request, read_request};
 
 /// Performs the requests of an example over a new store, by one call, and returns the answers; each
 /// request must be a command.
@@ -43,7 +44,7 @@ fn push_commands(alloc: Global, requests: &str, commands: &mut Vec<Command>) -> 
 
 /// Parses the command of a line; anything else, such as a query, is an error.
 pub fn command_in(alloc: Global, line: &str) -> io::Result<Command> {
-    match read_request(&mut RequestScratch::new(alloc), line.as_bytes()) {
+    match read_request(&mut JsonScratch::new(alloc), line.as_bytes()) {
         Ok(Request::Do(command)) => Ok(command),
         _ => Err(io::Error::from(ErrorKind::InvalidInput)),
     }

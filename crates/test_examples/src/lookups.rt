@@ -12,7 +12,8 @@ use thes_base::request::Command;
 use thes_base::text::{Iri, Tag, Text};
 use thes_core::Core;
 use thes_core::reading::Sizes;
-use thes_requests::request::{RequestScratch, read_request};
+use thes_requests::JsonScratch;
+use thes_requests::request::read_request;
 
 /// Performs the look-up that a line gives by its name and arguments. Returns the result as a text,
 /// or None if nothing is found.
@@ -163,7 +164,7 @@ fn has_link(alloc: Global, core: &Core, words: &str) -> Option<String>
 
 // Returns the name of the form fault of a text that isn't a request.
 fn form_fault(alloc: Global, text: &str) -> Option<String> {
-    let stop = read_request(&mut RequestScratch::new(alloc), text.as_bytes()).err()?;
+    let stop = read_request(&mut JsonScratch::new(alloc), text.as_bytes()).err()?;
     match stop {
         ReadStop::Form(fault) => String::from_str(alloc, fault.name()).ok(),
         ReadStop::OutOfMemory => None,

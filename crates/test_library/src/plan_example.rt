@@ -5,8 +5,8 @@ use crate::office_example::{keeper_after, open};
 use std::alloc::{AllocError, Global};
 use std::fmt::Write;
 use thesaurus::{
-    Command, Fault, Keeper, LinkKind, Office, PlanFault, PlanOutcome, PlanRequest, PlanStop,
-    PostNo, REQUEST_LIMIT, ReadStop, RequestScratch, ResNo, first_bad_reference, read_plan,
+    Command, Fault, JsonScratch, Keeper, LinkKind, Office, PlanFault, PlanOutcome, PlanRequest,
+    PlanStop, PostNo, REQUEST_LIMIT, ReadStop, ResNo, first_bad_reference, read_plan,
 };
 
 // The number of commands that are performed before the plan.
@@ -59,7 +59,7 @@ fn is_plan(plan: &[PlanRequest]) -> bool {
 }
 
 // Reads a line of JSON, and returns in words that it is a plan, or why it isn't.
-fn plan_name(memory: &mut RequestScratch, line: &str) -> &'static str {
+fn plan_name(memory: &mut JsonScratch, line: &str) -> &'static str {
     match read_plan(memory, line.as_bytes()) {
         Ok(_) => "a plan",
         Err(PlanStop::Bad(PlanFault::Whole(fault))) => fault.name(),
@@ -71,7 +71,7 @@ fn plan_name(memory: &mut RequestScratch, line: &str) -> &'static str {
 
 // Appends what `plan_name` returns for a plan, and for a list without requests.
 fn write_names(alloc: Global, report: &mut String) -> Result<(), Failure> {
-    let mut memory = RequestScratch::new(alloc);
+    let mut memory = JsonScratch::new(alloc);
     let name = plan_name(&mut memory, r#"[{"do":"withdraw","posting":1}]"#);
     let other = plan_name(&mut memory, "[]");
     drop(memory);

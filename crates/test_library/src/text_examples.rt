@@ -10,14 +10,14 @@ use std::alloc::Global;
 use std::fmt::Write as _;
 use std::io::{Read, Write};
 use thesaurus::{
-    Answer, Budget, Core, Counts, Fault, FormFault, ImportStop, Imported, Keeper, NoPlans, Office,
-    OfficeHandler, Pipe, PipeFault, ReadStop, Reply, Request, RequestHandler, RequestScratch,
+    Answer, Budget, Core, Counts, Fault, FormFault, ImportStop, Imported, JsonScratch, Keeper,
+    NoPlans, Office, OfficeHandler, Pipe, PipeFault, ReadStop, Reply, Request, RequestHandler,
     ResNo, Routes, Served, Shown, Status, Stop, Tag, alphabetical, export, hierarchical, import,
     read_request, serve_one, write_answer,
 };
 
 // Answers the command in a line of JSON; a query is answered with `BadShape`.
-fn reply_to<H: RequestHandler>(memory: &mut RequestScratch, handler: &mut H, line: &str) -> Reply
+fn reply_to<H: RequestHandler>(memory: &mut JsonScratch, handler: &mut H, line: &str) -> Reply
     requires { H.is_open handler.old ≡ true }
 {
     let command = match read_request(memory, line.as_bytes()) {
@@ -131,7 +131,7 @@ fn write_reply<K: Keeper>(
     handler: &mut OfficeHandler<K, NoPlans>,
     report: &mut String,
 ) -> Result<(), Failure> {
-    let mut memory = RequestScratch::new(alloc);
+    let mut memory = JsonScratch::new(alloc);
     let line = r#"{"do":"post","key":"k2","record":"r2","concept":2}"#;
     let reply = reply_to(&mut memory, handler, line);
     drop(memory);

@@ -22,7 +22,7 @@ use Rattle.thes_display.specs.Order.{Term}
 use Rattle.thes_display.specs.ChildLists.{child, child_cmp}
 use Rattle.thes_display.specs.Hierarchical.{HasRank, IsNarrowerTerm, AreTypes}
 use Rattle.thes_display.specs.HierarchyParts.{AreRanks, AreHomes, IsChildAt, IsChild, IsHomeBelow, rank_at}
-use Rattle.thes_display.proofs.WalkLemmas.{IsOneOf, among_from, contains_of, among_append}
+use Rattle.thes_display.proofs.ListLemmas.{IsOneOf, among_from, contains_of, among_append}
 use Rattle.thes_display.proofs.HierarchyLemmas.{one_concept}
 use Rattle.thes_display.proofs.SortLemmas.{rises_by, listing_in_order}
 use Rattle.thes_display.proofs.HomeLemmas.{rank_from, rank_to}

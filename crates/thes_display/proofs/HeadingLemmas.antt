@@ -24,7 +24,7 @@ use Rattle.thes_display.proofs.LabelLemmas.{text_ties}
 use Rattle.thes_display.proofs.OrderLemmas.{term_total}
 use Rattle.thes_display.proofs.TermLemmas.{first_ties, second_ties, tie}
 use Rattle.thes_display.proofs.SortLemmas.{listing_in_order}
-use Rattle.thes_display.proofs.WalkLemmas.{IsOneOf, among_from, contains_of, among_append, among_left, among_right}
+use Rattle.thes_display.proofs.ListLemmas.{IsOneOf, among_from, contains_of, among_append, among_left, among_right}
 use Rattle.thes_display.proofs.ListingLemmas.{before_taken, listing_as, listing_joined, listing_mapped, listing_none}
 
 abbrev rank : Heading → ℕ

@@ -27,7 +27,7 @@ use Rattle.thes_display.specs.Order.{Term, term_cmp}
 use Rattle.thes_display.proofs.HomeLemmas.{rank_from}
 use Rattle.thes_display.proofs.SortLemmas.{listing_in_order, rises_by}
 use Rattle.thes_display.proofs.TermLemmas.{same_term}
-use Rattle.thes_display.proofs.WalkLemmas.{IsOneOf, among_from, among_map, contains_of, map_among}
+use Rattle.thes_display.proofs.ListLemmas.{IsOneOf, among_from, among_map, contains_of, map_among}
 
 few_found : (o : Option ℕ) (ks : List ℕ) (m : ℕ) → length ks ≤ m → length (cons_option o ks) ≤ m + 1
 few_found None ks m l = omega (arith, l)

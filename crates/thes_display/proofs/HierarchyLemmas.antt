@@ -22,7 +22,7 @@ use Rattle.thes_display.specs.ChildLists.{IsHierarchyText}
 use Rattle.thes_display.specs.Hierarchical.{HasRank, IsNarrowerTerm, IsTop, IsHome, IsAway, AreTypes, AreTerms}
 use Rattle.thes_display.specs.Hierarchical.{IsHierarchicalDisplay}
 use Rattle.thes_display.specs.HierarchyParts.{IsGathered, IsChildAt, IsChild, IsClosed, IsRoot}
-use Rattle.thes_display.proofs.WalkLemmas.{among_from, rises_none}
+use Rattle.thes_display.proofs.ListLemmas.{among_from, rises_none}
 
 -- If the relations that define one hierarchy's lines imply those that define another's, the lines of the first are
 -- lines of the second.

@@ -12,7 +12,7 @@ use Rattle.thes_display.specs.ChildLists.{child, child_cmp}
 use Rattle.thes_display.specs.Order.{Term}
 use Rattle.thes_display.specs.Hierarchical.{IsHome, IsNarrowerTerm}
 use Rattle.thes_display.specs.HierarchyParts.{AreHomes, AreHomesSet, IsChild, IsChildAt, IsHomeBelow, rank_at}
-use Rattle.thes_display.proofs.WalkLemmas.{IsOneOf, among_append, among_from, among_left, among_right, contains_of}
+use Rattle.thes_display.proofs.ListLemmas.{IsOneOf, among_append, among_from, among_left, among_right, contains_of}
 use Rattle.thes_display.proofs.RankLemmas.{same_or}
 use Rattle.thes_display.proofs.HierarchyLemmas.{types_are, types_between}
 

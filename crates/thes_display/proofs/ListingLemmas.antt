@@ -5,8 +5,8 @@ use Rattle.std.proofs.Common.{take, take_all, length, Ordering, Less, ⊎_elim, 
 use Rattle.std.specs.List.{AllByRecursion}
 use Rattle.std.specs.List.Sorted.{IsStrictlySortedBy}
 use Rattle.thes_base.specs.Listing.{IsListing}
-use Rattle.thes_display.proofs.WalkLemmas.{IsOneOf, among_from, contains_of, among_append, among_left, among_right}
-use Rattle.thes_display.proofs.WalkLemmas.{all_of, among_map, each_of, map_among, rises_none, rises_more, rises_append}
+use Rattle.thes_display.proofs.ListLemmas.{IsOneOf, among_from, contains_of, among_append, among_left, among_right}
+use Rattle.thes_display.proofs.ListLemmas.{all_of, among_map, each_of, map_among, rises_none, rises_more, rises_append}
 
 -- A listing of one property is a listing of an equivalent one.
 pub listing_as : {X : Type 0} (cmp : X → X → Ordering) (P Q : X → Type 0) (xs : List X) → ((x : X) → P x → Q x)

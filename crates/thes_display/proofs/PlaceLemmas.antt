@@ -10,8 +10,8 @@ use Rattle.thes_display.specs.declared.walk.Types.{Types}
 use Rattle.thes_display.specs.Lines.{TreeLine, IsHomeward, IsPlaced, HasTypes, untyped}
 use Rattle.thes_display.specs.ChildLists.{children_at, child, child_cmp, IsTopRank, IsChildOf, IsTypedUnder}
 use Rattle.thes_display.specs.ChildLists.{IsLineOfLists, AreHierarchyLists}
-use Rattle.thes_display.proofs.WalkLemmas.{IsOneOf, among_from, contains_of, among_map, map_among, each_of, path_up}
-use Rattle.thes_display.proofs.WalkLemmas.{path_onto, Extends, child_line}
+use Rattle.thes_display.proofs.ListLemmas.{IsOneOf, among_from, contains_of, among_map, map_among, each_of}
+use Rattle.thes_display.proofs.WalkLemmas.{path_up, path_onto, Extends, child_line}
 
 not_below_itself : (x : ℕ) → nat_cmp x x ≡ Less → ⊥
 not_below_itself x e = let t = tied_itself nat_cmp_total x in cc

@@ -13,8 +13,9 @@ use Rattle.thes_display.specs.ChildLists.{child, IsTopRank}
 use Rattle.std.proofs.lemmas.List.{reverse-append, reverse-reverse, length-reverse, map-append}
 use Rattle.std.proofs.lemmas.List.Concat.{flat_map-append}
 use Rattle.std.proofs.lemmas.Bool.{cases_eq}
-use Rattle.thes_display.proofs.WalkLemmas.{IsOneOf, among_from, contains_of, among_map, map_among, among_left}
-use Rattle.thes_display.proofs.WalkLemmas.{among_right, among_append, IsWalk, rises_none, less_itself, path_up}
+use Rattle.thes_display.proofs.ListLemmas.{IsOneOf, among_from, contains_of, among_map, map_among, among_left}
+use Rattle.thes_display.proofs.ListLemmas.{among_right, among_append, rises_none}
+use Rattle.thes_display.proofs.WalkLemmas.{IsWalk, less_itself, path_up}
 use Rattle.thes_display.proofs.WalkLemmas.{path_onto, child_line, placed_apart, walk_step, walk_done}
 use Rattle.thes_display.proofs.PlaceLemmas.{Homeward, IsPlacedHere, below_away, below_home, children_below}
 use Rattle.thes_display.proofs.PlaceLemmas.{one_home_line, line_known}

@@ -16,7 +16,7 @@ use crate::entry_terms::{
 };
 use crate::heading::{Heading, headings_of};
 use crate::heading_index::{HeadingIndex, index_of, sorted_places};
-use crate::ranks::rank_of;
+use crate::number_table::value_at;
 use crate::symbol::{Hierarchy, Symbol};
 use crate::term::Term;
 use std::alloc::{AllocError, Global};
@@ -58,7 +58,11 @@ fn write_terms(text: &mut Vec<u8>, terms: &[Term], symbol: Symbol) -> Result<(),
 }
 
 // Appends a line with the symbol for each of these labels.
-fn write_texts(text: &mut Vec<u8>, labels: &[&Label], symbol: Symbol) -> Result<(), AllocError>
+fn write_label_lines(
+    text: &mut Vec<u8>,
+    labels: &[&Label],
+    symbol: Symbol,
+) -> Result<(), AllocError>
     ensures { OnOk result (text.new.items ≡ text.old.items ++ label_lines symbol labels.now) }
 {
     for label in labels {
@@ -83,7 +87,7 @@ fn write_labels(
 {
     let labels = labels_in(source.alloc, source.core, n, kind, source.tag)?;
     if labels.len() <= 1 {
-        return write_texts(text, labels.as_slice(), symbol);
+        return write_label_lines(text, labels.as_slice(), symbol);
     }
     let terms = sorted_labels(source.alloc, labels.as_slice(), n)?;
     write_terms(text, terms.as_slice(), symbol)
@@ -214,7 +218,7 @@ fn write_use(source: &EntrySource<'_>, text: &mut Vec<u8>, n: ResNo) -> Result<(
         OnOk result (text.new.items ≡ text.old.items ++ entry_line (codes "USE") used) }
 {
     let index = source.index;
-    match rank_of(index.places.as_slice(), n.get() as usize) {
+    match value_at(index.places.as_slice(), n.get() as usize) {
         Some(place) => push_entry_line(text, b"USE", text_of(index.headings.as_slice(), place)),
         None => {
             let term = source.core.term(source.alloc, n, source.tag)?;

@@ -4,7 +4,7 @@ ghost use Rattle.thes_display.specs.HeadingIndex.{ArePlaces, AreSortedPlaces};
 ghost use Rattle.thes_display.specs.HierarchyParts.{rank_at};
 
 use crate::heading::Heading;
-use crate::ranks::{ranks_at, set_rank};
+use crate::number_table::{concept_values, set_value};
 use std::alloc::{AllocError, Global};
 use thes_base::number::ResNo;
 
@@ -23,7 +23,7 @@ fn places_of(alloc: Global, headings: &[Heading]) -> Result<Vec<Option<usize>>, 
     let mut places = Vec::new(alloc);
     for (place, heading) in headings.iter().enumerate() {
         if !heading.lead_in {
-            set_rank(&mut places, heading.term.concept().get() as usize, place)?;
+            set_value(&mut places, heading.term.concept().get() as usize, place)?;
         }
     }
     Ok(places)
@@ -48,7 +48,7 @@ pub fn sorted_places(
     ensures { IfOk result (λ found. IfSome found
         (λ ks. AreSortedPlaces (rank_at places.now) concepts.now ks.items)) }
 {
-    let mut found = ranks_at(alloc, places, concepts)?;
+    let mut found = concept_values(alloc, places, concepts)?;
     if found.len() < concepts.len() {
         return Ok(None);
     }

@@ -13,7 +13,7 @@ ghost use Rattle.thes_display.specs.Hierarchical.{AreTerms, AreTypes, HasRank, I
 ghost use Rattle.thes_display.specs.HierarchyParts.{AreBelow, AreHomes, AreHomesSet, CanFollowLinks, HaveOneRank, IsChild, IsClosed, IsTopByHomes, rank_at};
 
 use crate::entry_terms::{has_link, has_typed_link, sorted_terms_of};
-use crate::ranks::{rank_of, ranks_at, ranks_of, set_rank};
+use crate::number_table::{concept_values, ranks_of, set_value, value_at};
 use crate::term::Term;
 use crate::walk::{Child, Types, hierarchy_text};
 use std::alloc::{AllocError, Global};
@@ -40,7 +40,7 @@ fn is_homeless(homes: &[Option<usize>], child: usize) -> bool
     ensures none { result ≡ true → rank_at homes.now child ≡ None }
     ensures some { result ≡ false → (home : ℕ) × (rank_at homes.now child ≡ Some home) }
 {
-    match rank_of(homes, child) {
+    match value_at(homes, child) {
         Some(_) => false,
         None => true,
     }
@@ -117,7 +117,7 @@ fn children_of(
     let is_typed = has_typed_link(alloc, core, n)?;
     // Narrower concepts without a rank, of which a legal state has none, are left out
     // (DECISIONS.md, Displays and exports).
-    let found = ranks_at(alloc, ranked.ranks, narrower.as_slice())?;
+    let found = concept_values(alloc, ranked.ranks, narrower.as_slice())?;
     let mut children = Vec::new(alloc);
     for child in &found {
         let types = types_at(core, terms, is_typed, *child, rank);
@@ -142,7 +142,7 @@ fn set_homes(
 {
     for child in children {
         if child.at_home {
-            set_rank(homes, child.rank, rank)?;
+            set_value(homes, child.rank, rank)?;
         }
     }
     Ok(())

@@ -13,10 +13,9 @@ use thes_http_request::endpoint::Endpoint;
 use thes_http_request::head_request::HeadRequest;
 use thes_http_request::problem::Problem;
 use thes_http_request::query::read_query;
+use thes_requests::JsonScratch;
 use thes_requests::plan_serving::serve_plan;
-use thes_requests::request::{
-    Display, DisplayRequest, Query, Request, RequestScratch, read_request,
-};
+use thes_requests::request::{Display, DisplayRequest, Query, Request, read_request};
 
 /// Performs the request of a head with this body, and returns the response.
 pub fn act<S: Service>(
@@ -49,7 +48,7 @@ fn perform<S: Service>(alloc: Global, service: &mut S, body: &[u8]) -> Response
     ensures { OrOutOfMemory S.behaviour service.old result service.new
         (CommandEffect S.behaviour service.old result service.new body.now) }
 {
-    match read_request(&mut RequestScratch::new(alloc), body) {
+    match read_request(&mut JsonScratch::new(alloc), body) {
         Ok(Request::Do(command)) => Response::for_command(service.perform(&command)),
         Ok(Request::Get(_)) => Response::form(FormFault::BadShape),
         Err(ReadStop::Form(fault)) => Response::form(fault),
@@ -62,7 +61,7 @@ fn perform_plan<S: Service>(alloc: Global, service: &mut S, body: &[u8]) -> Resp
     requires { S.is_open service.old ≡ true }
     ensures { PlanEffect S.behaviour service.old result service.new body.now }
 {
-    Response::for_plan(serve_plan(&mut RequestScratch::new(alloc), service, body))
+    Response::for_plan(serve_plan(&mut JsonScratch::new(alloc), service, body))
 }
 
 // Passes a query to the service, and returns the response.

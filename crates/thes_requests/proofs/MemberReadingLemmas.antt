@@ -16,7 +16,7 @@ use Rattle.thes_base.specs.declared.fault.ReadStop.{ReadStop}
 use Rattle.thes_base.specs.declared.fault.ReadStop.TheVariants.{Form}
 use Rattle.thes_requests.specs.Keywords.{label_kind_named}
 use Rattle.thes_requests.specs.Members.{has_count, counted_members, number_in, text_in}
-use Rattle.thes_requests.specs.MemberReadings.{is_form_stop, both, if_exact, IsStoppedEarly, ReadsMember, both_found}
+use Rattle.thes_requests.specs.MemberReadings.{is_value_fault, both, if_exact, IsStoppedEarly, ReadsMember, both_found}
 use Rattle.thes_requests.specs.MemberReadings.{pair_of, row, a_label_value, label_value_of}
 use Rattle.thes_requests.specs.Readings.{RequestReading, reads, fails, unless, Gives, ◌>>=◌, value_if}
 use Rattle.thes_requests.specs.Readings.{present_or_bad_shape}
@@ -25,13 +25,13 @@ use Rattle.thes_requests.specs.Requests.{map_reading, members1, members2, member
 use Rattle.thes_requests.proofs.ReadingLemmas.{gives_value, gives_fault}
 
 -- A form fault for which `is_form_stop` is false is `BadShape`.
-early_fault : (f : FormFault) → is_form_stop (Form f) ≡ false → f ≡ BadShape
+early_fault : (f : FormFault) → is_value_fault (Form f) ≡ false → f ≡ BadShape
 early_fault f h = grind (arith, common_steps)
 
 gives_reads : {A : Type 0} (x : A) → Gives (reads x) (Ok x)
 gives_reads x = record { value = λ y e. ap (λ w. Ok w) (let q : y ≡ x = cc in q); fault = λ f e. cc }
 
-gives_early : {A : Type 0} (e : ReadStop) → is_form_stop e ≡ false → Gives {A = A} (fails BadShape) (Err e)
+gives_early : {A : Type 0} (e : ReadStop) → is_value_fault e ≡ false → Gives {A = A} (fails BadShape) (Err e)
 gives_early e h = grind (arith, common_steps, early_fault)
 
 module _ {A B : Type 0} where

@@ -1,8 +1,10 @@
 -- Proves that a text has at most one meaning as a plan.
 use Rattle.std.proofs.Common.{arith, ◌≡◌, ◌∙◌, sym, ap, subst, refl, ℕ, zero, suc, ◌<◌, List, [], ◌∷◌, ◌++◌, length}
-use Rattle.std.proofs.Common.{take, All, Option, None, Some, Result, Ok, Err}
+use Rattle.std.proofs.Common.{map, take, ◌≤◌, All, Option, None, Some, Result, Ok, Err}
 use Rattle.std.specs.Prelude.{slice_get}
-use Rattle.serde_json.specs.Data.{Data}
+use Rattle.std.proofs.lemmas.List.{length-map}
+use Rattle.serde_json.specs.Data.{Data, array, Items, item}
+use Rattle.serde_json.specs.View.{items_of}
 use Rattle.thes_base.specs.declared.fault.FormFault.{FormFault}
 use Rattle.thes_base.specs.declared.request.Command.{Command}
 use Rattle.thes_plans.specs.References.{AreGoodReferences, HasGoodReferences, IsGoodReference, IsFirstBadReference}
@@ -10,15 +12,51 @@ use Rattle.thes_plans.specs.References.{MakesFirst, MakesPosting, MakesResource}
 use Rattle.thes_plans.specs.declared.plan.PlanRequest.{PlanRequest}
 use Rattle.thes_requests.specs.Laws.{OnePlanReading, SameAsked, SamePlans, SameReading}
 use Rattle.thes_requests.specs.PlanReadings.{AreRequests, IsFirstMalformed, IsNoPlanRequest, IsPlanArray, IsPlanRequest}
-use Rattle.thes_requests.specs.PlanReadings.{IsPlanOfRequests, PlanValueReadsAs, keyword_in, plan_command_in}
+use Rattle.thes_requests.specs.PlanReadings.{IsPlanOfRequests, PlanValueReadsAs, keyword_in, plan_command_in, request_limit}
 use Rattle.thes_requests.specs.Readings.{ReadsAs}
 use Rattle.thes_requests.specs.References.{first_name, listed_references, reference_at, second_name, without_references}
 use Rattle.thes_requests.specs.Requests.{command_in}
+use Rattle.thes_requests.specs.Tree.{view, items_view}
 use Rattle.thes_requests.specs.declared.keywords.CommandKeyword.{CommandKeyword}
 use Rattle.thes_requests.specs.declared.plan.PlanFault.{PlanFault}
 use Rattle.thes_requests.specs.declared.plan.PlanFault.TheVariants.{Whole, Request, Reference}
+use Rattle.thes_requests.specs.declared.tree.Value.{Value}
 use Rattle.thes_requests.proofs.ReadingLemmas.{one_outcome}
-use Rattle.thes_requests.proofs.ReferenceLemmas.{same_items}
+
+-- The requests of a plan, one by one.
+
+pub one_more_request : (ds : List Data) (plan : List PlanRequest) (d : Data) (asked : PlanRequest)
+    → AreRequests ds plan → IsPlanRequest d asked → AreRequests (ds ++ d ∷ []) (plan ++ asked ∷ [])
+one_more_request [] [] d asked h is = (is, tt)
+one_more_request [] (a ∷ plan) d asked h is = absurd h
+one_more_request (e ∷ ds) [] d asked h is = absurd h
+one_more_request (e ∷ ds) (a ∷ plan) d asked h is = (h.0, one_more_request ds plan d asked h.1 is)
+
+-- The items of an array determine the list of them.
+
+same_item : (d e : Data) (ds es : Items) → item d ds ≡ item e es → (d ≡ e) × (ds ≡ es)
+same_item d e ds es h = (let same : d ≡ e = cc in same, let same : ds ≡ es = cc in same)
+
+pub same_items : (ds es : List Data) → items_of ds ≡ items_of es → ds ≡ es
+same_items [] [] h = refl
+same_items [] (e ∷ es) h = absurd (cc)
+same_items (d ∷ ds) [] h = absurd (cc)
+same_items (d ∷ ds) (e ∷ es) h =
+    let one = same_item d e (items_of ds) (items_of es) h in
+    let rest = same_items ds es one.1 in cc
+
+same_array : (ds es : Items) → array ds ≡ array es → ds ≡ es
+same_array ds es h = cc
+
+-- An array that may be a plan has from 1 to 128 values.
+pub plan_array_length : (vs : List Value) (ds : List Data) → IsPlanArray (array (items_view vs)) ds
+    → (0 < length vs) × (length vs ≤ request_limit)
+plan_array_length vs ds h =
+    let same = same_items (map view vs) ds (same_array (items_of (map view vs)) (items_of ds) h.is_array) in
+    let len = sym (ap length same) ∙ length-map vs view in
+    let some = h.some in
+    let few = h.few in
+    (omega (arith, len, some), omega (arith, len, few))
 
 -- A value is read as at most one request, or has one fault.
 

@@ -1,19 +1,16 @@
--- Proves what replacing its references makes of a JSON value, and how references and requests of a plan are read one by
--- one.
+-- Proves what replacing its references makes of a JSON value, and how references are read one by one.
 use Rattle.std.proofs.lemmas.Grind.{common_steps}
-use Rattle.std.proofs.Common.{arith, ◌≡◌, ◌∙◌, sym, ap, refl, ℕ, ◌*◌, ◌+◌, ◌≤◌, min, List, [], ◌∷◌, ◌++◌, map, take}
+use Rattle.std.proofs.Common.{arith, ◌≡◌, ◌∙◌, sym, ap, refl, ℕ, ◌*◌, ◌+◌, min, List, [], ◌∷◌, ◌++◌, map, take}
 use Rattle.std.proofs.Common.{◌-◌, ◌<◌, length, slice_index_or, true, Option, Ordering, Less, Equal, Greater, is_eq, bytes_eq}
 use Rattle.std.specs.Cmp.Lexicographic.{slice_cmp}
 use Rattle.std.specs.Char.{digit_value, is_ascii_digit}
 use Rattle.std.specs.List.{list_all}
 use Rattle.std.specs.Ordering.{match_ordering, nat_cmp}
 use Rattle.std.specs.Str.Parse.{digits_value, digits_value_after}
-use Rattle.std.proofs.lemmas.List.{length-map, map-append, take_more}
+use Rattle.std.proofs.lemmas.List.{map-append, take_more}
 use Rattle.std.proofs.lemmas.List.Folds.{list_all_at}
-use Rattle.serde_json.specs.Data.{Data, array, Items, item, Members, no_members, member, put}
+use Rattle.serde_json.specs.Data.{Data, item, Members, no_members, member, put}
 use Rattle.serde_json.specs.View.{items_of}
-use Rattle.thes_plans.specs.declared.plan.PlanRequest.{PlanRequest}
-use Rattle.thes_requests.specs.PlanReadings.{AreRequests, IsPlanArray, IsPlanRequest, request_limit}
 use Rattle.thes_requests.specs.References.{greatest_place, is_place, item_references, items_without_references}
 use Rattle.thes_requests.specs.References.{member_without_references, members_without_references, reference_in}
 use Rattle.thes_requests.specs.References.{without_reference}
@@ -82,41 +79,6 @@ references_next values i v h is =
     ∙ (map-append reference_in (map view (take i values)) (view v ∷ [])
     ∙ ap (λ (rs : List (Option ℕ)). rs ++ reference_in (view v) ∷ [])
     (sym (references_of (map view (take i values)))))))
-
--- One more value that is a request extends the requests of a plan.
-
-pub one_more_request : (ds : List Data) (plan : List PlanRequest) (d : Data) (asked : PlanRequest)
-    → AreRequests ds plan → IsPlanRequest d asked → AreRequests (ds ++ d ∷ []) (plan ++ asked ∷ [])
-one_more_request [] [] d asked h is = (is, tt)
-one_more_request [] (a ∷ plan) d asked h is = absurd h
-one_more_request (e ∷ ds) [] d asked h is = absurd h
-one_more_request (e ∷ ds) (a ∷ plan) d asked h is = (h.0, one_more_request ds plan d asked h.1 is)
-
--- Arrays are equal only if the lists of their items are.
-
-same_item : (d e : Data) (ds es : Items) → item d ds ≡ item e es → (d ≡ e) × (ds ≡ es)
-same_item d e ds es h = (let same : d ≡ e = cc in same, let same : ds ≡ es = cc in same)
-
-pub same_items : (ds es : List Data) → items_of ds ≡ items_of es → ds ≡ es
-same_items [] [] h = refl
-same_items [] (e ∷ es) h = absurd (cc)
-same_items (d ∷ ds) [] h = absurd (cc)
-same_items (d ∷ ds) (e ∷ es) h =
-    let one = same_item d e (items_of ds) (items_of es) h in
-    let rest = same_items ds es one.1 in cc
-
-same_array : (ds es : Items) → array ds ≡ array es → ds ≡ es
-same_array ds es h = cc
-
--- An array that may be a plan has from 1 to 128 values.
-pub plan_array_length : (vs : List Value) (ds : List Data) → IsPlanArray (array (items_view vs)) ds
-    → (0 < length vs) × (length vs ≤ request_limit)
-plan_array_length vs ds h =
-    let same = same_items (map view vs) ds (same_array (items_of (map view vs)) (items_of ds) h.is_array) in
-    let len = sym (ap length same) ∙ length-map vs view in
-    let some = h.some in
-    let few = h.few in
-    (omega (arith, len, some), omega (arith, len, few))
 
 -- The value of digits, or the greatest place if that is less.
 

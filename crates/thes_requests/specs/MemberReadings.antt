@@ -23,17 +23,17 @@ use Rattle.thes_requests.specs.declared.request.Request.{Request}
 use Rattle.thes_requests.specs.declared.request.Request.TheVariants.{Do, Get}
 
 -- Whether the stop is a form fault other than `BadShape`.
-abbrev pub is_form_stop : ReadStop → Bool
-is_form_stop (Form BadShape) = false
-is_form_stop (Form f) = true
-is_form_stop OutOfMemory = false
+abbrev pub is_value_fault : ReadStop → Bool
+is_value_fault (Form BadShape) = false
+is_value_fault (Form f) = true
+is_value_fault OutOfMemory = false
 
 -- Both values, or the first stop; but if the second stop is `BadShape` or `OutOfMemory`, the second.
 abbrev pub both : {A B : Type 0} → Result A ReadStop → Result B ReadStop → Result (A × B) ReadStop
 both (Ok a) (Ok b) = Ok (a, b)
 both (Ok a) (Err f) = Err f
 both (Err e) (Ok b) = Err e
-both (Err e) (Err f) = Err (if is_form_stop f then e else f)
+both (Err e) (Err f) = Err (if is_value_fault f then e else f)
 
 -- The result if the object has the right number of members, else `BadShape`.
 abbrev pub if_exact : {A : Type 0} → Bool → Result A ReadStop → Result A ReadStop
@@ -42,7 +42,7 @@ if_exact false r = Err (Form BadShape)
 
 -- The result is `BadShape` or `OutOfMemory`.
 abbrev pub IsStoppedEarly : {A : Type 0} → Result A ReadStop → Type 0
-IsStoppedEarly r = (e : ReadStop) × (r ≡ Err e) × (is_form_stop e ≡ false)
+IsStoppedEarly r = (e : ReadStop) × (r ≡ Err e) × (is_value_fault e ≡ false)
 
 -- The result of reading a member: `BadShape` or `OutOfMemory` if the member is absent or of another type, else the
 -- outcome of its form.

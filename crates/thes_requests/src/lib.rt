@@ -20,3 +20,5 @@ pub mod script;
 mod script_lines;
 pub mod short_line;
 mod tree;
+
+pub use tree::JsonScratch;

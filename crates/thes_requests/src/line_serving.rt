@@ -15,8 +15,8 @@ use crate::page::Page;
 use crate::plan::plan_in;
 use crate::plan_reply::PlanReply;
 use crate::plan_serving::perform_read_plan;
-use crate::request::{Request, RequestScratch, json_in, request_in};
-use crate::tree::Value;
+use crate::request::{Request, request_in};
+use crate::tree::{JsonScratch, Value, parse_json};
 use std::alloc::Global;
 use std::io::Write;
 use thes_base::fault::{Fault, ReadStop};
@@ -156,7 +156,7 @@ fn serve_plan_line<D: RequestHandler>(
 // Answers a line that isn't blank: a plan if it is an array and the handler takes plans, else a
 // request.
 fn answer_line<D: RequestHandler>(
-    memory: &mut RequestScratch,
+    memory: &mut JsonScratch,
     handler: &mut D,
     line: &[u8],
 ) -> LineAnswer
@@ -164,7 +164,7 @@ fn answer_line<D: RequestHandler>(
     ensures { Serves D.requests handler.old line.now result handler.new }
 {
     let alloc = memory.alloc;
-    match json_in(alloc, line, &mut memory.scratch) {
+    match parse_json(alloc, line, &mut memory.scratch) {
         Ok(value) => {
             if handler.takes_plans() && value.as_array().is_some() {
                 serve_plan_line(alloc, handler, value)
@@ -180,7 +180,7 @@ fn answer_line<D: RequestHandler>(
 /// if the line is an array and the handler takes plans. Nothing is performed for a line with a form
 /// fault, or for one that didn't fit into memory.
 pub fn serve_line<D: RequestHandler>(
-    memory: &mut RequestScratch,
+    memory: &mut JsonScratch,
     handler: &mut D,
     line: &[u8],
     found: LineSearch,

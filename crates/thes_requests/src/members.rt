@@ -10,7 +10,7 @@ ghost use Rattle.thes_base.specs.Texts.{IsLabelText};
 ghost use Rattle.thes_base.specs.declared.fault.FormFault.TheVariants.{BadNumber, BadText};
 ghost use Rattle.thes_requests.specs.Tree.{view, items_view};
 ghost use Rattle.thes_requests.specs.Keywords.{verb_named, noun_named, label_kind_named, link_kind_named};
-ghost use Rattle.thes_requests.specs.MemberReadings.{is_form_stop, both, if_exact, ReadsMember, text_member, boolean_member, a_label_value, label_value_of};
+ghost use Rattle.thes_requests.specs.MemberReadings.{is_value_fault, both, if_exact, ReadsMember, text_member, boolean_member, a_label_value, label_value_of};
 ghost use Rattle.thes_requests.specs.Members.{has_count, text_in, all_numbers, numbers_in};
 ghost use Rattle.thes_requests.specs.Requests.{whole_number, AreNumbers, number_at, a_link_kind, some_postings};
 
@@ -34,8 +34,8 @@ const BAD_NUMBER: ReadStop = ReadStop::Form(FormFault::BadNumber);
 
 // Returns whether the stop is a form fault other than `BadShape`. A `BadShape` of a later member
 // takes precedence over such a fault.
-fn is_form_stop(stop: ReadStop) -> bool
-    ensures { result ≡ is_form_stop stop }
+fn is_value_fault(stop: ReadStop) -> bool
+    ensures { result ≡ is_value_fault stop }
 {
     match stop {
         ReadStop::Form(FormFault::BadShape) | ReadStop::OutOfMemory => false,
@@ -55,7 +55,7 @@ pub fn both<A: Drop, B: Drop>(
     match (first, second) {
         (Ok(a), Ok(b)) => Ok((a, b)),
         (Ok(_), Err(stop)) | (Err(stop), Ok(_)) => Err(stop),
-        (Err(first), Err(second)) if is_form_stop(second) => Err(first),
+        (Err(first), Err(second)) if is_value_fault(second) => Err(first),
         (Err(_), Err(second)) => Err(second),
     }
 }
@@ -107,7 +107,7 @@ pub fn read_text_member<F: Form>(
     name: &str,
     value: &Value<'_>,
 ) -> Result<Formed<F>, ReadStop>
-    requires { is_form_stop (ReadStop.Form F.FAULT) ≡ true }
+    requires { is_value_fault (ReadStop.Form F.FAULT) ≡ true }
     ensures { ReadsMember (text_member F.is_form F.FAULT F.LOWERED name.now)
         (view value.now) result }
 {

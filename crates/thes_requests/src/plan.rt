@@ -10,8 +10,8 @@ use crate::members::{BAD_SHAPE, command_keyword_at};
 use crate::references::{
     first_name, listed_references, reference_at, second_name, without_references,
 };
-use crate::request::{RequestScratch, command_in, json_in};
-use crate::tree::Value;
+use crate::request::command_in;
+use crate::tree::{JsonScratch, Value, parse_json};
 use std::alloc::{AllocError, Global};
 use thes_base::fault::{FormFault, ReadStop};
 use thes_plans::plan::{PlanRequest, REQUEST_LIMIT};
@@ -111,7 +111,7 @@ fn with_good_references(plan: Vec<PlanRequest>) -> Result<Vec<PlanRequest>, Plan
 }
 
 // Reads a plan from the items of an array, of which there must be 1 to 128.
-#[tactic(auto, using(crate::proofs::ReferenceLemmas::plan_array_length))]
+#[tactic(auto, using(crate::proofs::PlanReadingLemmas::plan_array_length))]
 fn plan_of_items(alloc: Global, items: Vec<Value<'_>>) -> Result<Vec<PlanRequest>, PlanStop>
     ensures { GivesPlan (PlanValueReadsAs (array (items_view items.entry.items))) result }
 {
@@ -132,10 +132,10 @@ pub fn plan_in(alloc: Global, value: Value<'_>) -> Result<Vec<PlanRequest>, Plan
 }
 
 /// Reads a plan from the bytes of a text, or returns its first fault, or `OutOfMemory`.
-pub fn read_plan(memory: &mut RequestScratch, bytes: &[u8]) -> Result<Vec<PlanRequest>, PlanStop>
+pub fn read_plan(memory: &mut JsonScratch, bytes: &[u8]) -> Result<Vec<PlanRequest>, PlanStop>
     ensures { GivesPlan (PlanReadsAs bytes.now) result }
 {
-    match json_in(memory.alloc, bytes, &mut memory.scratch) {
+    match parse_json(memory.alloc, bytes, &mut memory.scratch) {
         Ok(value) => plan_in(memory.alloc, value),
         Err(ReadStop::Form(fault)) => Err(PlanStop::Bad(PlanFault::Whole(fault))),
         Err(ReadStop::OutOfMemory) => Err(PlanStop::OutOfMemory),

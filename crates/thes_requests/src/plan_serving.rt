@@ -8,7 +8,7 @@ ghost use Rattle.thes_requests.specs.Serving.{PerformsPlan, ServesPlan};
 use crate::handler::RequestHandler;
 use crate::plan::{PlanStop, read_plan};
 use crate::plan_reply::{PlanReply, reply_in_room, room_for_answers};
-use crate::request::RequestScratch;
+use crate::tree::JsonScratch;
 use std::alloc::Global;
 use thes_base::fault::Fault;
 use thes_plans::plan::PlanRequest;
@@ -53,7 +53,7 @@ pub fn perform_read_plan<D: RequestHandler>(
 /// Reads a plan from the bytes of a text, performs it, and returns the reply. A text that isn't a
 /// plan has no effect.
 pub fn serve_plan<D: RequestHandler>(
-    memory: &mut RequestScratch,
+    memory: &mut JsonScratch,
     handler: &mut D,
     bytes: &[u8],
 ) -> Result<PlanReply, Fault>

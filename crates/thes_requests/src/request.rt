@@ -1,9 +1,7 @@
 //! Reads a command or a query from a line of JSON.
-ghost use Rattle.std.specs.Prelude.{◌≡◌, ◌⊎◌, Some, None, IfOk, IfErr};
-ghost use Rattle.thes_base.specs.declared.fault.FormFault.TheVariants.{NotJson};
 ghost use Rattle.thes_requests.specs.MemberReadings.{ReadsMember, pair_of, do_request, get_request};
 ghost use Rattle.thes_requests.specs.Readings.{Gives};
-ghost use Rattle.thes_requests.specs.Requests.{number_at, a_tag, a_text, label_line, link_line, command_in, query_in, request_in, json_in, request_of};
+ghost use Rattle.thes_requests.specs.Requests.{number_at, a_tag, a_text, label_line, link_line, command_in, query_in, request_in, request_of};
 ghost use Rattle.thes_requests.specs.Tree.{view};
 
 use crate::keywords::{CommandKeyword, QueryKeyword};
@@ -11,8 +9,7 @@ use crate::members::{
     BAD_SHAPE, both, command_keyword_at, exactly, label_value_at, link_kind_at, number_at,
     postings_at, query_keyword_at, read_text_member, truth_at,
 };
-use crate::tree::{NOT_JSON, Value};
-use json::Scratch;
+use crate::tree::{JsonScratch, Value, parse_json};
 use std::alloc::Global;
 use thes_base::data::{Label, Link};
 use thes_base::fault::ReadStop;
@@ -356,46 +353,11 @@ pub fn request_in(alloc: Global, value: &Value<'_>) -> Result<Request, ReadStop>
     }
 }
 
-/// Parses the bytes as JSON; bytes that aren't UTF-8 are `NotJson`.
-pub fn json_in<'a>(
-    alloc: Global,
-    bytes: &'a [u8],
-    scratch: &'a mut Scratch,
-) -> Result<Value<'a>, ReadStop>
-    ensures ok { IfOk result (λ v. json_in bytes.now ≡ Some (view v)) }
-    ensures err { IfErr result (λ e. (e ≡ ReadStop.OutOfMemory)
-        ⊎ ((e ≡ ReadStop.Form NotJson) × (json_in bytes.now ≡ None))) }
-{
-    match str::from_utf8(bytes) {
-        Ok(text) => Value::read(alloc, text, scratch),
-        Err(_) => Err(NOT_JSON),
-    }
-}
-
-/// Memory for the texts of a request, reused from line to line.
-#[derive(Drop)]
-pub struct RequestScratch {
-    pub alloc: Global,
-    pub scratch: Scratch,
-}
-
-impl RequestScratch {
-    /// Returns an empty scratch memory; allocates nothing.
-    pub fn new(alloc: Global) -> RequestScratch
-        ensures { result.alloc ≡ alloc }
-    {
-        RequestScratch {
-            alloc,
-            scratch: Scratch::new(alloc),
-        }
-    }
-}
-
 /// Reads a request from the bytes of a line, or returns its first form fault, or `OutOfMemory`.
-pub fn read_request(memory: &mut RequestScratch, bytes: &[u8]) -> Result<Request, ReadStop>
+pub fn read_request(memory: &mut JsonScratch, bytes: &[u8]) -> Result<Request, ReadStop>
     ensures { Gives (request_of bytes.now) result }
 {
-    let value = json_in(memory.alloc, bytes, &mut memory.scratch)?;
+    let value = parse_json(memory.alloc, bytes, &mut memory.scratch)?;
     let request = request_in(memory.alloc, &value);
     drop(value);
     request

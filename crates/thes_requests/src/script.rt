@@ -10,8 +10,8 @@ use crate::handler::RequestHandler;
 use crate::line_buffer::LineSearch;
 use crate::line_serving::{LineAnswer, LineOutcome, serve_line};
 use crate::plan_reply::PlanReply;
-use crate::request::RequestScratch;
 use crate::script_lines::ScriptLines;
+use crate::tree::JsonScratch;
 use std::alloc::Global;
 use std::io::{Read, Write};
 use thes_base::fault::{Fault, PipeFault};
@@ -110,7 +110,7 @@ pub fn script<R: Read, W: Write, D: RequestHandler>(
     ensures calls { KeepsSharedCallLimit reader.old reader.new writer.old writer.new }
 {
     let mut lines = ScriptLines::new(alloc)?;
-    let mut memory = RequestScratch::new(alloc);
+    let mut memory = JsonScratch::new(alloc);
     let mut budget = Budget::new();
     let mut ended = ScriptEnd::new();
     let mut outcome = LineOutcome::Skipped;

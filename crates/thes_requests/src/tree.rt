@@ -7,7 +7,9 @@ ghost use Rattle.serde_json.specs.Data.{no_members, put};
 ghost use Rattle.serde_json.specs.Find.{get, as_array, as_bool, as_number, as_object, as_str, get_member};
 ghost use Rattle.serde_json.specs.Read.{converted, of_items, of_json, of_members, read as read_text};
 ghost use Rattle.serde_json.specs.View.{number_view};
+ghost use Rattle.thes_base.specs.declared.fault.FormFault.TheVariants.{NotJson};
 ghost use Rattle.thes_requests.specs.Members.{has_count};
+ghost use Rattle.thes_requests.specs.Requests.{json_in};
 ghost use Rattle.thes_requests.specs.Tree.{view, items_view, members_view};
 
 use crate::numeral::number_of;
@@ -115,6 +117,41 @@ impl<'a> Value<'a> {
         match self {
             Value::Array(values) => Some(values),
             _ => None,
+        }
+    }
+}
+
+/// Parses the bytes as JSON; bytes that aren't UTF-8 are `NotJson`.
+pub fn parse_json<'a>(
+    alloc: Global,
+    bytes: &'a [u8],
+    scratch: &'a mut Scratch,
+) -> Result<Value<'a>, ReadStop>
+    ensures ok { IfOk result (λ v. json_in bytes.now ≡ Some (view v)) }
+    ensures err { IfErr result (λ e. (e ≡ ReadStop.OutOfMemory)
+        ⊎ ((e ≡ ReadStop.Form NotJson) × (json_in bytes.now ≡ None))) }
+{
+    match str::from_utf8(bytes) {
+        Ok(text) => Value::read(alloc, text, scratch),
+        Err(_) => Err(NOT_JSON),
+    }
+}
+
+/// Memory for the texts of a request, reused from line to line.
+#[derive(Drop)]
+pub struct JsonScratch {
+    pub alloc: Global,
+    pub scratch: Scratch,
+}
+
+impl JsonScratch {
+    /// Returns an empty scratch memory; allocates nothing.
+    pub fn new(alloc: Global) -> JsonScratch
+        ensures { result.alloc ≡ alloc }
+    {
+        JsonScratch {
+            alloc,
+            scratch: Scratch::new(alloc),
         }
     }
 }

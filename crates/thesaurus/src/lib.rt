@@ -517,7 +517,7 @@ pub use thes_store::sink::{PostingSink, RowSink};
 //     plan.len() <= REQUEST_LIMIT && first_bad_reference(plan).is_none()
 // }
 //
-// fn plan_name(memory: &mut RequestScratch, line: &str) -> &'static str {
+// fn plan_name(memory: &mut JsonScratch, line: &str) -> &'static str {
 //     match read_plan(memory, line.as_bytes()) {
 //         Ok(_) => "a plan",
 //         Err(PlanStop::Bad(PlanFault::Whole(fault))) => fault.name(),
@@ -537,7 +537,7 @@ pub use thes_requests::plan::{PlanFault, PlanStop, read_plan};
 
 // Requests, answers and views as JSON, scripts, posting files and exports.
 // ```
-// fn reply_to<H: RequestHandler>(memory: &mut RequestScratch, handler: &mut H, line: &str) -> Reply
+// fn reply_to<H: RequestHandler>(memory: &mut JsonScratch, handler: &mut H, line: &str) -> Reply
 //     requires { H.is_open handler.old ≡ true }
 // {
 //     let command = match read_request(memory, line.as_bytes()) {
@@ -649,10 +649,11 @@ pub use thes_exchange::view::{ConceptView, PostingRows, View};
 pub use thes_export::writing::export;
 pub use thes_import::import::{ImportEnd as Imported, ImportStop, import};
 pub use thes_posting_files::report::Counts;
+pub use thes_requests::JsonScratch;
 pub use thes_requests::answer::{Reply, write_answer};
 pub use thes_requests::handler::{QueryAnswer, RequestHandler};
 pub use thes_requests::page::Page;
-pub use thes_requests::request::{Query, Request, RequestScratch, read_request};
+pub use thes_requests::request::{Query, Request, read_request};
 pub use thes_requests::script::ScriptEnd as Ended;
 pub use thes_service::plan_mode::{NoPlans, PlanMode, WithPlans};
 pub use thes_service::{OfficeHandler, office_script as script};

@@ -10,10 +10,10 @@ pub returns-then-len-le1 : goal.returns-then-len-le1
 returns-then-len-le1 c =
     let s = with_histories [] c.args.source.now.core.now in
     let old = c.args.text.now.items in
-    on_written c.write_texts.result _ _
+    on_written c.write_label_lines.result _ _
     (λ e. lines_of_labels s c.args.source.now.tag.now c.args.n c.args.symbol c.args.kind c.in_ok-labels.labels.items
-    old c.write_texts.new.text.items c.requires.kind c.in_ok-labels.ensures (omega arith)
-    (e ∙ ap (λ ls. old ++ label_lines c.args.symbol ls) c.as_slice.ensures.value)) c.write_texts.ensures
+    old c.write_label_lines.new.text.items c.requires.kind c.in_ok-labels.ensures (omega arith)
+    (e ∙ ap (λ ls. old ++ label_lines c.args.symbol ls) c.as_slice.ensures.value)) c.write_label_lines.ensures
 
 -- Several labels are sorted.
 pub returns : goal.returns

@@ -13,7 +13,7 @@ text_of-requires c =
     let index = c.args.source.now.index.now in
     let at : rank_at index.places.items c.args.n ≡ Some c.in-Some.place =
     ap (rank_at index.places.items) (sym c.get.ensures.value)
-    ∙ ap (λ (ps : List (Option ℕ)). rank_at ps c.get.result) (sym c.as_slice.ensures.value) ∙ sym c.rank_of.ensures
+    ∙ ap (λ (ps : List (Option ℕ)). rank_at ps c.get.result) (sym c.as_slice.ensures.value) ∙ sym c.value_at.ensures
     ∙ c.in-Some.is in
     subst (λ (hs : List Heading). c.in-Some.place < length hs) (sym c.as_slice-in-Some.ensures.value)
     (place_within (with_histories [] c.args.source.now.core.now) c.args.source.now.tag.now index c.requires.index
@@ -26,7 +26,7 @@ returns-in-Some c =
     let tag = c.args.source.now.tag.now in
     let at : rank_at index.places.items c.args.n ≡ Some c.in-Some.place =
     ap (rank_at index.places.items) (sym c.get.ensures.value)
-    ∙ ap (λ (ps : List (Option ℕ)). rank_at ps c.get.result) (sym c.as_slice.ensures.value) ∙ sym c.rank_of.ensures
+    ∙ ap (λ (ps : List (Option ℕ)). rank_at ps c.get.result) (sym c.as_slice.ensures.value) ∙ sym c.value_at.ensures
     ∙ c.in-Some.is in
     let shown : c.text_of.result.now ≡ term_text c.args.source.now.core.now.labels tag c.args.n =
     c.text_of.ensures

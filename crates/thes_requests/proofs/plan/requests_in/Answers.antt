@@ -4,7 +4,7 @@ use Rattle.serde_json.specs.Data.{Data}
 use Rattle.thes_plans.specs.declared.plan.PlanRequest.{PlanRequest}
 use Rattle.thes_requests.specs.PlanReadings.{AreRequests, IsPlanRequest}
 use Rattle.thes_requests.specs.Tree.{view}
-use Rattle.thes_requests.proofs.ReferenceLemmas.{one_more_request}
+use Rattle.thes_requests.proofs.PlanReadingLemmas.{one_more_request}
 use Rattle.thes_requests.proofs.plan.requests_in.Goals as goal
 
 -- One more request is read.

@@ -1,7 +1,7 @@
 use Rattle.std.proofs.Common.{◌≡◌, take}
 use Rattle.std.specs.List.{filter_map}
 use Rattle.thes_display.specs.HierarchyParts.{rank_at}
-use Rattle.thes_display.proofs.ranks.ranks_at.Given as goal
+use Rattle.thes_display.proofs.number_table.concept_values.Given as goal
 
 abbrev pub invariant-loop-concept : goal.invariant-loop-concept
-invariant-loop-concept l = l.found.items ≡ filter_map (rank_at l.ranks) (take l.concept-index l.concepts)
+invariant-loop-concept l = l.found.items ≡ filter_map (rank_at l.table) (take l.concept-index l.concepts)

@@ -2,7 +2,7 @@ use Rattle.std.proofs.Common.{◌∙◌, inr, refl, sym, ap}
 use Rattle.std.proofs.lemmas.Result.{IfOk-weaker}
 use Rattle.serde_json.specs.Read.{read}
 use Rattle.thes_requests.proofs.MemberLemmas.{json_in-text, json_in-none}
-use Rattle.thes_requests.proofs.request.json_in.Goals as goal
+use Rattle.thes_requests.proofs.tree.parse_json.Goals as goal
 
 pub returns-in-Ok-clause-ok : goal.returns-in-Ok-clause-ok
 returns-in-Ok-clause-ok c =
