@@ -2,7 +2,7 @@
 use crate::disk::{Disks, FailPoint, Image, new_files};
 use crate::example::{Example, push_line};
 use crate::outcome::{StoreOutcome, Trial};
-use crate::run_report::{RunReport, base, report_wanted};
+use crate::performing::{RunReport, base, report_wanted};
 use crate::stop::TrialStop;
 use crate::stores::{After, Job, StoreListing, execute, migrate_in, perform_new, work};
 use sqlite::{Alter, Connection};

@@ -2,7 +2,7 @@
 use crate::disk::{FailPoint, new_files};
 use crate::example::{Example, ExamplePrefix, are_answers};
 use crate::outcome::{StoreOutcome, Trial};
-use crate::run_report::{RunReport, base, report_wanted};
+use crate::performing::{RunReport, base, report_wanted};
 use crate::stop::TrialStop;
 use crate::stores::{After, Job, perform_new, work};
 use sqlite::{Alter, Connection};

@@ -1,7 +1,7 @@
 //! Stores in databases, and their rows.
 use crate::disk::{Disks, Store, cut, end, files_after_kill, open};
 use crate::example::Example;
-use crate::run_report::{RunReport, base, perform, show};
+use crate::performing::{RunReport, base, perform, show};
 use crate::stop::TrialStop;
 use sqlite::{Alter, Connection, Files};
 use sqlite_disk::Disk;
