@@ -4,7 +4,7 @@ use crate::failing::run::{End, ExampleRun};
 use crate::failing::script::FAULT;
 use std::alloc::Global;
 use test_office::Store;
-use test_office::ways::connect_in;
+use test_office::office_calls::connect_in;
 use thes_http::connection::ConnectionEnd;
 
 /// The line that follows each request.
