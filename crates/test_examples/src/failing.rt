@@ -7,17 +7,17 @@
 
 mod check;
 mod connections;
+mod devices;
 mod example;
 mod import;
 mod page;
-mod pipes;
 mod run;
 mod script;
 mod texts;
 
 use crate::failing::check::{ExampleOutcome, outcome_of};
+use crate::failing::devices::{FaultResult, check_import, check_text};
 use crate::failing::example::{Example, ExampleKind};
-use crate::failing::pipes::{FaultResult, check_import, check_text};
 use std::alloc::Global;
 use std::io;
 use test_office::invalid;
