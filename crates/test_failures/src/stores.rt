@@ -6,7 +6,7 @@ use crate::stop::TrialStop;
 use sqlite::{Alter, Connection, Files};
 use sqlite_disk::Disk;
 use std::alloc::Global;
-use test_keeper::rows::Rows;
+use test_keeper::rows::RowText;
 use thes_base::fault::Fault;
 use thes_base::text::Base;
 use thes_sql::create::create_tables;
@@ -69,7 +69,7 @@ pub fn migrate_in<S: Alter>(
 fn show_in<S: Alter>(
     alloc: Global,
     conn: Connection<S>,
-    listing: &mut Rows,
+    listing: &mut RowText,
 ) -> (Connection<S>, Result<(), TrialStop>) {
     match adopt(alloc, conn) {
         Ok(keeper) => {
@@ -147,7 +147,7 @@ pub fn work<D: Disk + Drop, J: Job>(
 /// The rows of a store, and whether it could be opened and read.
 #[derive(Drop)]
 pub struct StoreListing {
-    pub listing: Rows,
+    pub listing: RowText,
     show_result: Result<(), TrialStop>,
 }
 
@@ -155,7 +155,7 @@ impl StoreListing {
     /// Returns a listing without rows.
     pub fn new(alloc: Global) -> StoreListing {
         StoreListing {
-            listing: Rows::new(alloc),
+            listing: RowText::new(alloc),
             show_result: Err(TrialStop),
         }
     }

@@ -2,7 +2,7 @@
 use std::alloc::{AllocError, Global};
 use std::fmt::Write;
 use test_keeper::failure::Failure;
-use test_keeper::rows::Rows;
+use test_keeper::rows::RowText;
 use test_keeper::workload::commit_one;
 use thes_base::fault::Fault;
 use thes_base::number::{PostNo, ResNo};
@@ -17,7 +17,7 @@ fn call_fault_line(alloc: Global, call: &str, fault: Fault) -> Result<String, Al
 
 /// Loads all rows, and returns them as lines.
 pub fn load_report<K: Keeper>(alloc: Global, keeper: &mut K) -> Result<String, Failure> {
-    let mut rows = Rows::new(alloc);
+    let mut rows = RowText::new(alloc);
     match keeper.load(&mut rows) {
         Ok(_) => Ok(rows.text),
         Err(fault) => Ok(call_fault_line(alloc, "load", fault)?),
@@ -100,7 +100,7 @@ pub fn standing<K: Keeper>(
     keeper: &mut K,
     concept: ResNo,
 ) -> Result<String, Failure> {
-    let mut rows = Rows::new(alloc);
+    let mut rows = RowText::new(alloc);
     rows.text.push_str("standing:\n")?;
     match keeper.standing(concept, &mut rows) {
         Ok(_) => Ok(rows.text),
