@@ -12,11 +12,11 @@
 mod disk;
 mod example;
 mod faltering;
-mod faults;
 mod migration;
 mod outcome;
 mod performing;
 mod requests;
+mod retries;
 mod stop;
 mod stores;
 mod trial;
