@@ -34,8 +34,8 @@ fn print_outcome<R: Print>(rt: &R, name: &str, outcome: &ExampleOutcome) -> io::
 }
 
 // Prints the outcome of a step whose reader or writer fails.
-fn print_fault_result<R: Print>(rt: &R, name: &str, fate: FaultResult) -> io::Result<()> {
-    match fate {
+fn print_fault_result<R: Print>(rt: &R, name: &str, outcome: FaultResult) -> io::Result<()> {
+    match outcome {
         FaultResult::Right(calls) => println!(rt;
             "{name}: right, at each of {calls} calls that fail"
         ),

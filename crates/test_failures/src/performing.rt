@@ -184,10 +184,10 @@ fn verdict<K: Keeper>(alloc: Global, keeper: K) -> (K, &'static str) {
 // Appends a line with the verdict of a load, unless the rows couldn't be read.
 fn push_verdict(
     rows: &mut RowText,
-    handed: Result<(), Fault>,
+    listed: Result<(), Fault>,
     verdict: &str,
 ) -> Result<(), TrialStop> {
-    if handed.is_err() {
+    if listed.is_err() {
         return Err(TrialStop);
     }
     rows.text.push_str(verdict)?;

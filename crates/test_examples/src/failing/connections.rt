@@ -8,13 +8,13 @@ use test_office::office_calls::connect_in;
 use thes_http::connection::ConnectionEnd;
 
 /// The line that follows each request.
-pub const BEHIND: &str = "%\n";
+pub const REQUEST_END: &str = "%\n";
 
 /// Serves connections in a store. None may import, since a fault would leave the rows before it
 /// performed.
 pub fn run(alloc: Global, store: &mut Store, input: &str) -> ExampleRun {
     let mut run = ExampleRun::new();
-    for (step, request) in input.split_terminator(BEHIND).enumerate() {
+    for (step, request) in input.split_terminator(REQUEST_END).enumerate() {
         let (page, served) = connect_in(
             alloc,
             &mut store.handler,
