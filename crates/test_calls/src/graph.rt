@@ -208,7 +208,7 @@ enum Fact {
 }
 
 // Checks whether the list has exactly these numbers, in this order.
-fn are(found: Result<Vec<ResNo>, AllocError>, wanted: &[u32]) -> Result<bool, AllocError> {
+fn are_numbers(found: Result<Vec<ResNo>, AllocError>, wanted: &[u32]) -> Result<bool, AllocError> {
     let found = found?;
     Ok(found.len() == wanted.len() && found.iter().zip(wanted.iter()).all(|(n, m)| n.get() == *m))
 }
@@ -232,10 +232,10 @@ fn holds(alloc: Global, graph: &Graph, fact: Fact) -> Result<bool, AllocError> {
     match fact {
         Size(size) => Ok(graph.size() == size),
         Has(kind, a, b, wanted) => Ok(graph.has(&link(kind, a, b)) == wanted),
-        BroaderOf(n, wanted) => are(graph.broader_of(alloc, no(n)), wanted),
-        NarrowerOf(n, wanted) => are(graph.narrower_of(alloc, no(n)), wanted),
-        RelatedTo(n, wanted) => are(graph.related_of(alloc, no(n)), wanted),
-        CollectionsOf(n, wanted) => are(graph.collections_of(alloc, no(n)), wanted),
+        BroaderOf(n, wanted) => are_numbers(graph.broader_of(alloc, no(n)), wanted),
+        NarrowerOf(n, wanted) => are_numbers(graph.narrower_of(alloc, no(n)), wanted),
+        RelatedTo(n, wanted) => are_numbers(graph.related_of(alloc, no(n)), wanted),
+        CollectionsOf(n, wanted) => are_numbers(graph.collections_of(alloc, no(n)), wanted),
         Mappings(n, wanted) => are_mappings(graph.mappings(alloc, no(n)), wanted),
     }
 }
@@ -419,7 +419,7 @@ fn visits_above_a_broad_concept(rt: HostRuntime) -> Result<(), Fail> {
 
 // Returns the node to which the link leads from `x`, for the naive program: a broader one or, if
 // `exact` is true, an exact match.
-fn next(link: &Link, exact: bool, x: ResNo) -> Option<ResNo> {
+fn linked_node(link: &Link, exact: bool, x: ResNo) -> Option<ResNo> {
     match link.kind {
         Exact if exact && link.a == x => Some(link.b),
         Exact if exact && link.b == x => Some(link.a),
@@ -432,7 +432,7 @@ fn next(link: &Link, exact: bool, x: ResNo) -> Option<ResNo> {
 
 // Returns all nodes that chains of links reach from a node, for the naive program: chains upward
 // or, if `exact` is true, chains of exact matches.
-fn chains(
+fn nodes_reached(
     alloc: Global,
     links: &[Link],
     exact: bool,
@@ -446,7 +446,7 @@ fn chains(
         }
         let x = list[i];
         for link in links {
-            if let Some(y) = next(link, exact, x)
+            if let Some(y) = linked_node(link, exact, x)
                 && met.insert(y)?
             {
                 list.push(y)?;
@@ -456,25 +456,25 @@ fn chains(
     Ok(met)
 }
 
-fn plain(alloc: Global, links: &[Link]) -> Result<Option<Refusal>, AllocError> {
+fn plain_refusal(alloc: Global, links: &[Link]) -> Result<Option<Refusal>, AllocError> {
     for link in links {
-        if chains(alloc, links, false, link.a)?.contains(&link.a)
-            || chains(alloc, links, false, link.b)?.contains(&link.b)
+        if nodes_reached(alloc, links, false, link.a)?.contains(&link.a)
+            || nodes_reached(alloc, links, false, link.b)?.contains(&link.b)
         {
             return Ok(Some(Refusal::Cycle));
         }
     }
     for link in links {
         if matches!(link.kind, Related | RelMatch)
-            && (chains(alloc, links, false, link.a)?.contains(&link.b)
-                || chains(alloc, links, false, link.b)?.contains(&link.a))
+            && (nodes_reached(alloc, links, false, link.a)?.contains(&link.b)
+                || nodes_reached(alloc, links, false, link.b)?.contains(&link.a))
         {
             return Ok(Some(Refusal::S27));
         }
     }
     for link in links {
         if matches!(link.kind, Broad | Narrow | RelMatch)
-            && chains(alloc, links, true, link.a)?.contains(&link.b)
+            && nodes_reached(alloc, links, true, link.a)?.contains(&link.b)
         {
             return Ok(Some(Refusal::S46));
         }
@@ -560,7 +560,7 @@ fn compare(
         return Ok(());
     }
     list.push(*new)?;
-    assert_eq!(rt; answer, plain(alloc, list.as_slice())?);
+    assert_eq!(rt; answer, plain_refusal(alloc, list.as_slice())?);
     if answer.is_some() {
         assert_eq!(rt; check_added(alloc, graph, new)?, answer);
         assert_eq!(rt; graph.check_whole(alloc)?, answer);
@@ -611,7 +611,7 @@ fn compare_merge(
     let answer = check_merge(alloc, graph, source, target)?;
     assert_eq!(rt;
         answer,
-        plain(alloc, merged.as_slice())?,
+        plain_refusal(alloc, merged.as_slice())?,
         "{source} into {target}"
     );
     if answer.is_none() {

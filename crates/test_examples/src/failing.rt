@@ -8,17 +8,17 @@
 
 mod check;
 mod connections;
+mod devices;
 mod example;
 mod import;
 mod page;
-mod pipes;
 mod run;
 mod script;
 mod texts;
 
 use crate::failing::check::{ExampleOutcome, outcome_of};
+use crate::failing::devices::{FaultResult, check_import, check_text};
 use crate::failing::example::{Example, ExampleKind};
-use crate::failing::pipes::{FaultResult, check_import, check_text};
 use std::alloc::Global;
 use std::io;
 use test_office::invalid;
@@ -35,8 +35,8 @@ fn print_outcome<R: Print>(rt: &R, name: &str, outcome: &ExampleOutcome) -> io::
 }
 
 // Prints the outcome of a step whose reader or writer fails.
-fn print_fault_result<R: Print>(rt: &R, name: &str, fate: FaultResult) -> io::Result<()> {
-    match fate {
+fn print_fault_result<R: Print>(rt: &R, name: &str, outcome: FaultResult) -> io::Result<()> {
+    match outcome {
         FaultResult::Right(calls) => println!(rt;
             "{name}: right, at each of {calls} calls that fail"
         ),

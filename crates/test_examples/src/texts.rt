@@ -1,7 +1,7 @@
 //! Exports and displays of the store that an example's requests make.
 use std::alloc::Global;
 use std::io;
-use test_office::ways::{display_in, export_in};
+use test_office::office_calls::{display_in, export_in};
 use test_office::{Store, invalid, store_after};
 use thes_base::number::ResNo;
 use thes_base::text::Tag;

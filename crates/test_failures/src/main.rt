@@ -15,11 +15,11 @@
 mod disk;
 mod example;
 mod faltering;
-mod faults;
 mod migration;
 mod outcome;
+mod performing;
 mod requests;
-mod run_report;
+mod retries;
 mod stop;
 mod stores;
 mod trial;

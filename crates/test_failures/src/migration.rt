@@ -2,7 +2,7 @@
 use crate::disk::{Disks, FailPoint, Image, new_files};
 use crate::example::{Example, push_line};
 use crate::outcome::{StoreOutcome, Trial};
-use crate::run_report::{RunReport, base, report_wanted};
+use crate::performing::{RunReport, base, report_wanted};
 use crate::stop::TrialStop;
 use crate::stores::{After, Job, StoreListing, execute, migrate_in, perform_new, work};
 use sqlite::{Alter, Connection};
@@ -76,27 +76,27 @@ impl Migration {
         &self,
         alloc: Global,
         files: Disks,
-        run: &mut Run,
+        job: &mut MigrationJob,
     ) -> Result<StoreOutcome, TrialStop> {
-        run.migrate(alloc, files)?;
-        Ok(StoreOutcome::of(self.is_kept(run), run.is_answered && run.is_closed))
+        job.migrate(alloc, files)?;
+        Ok(StoreOutcome::of(self.is_kept(job), job.is_answered && job.is_closed))
     }
 
     // Checks whether the store has the rows that it should: of version 2, or, unless the migration
     // succeeded, of version 1.
-    fn is_kept(&self, run: &Run) -> bool {
+    fn is_kept(&self, job: &MigrationJob) -> bool {
         let newer = self.newer.listing.text.as_str();
         let older = self.older.as_str();
-        run.after
-            .is_either(newer, if run.is_answered { newer } else { older })
+        job.after
+            .is_either(newer, if job.is_answered { newer } else { older })
     }
 }
 
 impl Trial for Migration {
     fn outcome(&self, alloc: Global, point: FailPoint) -> Result<StoreOutcome, TrialStop> {
         let files = self.image.files(alloc, point)?;
-        let mut run = Run::new(alloc);
-        self.outcome_in(alloc, files, &mut run)
+        let mut job = MigrationJob::new(alloc);
+        self.outcome_in(alloc, files, &mut job)
     }
 }
 
@@ -123,16 +123,16 @@ fn push_pair(text: &mut String, first: &str, rest: &str) -> Result<(), AllocErro
 
 // A job that creates a store of version 1 from an example.
 #[derive(Drop)]
-struct Making<'a> {
+struct OlderStoreJob<'a> {
     example: Example<'a>,
     base: Base,
     run_report: RunReport,
     is_made: bool,
 }
 
-impl<'a> Making<'a> {
-    fn new(alloc: Global, example: Example<'a>) -> Result<Making<'a>, TrialStop> {
-        Ok(Making {
+impl<'a> OlderStoreJob<'a> {
+    fn new(alloc: Global, example: Example<'a>) -> Result<OlderStoreJob<'a>, TrialStop> {
+        Ok(OlderStoreJob {
             example,
             base: base(alloc)?,
             run_report: RunReport::new(alloc),
@@ -141,7 +141,7 @@ impl<'a> Making<'a> {
     }
 }
 
-impl<'a> Job for Making<'a> {
+impl<'a> Job for OlderStoreJob<'a> {
     fn run<S: Alter>(&mut self, alloc: Global, conn: Connection<S>) -> (Connection<S>, bool) {
         let run_report = &mut self.run_report;
         let (mut conn, is_made, ran) = perform_new(
@@ -159,16 +159,16 @@ impl<'a> Job for Making<'a> {
 
 // Returns the files of a store of version 1 that an example makes.
 fn older_image(alloc: Global, example: Example) -> Result<Image, TrialStop> {
-    let mut making = Making::new(alloc, example)?;
-    make_image(alloc, &mut making)
+    let mut job = OlderStoreJob::new(alloc, example)?;
+    make_image(alloc, &mut job)
 }
 
-fn make_image(alloc: Global, making: &mut Making) -> Result<Image, TrialStop> {
-    let (files, is_closed) = work(alloc, new_files(alloc, FailPoint::NEVER)?, making);
+fn make_image(alloc: Global, job: &mut OlderStoreJob) -> Result<Image, TrialStop> {
+    let (files, is_closed) = work(alloc, new_files(alloc, FailPoint::NEVER)?, job);
     image_of(
         alloc,
         files,
-        is_closed && making.is_made && !making.run_report.failed,
+        is_closed && job.is_made && !job.run_report.failed,
     )
 }
 
@@ -184,16 +184,16 @@ fn image_of(alloc: Global, files: Disks, is_made: bool) -> Result<Image, TrialSt
 // A job that migrates a store, with its results: whether the migration succeeded, whether the files
 // were closed and each call succeeded, and the rows when the store is opened again.
 #[derive(Drop)]
-struct Run {
+struct MigrationJob {
     is_answered: bool,
     migrated: Result<(), TrialStop>,
     is_closed: bool,
     after: After,
 }
 
-impl Run {
-    fn new(alloc: Global) -> Run {
-        Run {
+impl MigrationJob {
+    fn new(alloc: Global) -> MigrationJob {
+        MigrationJob {
             is_answered: false,
             migrated: Ok(()),
             is_closed: false,
@@ -219,7 +219,7 @@ impl Run {
     }
 }
 
-impl Job for Run {
+impl Job for MigrationJob {
     fn run<S: Alter>(&mut self, alloc: Global, conn: Connection<S>) -> (Connection<S>, bool) {
         let (conn, answer) = migrate_in(alloc, conn);
         self.note(answer);

@@ -2,7 +2,7 @@
 use crate::disk::{FailPoint, new_files};
 use crate::example::{Example, ExamplePrefix, are_answers};
 use crate::outcome::{StoreOutcome, Trial};
-use crate::run_report::{RunReport, base, report_wanted};
+use crate::performing::{RunReport, base, report_wanted};
 use crate::stop::TrialStop;
 use crate::stores::{After, Job, perform_new, work};
 use sqlite::{Alter, Connection};
@@ -54,37 +54,37 @@ impl<'a> Requests<'a> {
         &self,
         alloc: Global,
         point: FailPoint,
-        run: &mut Run,
+        job: &mut RequestsJob,
     ) -> Result<StoreOutcome, TrialStop> {
-        self.run(alloc, point, run)?;
-        let is_right = self.is_right(alloc, run)?;
-        Ok(StoreOutcome::of(is_right, run.is_closed && !run.run_report.failed))
+        self.run(alloc, point, job)?;
+        let is_right = self.is_right(alloc, job)?;
+        Ok(StoreOutcome::of(is_right, job.is_closed && !job.run_report.failed))
     }
 
     // Creates a store in new files, performs the example in it, and opens the files again.
-    fn run(&self, alloc: Global, point: FailPoint, run: &mut Run) -> Result<(), TrialStop> {
+    fn run(&self, alloc: Global, point: FailPoint, job: &mut RequestsJob) -> Result<(), TrialStop> {
         let files = new_files(alloc, point)?;
-        let (files, is_closed) = work(alloc, files, run);
-        run.is_closed = is_closed;
-        run.after.show(alloc, files)?;
-        run.ran
+        let (files, is_closed) = work(alloc, files, job);
+        job.is_closed = is_closed;
+        job.after.show(alloc, files)?;
+        job.ran
     }
 
     // Checks whether the store has the rows that it should when it is opened again.
-    fn is_right(&self, alloc: Global, run: &Run) -> Result<bool, TrialStop> {
-        if run.is_made {
-            self.is_kept(alloc, run)
+    fn is_right(&self, alloc: Global, job: &RequestsJob) -> Result<bool, TrialStop> {
+        if job.is_made {
+            self.is_kept(alloc, job)
         } else {
             let empty = self.empty.listing.text.as_str();
-            Ok(run.after.is_either(NOTHING, empty))
+            Ok(job.after.is_either(NOTHING, empty))
         }
     }
 
     // Checks whether a store with tables gave the right answers and has the right rows.
-    fn is_kept(&self, alloc: Global, run: &Run) -> Result<bool, TrialStop> {
+    fn is_kept(&self, alloc: Global, job: &RequestsJob) -> Result<bool, TrialStop> {
         let mut wanted = Wanted::new(alloc);
-        self.report_prefixes(alloc, &run.run_report, &mut wanted)?;
-        Ok(wanted.is_kept(run))
+        self.report_prefixes(alloc, &job.run_report, &mut wanted)?;
+        Ok(wanted.is_kept(job))
     }
 
     // Performs the confirmed requests without failures, and then does so again with the next
@@ -133,8 +133,8 @@ impl<'a> Requests<'a> {
 
 impl<'a> Trial for Requests<'a> {
     fn outcome(&self, alloc: Global, point: FailPoint) -> Result<StoreOutcome, TrialStop> {
-        let mut run = Run::new(alloc, self.example)?;
-        self.outcome_in(alloc, point, &mut run)
+        let mut job = RequestsJob::new(alloc, self.example)?;
+        self.outcome_in(alloc, point, &mut job)
     }
 }
 
@@ -142,7 +142,7 @@ impl<'a> Trial for Requests<'a> {
 // were created, whether the files were closed and each call succeeded, and the rows when the store
 // is opened again.
 #[derive(Drop)]
-struct Run<'a> {
+struct RequestsJob<'a> {
     example: Example<'a>,
     base: Base,
     run_report: RunReport,
@@ -152,9 +152,9 @@ struct Run<'a> {
     after: After,
 }
 
-impl<'a> Run<'a> {
-    fn new(alloc: Global, example: Example<'a>) -> Result<Run<'a>, TrialStop> {
-        Ok(Run {
+impl<'a> RequestsJob<'a> {
+    fn new(alloc: Global, example: Example<'a>) -> Result<RequestsJob<'a>, TrialStop> {
+        Ok(RequestsJob {
             example,
             base: base(alloc)?,
             run_report: RunReport::new(alloc),
@@ -166,7 +166,7 @@ impl<'a> Run<'a> {
     }
 }
 
-impl<'a> Job for Run<'a> {
+impl<'a> Job for RequestsJob<'a> {
     fn run<S: Alter>(&mut self, alloc: Global, conn: Connection<S>) -> (Connection<S>, bool) {
         let run_report = &mut self.run_report;
         let (conn, is_made, ran) = perform_new(alloc, conn, &self.base, self.example, run_report);
@@ -201,9 +201,9 @@ impl Wanted {
     }
 
     // Checks whether the store gave the expected answers and has the expected rows.
-    fn is_kept(&self, run: &Run) -> bool {
+    fn is_kept(&self, job: &RequestsJob) -> bool {
         let after_answers = self.after_answers.listing.text.as_str();
         let more = self.more.listing.text.as_str();
-        self.has_wanted_answers(&run.run_report) && run.after.is_either(after_answers, more)
+        self.has_wanted_answers(&job.run_report) && job.after.is_either(after_answers, more)
     }
 }

@@ -1,12 +1,12 @@
 //! Stores in databases, and their rows.
 use crate::disk::{Disks, Store, cut, end, files_after_kill, open};
 use crate::example::Example;
-use crate::run_report::{RunReport, base, perform, show};
+use crate::performing::{RunReport, base, perform, show};
 use crate::stop::TrialStop;
 use sqlite::{Alter, Connection, Files};
 use sqlite_disk::Disk;
 use std::alloc::Global;
-use test_keeper::rows::Rows;
+use test_keeper::rows::RowText;
 use thes_base::fault::Fault;
 use thes_base::text::Base;
 use thes_sql::create::create_tables;
@@ -70,7 +70,7 @@ pub fn migrate_in<S: Alter>(
 fn show_in<S: Alter>(
     alloc: Global,
     conn: Connection<S>,
-    listing: &mut Rows,
+    listing: &mut RowText,
 ) -> (Connection<S>, Result<(), TrialStop>) {
     match adopt(alloc, conn) {
         Ok(keeper) => {
@@ -148,7 +148,7 @@ pub fn work<D: Disk + Drop, J: Job>(
 /// The rows of a store, and whether it could be opened and read.
 #[derive(Drop)]
 pub struct StoreListing {
-    pub listing: Rows,
+    pub listing: RowText,
     show_result: Result<(), TrialStop>,
 }
 
@@ -156,7 +156,7 @@ impl StoreListing {
     /// Returns a listing without rows.
     pub fn new(alloc: Global) -> StoreListing {
         StoreListing {
-            listing: Rows::new(alloc),
+            listing: RowText::new(alloc),
             show_result: Err(TrialStop),
         }
     }

@@ -1,11 +1,11 @@
 //! Runs examples over failing stores, and appends the outcomes to a page.
 use crate::disk::{FailPoint, Failing};
 use crate::example::{Example, StoredExample};
-use crate::faults::outcome_of_calls;
 use crate::migration::Migration;
 use crate::outcome::{StoreOutcome, Trial};
+use crate::performing::{RunReport, report_wanted};
 use crate::requests::Requests;
-use crate::run_report::{RunReport, report_wanted};
+use crate::retries::outcome_of_calls;
 use crate::stop::TrialStop;
 use crate::stores::report_in_memory;
 use std::alloc::{AllocError, Global};

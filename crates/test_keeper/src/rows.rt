@@ -9,14 +9,14 @@ use thes_tables::rows::PostingRow;
 /// A sink that appends each row to a text as a line, and only the table's name for a table that
 /// can't be queried.
 #[derive(Drop)]
-pub struct Rows {
+pub struct RowText {
     pub text: String,
 }
 
-impl Rows {
+impl RowText {
     /// Returns a sink with an empty text.
-    pub fn new(alloc: Global) -> Rows {
-        Rows {
+    pub fn new(alloc: Global) -> RowText {
+        RowText {
             text: String::new(alloc),
         }
     }
@@ -47,7 +47,7 @@ impl Rows {
     }
 }
 
-impl RowSink for Rows {
+impl RowSink for RowText {
     ghost gives = { λ old row result new. Unit {0} };
 
     fn row(&mut self, table: Table, row: &[Cell]) -> Result<(), Fault> {
@@ -59,7 +59,7 @@ impl RowSink for Rows {
     }
 }
 
-impl PostingSink for Rows {
+impl PostingSink for RowText {
     ghost gives = { λ old row result new. Unit {0} };
 
     fn posting(&mut self, row: &PostingRow) -> Result<(), Fault> {

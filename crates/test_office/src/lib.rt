@@ -8,8 +8,8 @@
 #![tactic(auto)]
 
 pub mod failing;
+pub mod office_calls;
 mod store;
-pub mod ways;
 
+pub use office_calls::serve_in;
 pub use store::{Store, invalid, store_after};
-pub use ways::serve_in;

@@ -1,5 +1,5 @@
 //! A store in memory, with its office.
-use crate::ways::serve_in;
+use crate::office_calls::serve_in;
 use std::alloc::Global;
 use std::io;
 use std::io::{Read, Write};

@@ -4,17 +4,17 @@ use crate::failing::run::{End, ExampleRun};
 use crate::failing::script::FAULT;
 use std::alloc::Global;
 use test_office::Store;
-use test_office::ways::connect_in;
+use test_office::office_calls::connect_in;
 use thes_http::connection::ConnectionEnd;
 
 /// The line that follows each request.
-pub const BEHIND: &str = "%\n";
+pub const REQUEST_END: &str = "%\n";
 
 /// Serves connections in a store. None may import, since the rows before a fault would stay
 /// performed.
 pub fn run(alloc: Global, store: &mut Store, input: &str) -> ExampleRun {
     let mut run = ExampleRun::new();
-    for (step, request) in input.split_terminator(BEHIND).enumerate() {
+    for (step, request) in input.split_terminator(REQUEST_END).enumerate() {
         let (page, served) = connect_in(
             alloc,
             &mut store.handler,

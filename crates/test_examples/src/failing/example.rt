@@ -1,5 +1,5 @@
 //! Examples, and the parsing of their files.
-use crate::failing::connections::BEHIND;
+use crate::failing::connections::REQUEST_END;
 use crate::failing::run::ExampleRun;
 use crate::failing::{connections, import, script, texts};
 use std::alloc::{AllocError, Global};
@@ -55,7 +55,7 @@ impl<'a> Example<'a> {
     /// Returns the text of the steps that were performed.
     pub fn performed(&self, alloc: Global, run: &ExampleRun) -> Result<String, AllocError> {
         let end = if self.kind == ExampleKind::Connections {
-            BEHIND
+            REQUEST_END
         } else {
             "\n"
         };

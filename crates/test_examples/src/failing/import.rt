@@ -4,7 +4,7 @@ use crate::failing::run::{End, ExampleRun};
 use std::alloc::Global;
 use std::io::{Read, Write};
 use test_office::Store;
-use test_office::ways::import_in;
+use test_office::office_calls::import_in;
 use thes_base::fault::PipeFault;
 
 /// Imports a posting file into a store; the rows before a fault stay performed.

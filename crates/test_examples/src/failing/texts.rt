@@ -5,7 +5,7 @@ use crate::failing::run::{End, ExampleRun};
 use std::alloc::Global;
 use std::io::Write;
 use test_office::Store;
-use test_office::ways::{display_in, export_in};
+use test_office::office_calls::{display_in, export_in};
 use thes_base::fault::{Fault, PipeFault, ReadStop};
 use thes_base::number::ResNo;
 use thes_base::text::Tag;

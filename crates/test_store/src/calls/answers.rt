@@ -2,7 +2,7 @@
 use std::alloc::{AllocError, Global};
 use std::fmt::Write;
 use test_keeper::failure::Failure;
-use test_keeper::rows::Rows;
+use test_keeper::rows::RowText;
 use test_keeper::workload::commit_one;
 use thes_base::fault::Fault;
 use thes_base::number::{PostNo, ResNo};
@@ -17,7 +17,7 @@ fn call_fault_line(alloc: Global, call: &str, fault: Fault) -> Result<String, Al
 
 /// Loads all rows, and returns them as lines, or the line of the fault.
 pub fn load_report<K: Keeper>(alloc: Global, keeper: &mut K) -> Result<String, Failure> {
-    let mut rows = Rows::new(alloc);
+    let mut rows = RowText::new(alloc);
     match keeper.load(&mut rows) {
         Ok(_) => Ok(rows.text),
         Err(fault) => Ok(call_fault_line(alloc, "load", fault)?),
@@ -48,7 +48,11 @@ fn posting_lines(alloc: Global, posting: &Posting) -> Result<String, AllocError>
 }
 
 /// Looks up a posting by its number, and returns lines with its concepts and its moves.
-pub fn report<K: Keeper>(alloc: Global, keeper: &mut K, number: PostNo) -> Result<String, Failure> {
+pub fn posting_report<K: Keeper>(
+    alloc: Global,
+    keeper: &mut K,
+    number: PostNo,
+) -> Result<String, Failure> {
     match keeper.posting(number) {
         Ok(Some(posting)) => Ok(posting_lines(alloc, &posting)?),
         Ok(None) => Ok(String::from_str(alloc, "posting: none\n")?),
@@ -95,12 +99,12 @@ pub fn numbers_report<K: Keeper>(
 }
 
 /// Returns lines with the postings assigned to a concept.
-pub fn standing<K: Keeper>(
+pub fn standing_report<K: Keeper>(
     alloc: Global,
     keeper: &mut K,
     concept: ResNo,
 ) -> Result<String, Failure> {
-    let mut rows = Rows::new(alloc);
+    let mut rows = RowText::new(alloc);
     rows.text.push_str("standing:\n")?;
     match keeper.standing(concept, &mut rows) {
         Ok(_) => Ok(rows.text),
@@ -134,11 +138,11 @@ pub fn answers<K: Keeper>(alloc: Global, keeper: &mut K) -> Result<String, Failu
     let mut text = load_report(alloc, keeper)?;
     text.push_str(find_reports(alloc, keeper)?.as_str())?;
     for number in [PostNo::new(1), PostNo::new(2), PostNo::new(11)] {
-        text.push_str(report(alloc, keeper, number)?.as_str())?;
+        text.push_str(posting_report(alloc, keeper, number)?.as_str())?;
         text.push_str(row_report(alloc, keeper, number)?.as_str())?;
     }
     for concept in [ResNo::new(2), ResNo::new(3)] {
-        text.push_str(standing(alloc, keeper, concept)?.as_str())?;
+        text.push_str(standing_report(alloc, keeper, concept)?.as_str())?;
         text.push_str(numbers_report(alloc, keeper, concept)?.as_str())?;
     }
     Ok(text)

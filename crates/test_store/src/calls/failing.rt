@@ -1,6 +1,6 @@
 //! Calls of a storage in memory, one of which fails.
 use crate::calls::answers::{
-    answers, find_report, load_report, numbers_report, report, row_report, standing,
+    answers, find_report, load_report, numbers_report, posting_report, row_report, standing_report,
     withdraw_report,
 };
 use std::alloc::Global;
@@ -29,9 +29,9 @@ fn call_report(alloc: Global, keeper: &mut FailOnce, kind: Next) -> Result<Strin
         Next::Load => load_report(alloc, keeper),
         Next::Commit => withdraw_report(alloc, keeper, PostNo::new(1)),
         Next::Find => find_report(alloc, keeper, "k2"),
-        Next::Posting => report(alloc, keeper, PostNo::new(1)),
+        Next::Posting => posting_report(alloc, keeper, PostNo::new(1)),
         Next::Row => row_report(alloc, keeper, PostNo::new(1)),
-        Next::Standing => standing(alloc, keeper, ResNo::new(3)),
+        Next::Standing => standing_report(alloc, keeper, ResNo::new(3)),
         Next::StandingNumbers => numbers_report(alloc, keeper, ResNo::new(3)),
     }
 }
@@ -61,7 +61,7 @@ fn fail_once_lines(alloc: Global, keeper: &mut FailOnce, next: Next) -> Result<S
     let same = answers(alloc, keeper)? == before;
     writeln!(text, "failures: {}, as before: {same}", keeper.failures())?;
     text.push_str(call_report(alloc, keeper, next)?.as_str())?;
-    text.push_str(standing(alloc, keeper, ResNo::new(3))?.as_str())?;
+    text.push_str(standing_report(alloc, keeper, ResNo::new(3))?.as_str())?;
     writeln!(text, "failures: {}", keeper.failures())?;
     Ok(text)
 }

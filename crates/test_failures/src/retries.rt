@@ -2,7 +2,7 @@
 use crate::example::{StoredExample, has_fault, push_line};
 use crate::faltering::Faltering;
 use crate::outcome::StoreOutcome;
-use crate::run_report::{RunReport, answer, close, import, new_keeper, open, show};
+use crate::performing::{RunReport, answer, close, import, new_keeper, open, show};
 use crate::stop::TrialStop;
 use std::alloc::{AllocError, Global};
 use test_keeper::fail_once::Next;

@@ -5,7 +5,7 @@ use crate::example::{Example, has_fault};
 use crate::stop::TrialStop;
 use std::alloc::Global;
 use std::str;
-use test_keeper::rows::Rows;
+use test_keeper::rows::RowText;
 use test_office::serve_in;
 use thes_base::data::Limits;
 use thes_base::fault::{Fault, PipeFault};
@@ -29,7 +29,7 @@ pub struct RunReport {
     /// Whether the `Office` couldn't be opened, or has returned the fault Store.
     pub failed: bool,
     /// The rows at the end, and whether the store loads.
-    pub listing: Rows,
+    pub listing: RowText,
 }
 
 impl RunReport {
@@ -39,7 +39,7 @@ impl RunReport {
             answers: String::new(alloc),
             rows: String::new(alloc),
             failed: false,
-            listing: Rows::new(alloc),
+            listing: RowText::new(alloc),
         }
     }
 }
@@ -171,7 +171,7 @@ pub fn perform<K: Keeper>(
 }
 
 // Loads all rows, and appends them.
-fn list<K: Keeper>(keeper: &mut K, rows: &mut Rows) -> Result<(), Fault> {
+fn list<K: Keeper>(keeper: &mut K, rows: &mut RowText) -> Result<(), Fault> {
     keeper.load(rows)
 }
 
@@ -185,11 +185,11 @@ fn verdict<K: Keeper>(alloc: Global, keeper: K) -> (K, &'static str) {
 
 // Appends a line with the verdict of a load, unless the rows couldn't be read.
 fn push_verdict(
-    rows: &mut Rows,
-    handed: Result<(), Fault>,
+    rows: &mut RowText,
+    listed: Result<(), Fault>,
     verdict: &str,
 ) -> Result<(), TrialStop> {
-    if handed.is_err() {
+    if listed.is_err() {
         return Err(TrialStop);
     }
     rows.text.push_str(verdict)?;
@@ -201,7 +201,7 @@ fn push_verdict(
 pub fn show<K: Keeper>(
     alloc: Global,
     mut keeper: K,
-    listing: &mut Rows,
+    listing: &mut RowText,
 ) -> (K, Result<(), TrialStop>) {
     let listed = list(&mut keeper, listing);
     let (keeper, verdict) = verdict(alloc, keeper);

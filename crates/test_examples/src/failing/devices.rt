@@ -137,9 +137,9 @@ fn check_text_in(alloc: Global, store: &mut Store, words: &str) -> FaultResult {
 pub fn check_text(alloc: Global, requests: &str, words: &str) -> io::Result<FaultResult> {
     let before = store_after(alloc, requests)?.shown(alloc)?;
     let mut store = store_after(alloc, requests)?;
-    let fate = check_text_in(alloc, &mut store, words);
+    let outcome = check_text_in(alloc, &mut store, words);
     if store.shown(alloc)? != before {
         return Ok(FaultResult::Wrong(Writer, u32::MAX));
     }
-    Ok(fate)
+    Ok(outcome)
 }
