@@ -23,7 +23,7 @@ use Rattle.thes_requests.specs.declared.plan.PlanFault.TheVariants.{Whole, Reque
 use Rattle.thes_requests.specs.declared.tree.Value.{Value}
 use Rattle.thes_requests.proofs.ReadingLemmas.{one_outcome}
 
--- The requests of a plan, one by one.
+-- One more value that is a request extends the requests of a plan.
 
 pub one_more_request : (ds : List Data) (plan : List PlanRequest) (d : Data) (asked : PlanRequest)
     → AreRequests ds plan → IsPlanRequest d asked → AreRequests (ds ++ d ∷ []) (plan ++ asked ∷ [])
