@@ -52,7 +52,7 @@ pub data EndsInFiles {E : Type 0} (err : E → Option (List ℕ)) (image : Image
       → EndsInFiles err image job old new status holds schema t
 
 -- If no failure has shut the database of a job, and its files are clean now, they hold what `EndsInFiles` says for the
--- store with which the job's work began: the one that the files held, or an empty one in new files.
+-- store with which the job's work began: the one in the files, or an empty one in new files.
 abbrev pub LeadsIfClosed : {E C : Type 0} → (E → Option (List ℕ)) → Image → (C → Type 0)
     → (C → Schema → Tables → Type 0) → Result Job EarlyExit → Pipe E → Pipe E → ℕ → Closed C → Type 0
 LeadsIfClosed err image is_clean holds planned old new status closed =

@@ -47,8 +47,8 @@ pub fn work_in_database<T: Devices, D: Databases>(
     (status, close_left(databases, keeper.leave(), None))
 }
 
-/// Does the work of a job over a new store in memory, which has the base and the limits of the job,
-/// and returns the exit status.
+/// Does the work of a job over a new store in memory, with the job's base and limits, and returns
+/// the exit status.
 pub fn work_in_memory<T: Devices>(
     given: &mut Given<'_, T>,
     job: MemoryWork<T::Listener, T::PostingFile, <T::System as Net>::Listener>,

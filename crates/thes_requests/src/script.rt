@@ -89,8 +89,7 @@ fn write_outcome<W: Write, D: RequestHandler>(
     Ok(())
 }
 
-/// Serves the requests and plans in the lines of the input, and writes the answer to each line
-/// before it serves the next.
+/// Serves the lines of the input, and writes the answer to each before it serves the next.
 ///
 /// A line has at most 1,048,576 bytes, and a script at most 1,000,000 lines, blank ones included.
 /// `TooLong` is returned only if the input exceeds these limits, after all earlier lines are

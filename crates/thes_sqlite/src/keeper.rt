@@ -169,9 +169,8 @@ impl<S: Alter> SqlKeeper<S> {
         is_shut(&mut self.conn)
     }
 
-    /// Applies all changes in one transaction, or returns a fault. After a fault, a database that
-    /// is still open is unchanged; if the failure has shut the database, it holds all the changes
-    /// or none, as after a crash.
+    /// Applies all changes in one transaction, or returns a fault. Then an open database is
+    /// unchanged; one that the failure has shut holds all the changes or none.
     pub fn commit_changes(&mut self, changes: &[Change]) -> Result<(), Fault>
         requires { DeltaFitsStorage changes.now (storage_view S.Store self.old) }
         ensures ok { OnOk result (IsKeeperUp S.Store self.new
