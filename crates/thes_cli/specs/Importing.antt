@@ -6,7 +6,7 @@ use Rattle.thes_base.specs.declared.fault.FormFault.TheVariants.{BadShape}
 use Rattle.thes_base.specs.declared.pipe.Pipe.{Pipe}
 use Rattle.thes_store.specs.Storage.{StorageView}
 use Rattle.thes_office.specs.Office.{OfficeView}
-use Rattle.thes_import.specs.ImportEngine.{EndsFileImport, import_streams}
+use Rattle.thes_import.specs.FileImport.{EndsFileImport, import_streams}
 use Rattle.thes_import.specs.declared.import.ImportEnd.{ImportEnd}
 use Rattle.thes_import.specs.declared.import.ImportEnd.TheVariants.{Rows, Malformed}
 use Rattle.thes_import.specs.declared.import.ImportStop.{ImportStop}
