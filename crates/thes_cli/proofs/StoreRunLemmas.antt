@@ -14,7 +14,7 @@ use Rattle.thes_office.specs.TablesOfState.{TablesOfState}
 use Rattle.thes_posting_files.specs.Outcomes.{answers_of, posts_of}
 use Rattle.thes_posting_files.specs.declared.csv_row.CsvRow.{CsvRow}
 use Rattle.thes_posting_files.specs.declared.outcome.Outcome.{Outcome}
-use Rattle.thes_import.specs.ImportEngine.{PerformsFirst, StopsAfterRows}
+use Rattle.thes_import.specs.FileImport.{PerformsFirst, StopsAfterRows}
 use Rattle.thes_import.specs.declared.import.ImportEnd.{ImportEnd}
 use Rattle.thes_import.specs.declared.import.ImportEnd.TheVariants as ended
 use Rattle.thes_import.specs.declared.import.ImportStop.{ImportStop}

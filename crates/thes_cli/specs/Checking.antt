@@ -1,5 +1,5 @@
 -- The command `check`: the sizes of a store.
-use Rattle.std.specs.Prelude.{◌≡◌, ◌⊎◌, ℕ, List, length, Option, Result, Ok, Err, IfOk}
+use Rattle.std.specs.Prelude.{◌≡◌, ◌⊎◌, ◌++◌, ℕ, List, length, codes, decimal, Option, Result, Ok, Err, IfOk}
 use Rattle.std.specs.FinSet as set
 use Rattle.thes_base.specs.Postings.{accepted_count, withdrawn_count, move_count}
 use Rattle.thes_base.specs.State.{State}
@@ -12,7 +12,6 @@ use Rattle.thes_core.specs.declared.reading.Sizes.{Sizes}
 use Rattle.thes_office.specs.QueryFrames.{InStateOfTables}
 use Rattle.thes_office.specs.Office.{FaultBehaviour, OfficeView, SameTables}
 use Rattle.thes_command_line.specs.Printing.{PrintsError, PrintsText, fault_line}
-use Rattle.thes_cli.specs.Ending.{sizes_line}
 
 -- The numbers of resources, labels, links, postings and moves in a state.
 abbrev pub sizes_of : State → Sizes
@@ -28,6 +27,17 @@ sizes_of s = record {
 -- The sizes of the empty state, all 0.
 abbrev pub no_sizes : Sizes
 no_sizes = record { resources = 0; labels = 0; links = 0; accepted = 0; withdrawn = 0; moves = 0 }
+
+-- The name of a size of the store, such as ` labels=`, and the size in decimal.
+abbrev pub size_text : List ℕ → ℕ → List ℕ
+size_text name size = name ++ decimal size
+
+-- The line of a store's sizes, with its line feed.
+abbrev pub sizes_line : Sizes → List ℕ
+sizes_line sizes =
+    size_text (codes "ok resources=") sizes.resources ++ size_text (codes " labels=") sizes.labels
+    ++ size_text (codes " links=") sizes.links ++ size_text (codes " accepted=") sizes.accepted
+    ++ size_text (codes " withdrawn=") sizes.withdrawn ++ size_text (codes " moves=") sizes.moves ++ codes "\n"
 
 module _ {W E : Type 0} (out : W → Option (List ℕ)) (err : E → Option (List ℕ))
     (output output' : Pipe W) (errors errors' : Pipe E) where

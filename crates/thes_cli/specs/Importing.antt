@@ -1,17 +1,23 @@
 -- The command `import`: the import of a posting file into the store.
-use Rattle.std.specs.Prelude.{◌≡◌, ◌==◌, if◌then◌else◌, ℕ, Bool, true, false, List, Option, Result, Ok, Err}
+use Rattle.std.specs.Prelude.{◌≡◌, ◌==◌, ◌++◌, if◌then◌else◌, ℕ, Bool, true, false, List, codes, decimal, Option}
+use Rattle.std.specs.Prelude.{Result, Ok, Err}
 use Rattle.thes_base.specs.Pipe.{device_of, IsFresh, KeepsSharedCallLimit}
 use Rattle.thes_base.specs.declared.fault.FormFault.TheVariants.{BadShape}
 use Rattle.thes_base.specs.declared.pipe.Pipe.{Pipe}
 use Rattle.thes_store.specs.Storage.{StorageView}
 use Rattle.thes_office.specs.Office.{OfficeView}
-use Rattle.thes_import.specs.ImportEngine.{EndsFileImport, import_streams}
+use Rattle.thes_import.specs.FileImport.{EndsFileImport, import_streams}
 use Rattle.thes_import.specs.declared.import.ImportEnd.{ImportEnd}
 use Rattle.thes_import.specs.declared.import.ImportEnd.TheVariants.{Rows, Malformed}
 use Rattle.thes_import.specs.declared.import.ImportStop.{ImportStop}
 use Rattle.thes_posting_files.specs.declared.report.Counts.{Counts}
 use Rattle.thes_command_line.specs.Printing.{Prints, fault_line, form_line}
-use Rattle.thes_cli.specs.Ending.{counts_line}
+
+-- The line of an import's counts, with its line feed.
+abbrev pub counts_line : Counts → List ℕ
+counts_line counts =
+    codes "thesaurus: " ++ decimal counts.posted ++ codes " new, " ++ decimal counts.again ++ codes " again, "
+    ++ decimal counts.refused ++ codes " refused\n"
 
 -- The counts are printed if the Boolean is true; else nothing is.
 abbrev pub PrintsCounts : {E : Type 0} → (E → Option (List ℕ)) → Bool → Pipe E → Pipe E → Counts → Type 0

@@ -1,4 +1,3 @@
-pub mod Ending
 pub mod Streams
 pub mod Writing
 pub mod Scripting

@@ -1,12 +1,12 @@
 //! The command `check`: prints the sizes of a store.
-ghost use Rattle.std.specs.Prelude.{◌≡◌, false};
+ghost use Rattle.std.specs.Prelude.{◌≡◌, ◌++◌, false, string_bytes, IfOk, OnOk};
 ghost use Rattle.thes_base.specs.State.{State};
 ghost use Rattle.thes_core.specs.CoreView.{IsViewOf};
 ghost use Rattle.thes_command_line.specs.Printing.{AreFreshOutputs};
-ghost use Rattle.thes_cli.specs.Checking.{sizes_of, ChecksStore, FindsSizes, ReportsSizes};
+ghost use Rattle.thes_cli.specs.Checking.{sizes_of, size_text, sizes_line, ChecksStore, FindsSizes, ReportsSizes};
 
-use crate::ending::sizes_line;
-use std::alloc::Global;
+use itoa::Buffer;
+use std::alloc::{AllocError, Global};
 use std::io::Write;
 use thes_base::fault::{Fault, PipeFault};
 use thes_base::pipe::Pipe;
@@ -31,6 +31,31 @@ fn office_sizes<K: Keeper>(office: &mut Office<K>) -> Result<Sizes, Fault>
 {
     let core = office.ready()?;
     Ok(core_sizes(core))
+}
+
+// Appends the name of a size of the store, such as ` labels=`, and the size in decimal.
+fn push_size(line: &mut String, name: &str, size: u64) -> Result<(), AllocError>
+    ensures { OnOk result
+        (string_bytes line.new ≡ string_bytes line.old ++ size_text name.now size) }
+{
+    line.push_str(name)?;
+    line.push_str(Buffer::new().format(size))?;
+    Ok(())
+}
+
+// Returns the line of a store's sizes, with its line feed.
+fn sizes_line(alloc: Global, sizes: &Sizes) -> Result<String, AllocError>
+    ensures { IfOk result (λ line. string_bytes line ≡ sizes_line sizes.now) }
+{
+    let mut line = String::new(alloc);
+    push_size(&mut line, "ok resources=", sizes.resources)?;
+    push_size(&mut line, " labels=", sizes.labels)?;
+    push_size(&mut line, " links=", sizes.links)?;
+    push_size(&mut line, " accepted=", sizes.accepted)?;
+    push_size(&mut line, " withdrawn=", sizes.withdrawn)?;
+    push_size(&mut line, " moves=", sizes.moves)?;
+    line.push_str("\n")?;
+    Ok(line)
 }
 
 // Prints the line of the sizes or that of the fault, and returns the exit status.

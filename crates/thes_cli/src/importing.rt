@@ -1,11 +1,12 @@
 //! The command `import`: imports a posting file into a store.
 ghost use Rattle.std.specs.Prelude.{◌≡◌, Ok};
 ghost use Rattle.thes_base.specs.Pipe.{IsFresh};
-ghost use Rattle.thes_cli.specs.Importing.{EndsImport, ImportsStore, PrintsCounts};
+ghost use Rattle.thes_cli.specs.Importing.{counts_line, EndsImport, ImportsStore, PrintsCounts};
 ghost use Rattle.thes_cli.specs.Streams.{AreFresh};
 
-use crate::ending::counts_line;
 use crate::streams::{Devices, Given};
+use arrayvec::ArrayString;
+use itoa::Buffer;
 use std::io::Write;
 use thes_base::fault::FormFault;
 use thes_base::pipe::Pipe;
@@ -14,6 +15,22 @@ use thes_import::import::{ImportEnd, ImportStop, import};
 use thes_import::report::Counts;
 use thes_office::Office;
 use thes_store::keeper::Keeper;
+
+// Returns the line of an import's counts, with its line feed: the numbers of new, repeated and
+// refused rows.
+fn counts_line(counts: Counts) -> ArrayString<96>
+    ensures { result.bytes ≡ counts_line counts }
+{
+    let mut line = ArrayString::new();
+    line.push_str("thesaurus: ");
+    line.push_str(Buffer::new().format(counts.posted));
+    line.push_str(" new, ");
+    line.push_str(Buffer::new().format(counts.again));
+    line.push_str(" again, ");
+    line.push_str(Buffer::new().format(counts.refused));
+    line.push_str(" refused\n");
+    line
+}
 
 // Prints the line of counts to standard error, if `prints_it`.
 fn print_counts<E: Write>(errors: &mut Pipe<E>, prints_it: bool, counts: Counts)

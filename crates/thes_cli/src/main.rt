@@ -8,7 +8,6 @@ ghost use Rattle.thes_cli.specs.Streams.{AsksForDisplay};
 mod checking;
 mod closing;
 mod displaying;
-mod ending;
 mod exporting;
 mod importing;
 mod running;

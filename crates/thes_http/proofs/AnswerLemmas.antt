@@ -21,7 +21,7 @@ use Rattle.thes_http_request.specs.declared.endpoint.Endpoint.TheVariants as end
 use Rattle.thes_http_request.specs.declared.problem.Problem.{Problem}
 use Rattle.thes_http_request.specs.declared.problem.Problem.TheVariants.{BadHead, BadQuery}
 use Rattle.thes_http_request.specs.Heads.{HasHead, IsBadHead, parts_of}
-use Rattle.thes_http_request.specs.HeadRequests.{HeadRequest, head_request_of}
+use Rattle.thes_http_request.specs.EndpointRequests.{EndpointRequest, request_of_parts}
 use Rattle.thes_http_request.specs.Queries.{DisplayQuery, display_query_of}
 use Rattle.thes_http_request.proofs.HeadLawLemmas.{head_is_whole, one_head}
 use Rattle.thes_http_request.proofs.HeadLemmas.{cut_is_not_bad}
@@ -122,7 +122,7 @@ module _ {S : Type 0} (d : ServiceBehaviour S) where
     same_place endpoint.Hierarchical number query body a b =
         same_display_query display.Hierarchical (display_query_of query) a b
 
-    same_head : (asked : Result HeadRequest Problem) (rest more : List ℕ) → AnswersHead d old r x asked rest
+    same_head : (asked : Result EndpointRequest Problem) (rest more : List ℕ) → AnswersHead d old r x asked rest
         → AnswersHead d old q y asked (rest ++ more) → AnswerOneCall d old r x q y
     same_head (Err problem) rest more a b = same_response (problem_response problem) a b
     same_head (Ok w) rest more a b = same_place w.endpoint w.number w.query (take w.body rest) a.1
@@ -138,10 +138,10 @@ module _ {S : Type 0} (d : ServiceBehaviour S) where
         absurd (whole_is_not_bad (bytes ++ more) (a.1 ++ more) a.0 (has_more bytes a.0 a.1 more a.2) b.0)
     same_answer bytes more (inr (inl a)) (inr (inl b)) =
         let one = one_head (bytes ++ more) b.1 (a.1 ++ more) b.0 a.0 b.2 (has_more bytes a.0 a.1 more a.2) in
-        inl (same_head (head_request_of (d.requests.takes_plans old) (parts_of a.0)) a.1 more a.3
-        (subst (λ (t : List ℕ). AnswersHead d old q y (head_request_of (d.requests.takes_plans old) (parts_of a.0)) t)
+        inl (same_head (request_of_parts (d.requests.takes_plans old) (parts_of a.0)) a.1 more a.3
+        (subst (λ (t : List ℕ). AnswersHead d old q y (request_of_parts (d.requests.takes_plans old) (parts_of a.0)) t)
         one.1
-        (subst (λ (h : RequestHead). AnswersHead d old q y (head_request_of (d.requests.takes_plans old) (parts_of h))
+        (subst (λ (h : RequestHead). AnswersHead d old q y (request_of_parts (d.requests.takes_plans old) (parts_of h))
         b.1) one.0 b.3)))
     same_answer bytes more (inr (inl a)) (inr (inr b)) = inr (inr b)
     same_answer bytes more (inr (inr a)) b = inr (inl a)
@@ -191,12 +191,12 @@ module _ {S : Type 0} (d : ServiceBehaviour S) where
     | inr (inr out) ↦ inr (inr (OutOfMemory, out.0))
   ]
 
-  cut_head_answered : (old new : S) (response : Response) (h : RequestHead) (rest : List ℕ) (w : HeadRequest)
-      (asked : Result HeadRequest Problem) → asked ≡ Ok w → length rest < w.body
+  cut_head_answered : (old new : S) (response : Response) (h : RequestHead) (rest : List ℕ) (w : EndpointRequest)
+      (asked : Result EndpointRequest Problem) → asked ≡ Ok w → length rest < w.body
       → AnswersHead d old response new asked rest → ⊥
   cut_head_answered old new response h rest w (Ok v) e short a =
       let same : v ≡ w = cc in let all = a.0 in absurd
-      (omega (arith, ap (λ (u : HeadRequest). u.body) same, all, short))
+      (omega (arith, ap (λ (u : EndpointRequest). u.body) same, all, short))
   cut_head_answered old new response h rest w (Err p) e short a = absurd (cc)
 
   pub cut_has_no_answer : CutHasNoAnswer d
@@ -208,9 +208,9 @@ module _ {S : Type 0} (d : ServiceBehaviour S) where
   cut_has_no_answer old new response bytes (inr cut) (inr (inl a)) =
       let one = one_head bytes a.1 cut.1 a.0 cut.0 a.2 cut.3 in
       absurd (cut_head_answered old new response cut.0 cut.1 cut.2
-      (head_request_of (d.requests.takes_plans old) (parts_of cut.0)) cut.4 cut.5
-      (subst (λ (t : List ℕ). AnswersHead d old response new (head_request_of (d.requests.takes_plans old)
+      (request_of_parts (d.requests.takes_plans old) (parts_of cut.0)) cut.4 cut.5
+      (subst (λ (t : List ℕ). AnswersHead d old response new (request_of_parts (d.requests.takes_plans old)
       (parts_of cut.0)) t) one.1
       (subst (λ (h : RequestHead). AnswersHead d old response new
-      (head_request_of (d.requests.takes_plans old) (parts_of h)) a.1) one.0 a.3)))
+      (request_of_parts (d.requests.takes_plans old) (parts_of h)) a.1) one.0 a.3)))
   cut_has_no_answer old new response bytes cut (inr (inr a)) = a

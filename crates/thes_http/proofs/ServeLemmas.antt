@@ -13,7 +13,7 @@ use Rattle.thes_http_request.specs.declared.problem.Problem.TheVariants.{BadHead
 use Rattle.thes_http.specs.declared.response.Response.{Response}
 use Rattle.thes_http_request.specs.Heads.{head_limit, HasHead, IsBadHead}
 use Rattle.thes_http_request.specs.Inbox.{ConsumesSome, ReadsBody, CutsBody, HeadOutcome}
-use Rattle.thes_http_request.specs.HeadRequests.{HeadRequest}
+use Rattle.thes_http_request.specs.EndpointRequests.{EndpointRequest}
 use Rattle.thes_http.specs.Responses.{problem_response, fault_response}
 use Rattle.thes_http.specs.ServiceBehaviour.{ServiceBehaviour}
 use Rattle.thes_http.specs.Serving.{EndpointEffectOrFailure}
@@ -43,7 +43,7 @@ answer_memory_more d known mid left old bytes t k = answer_memory d known left o
     (Consumes-trans known mid left bytes k.more t k.taken)
 
 -- If a head is complete within the first 8,192 bytes, all of the bytes have its outcome.
-pub head_outcome_all : (takes_plans : Bool) (bytes : List ℕ) (len : ℕ) (outcome : Result HeadRequest Problem) → len
+pub head_outcome_all : (takes_plans : Bool) (bytes : List ℕ) (len : ℕ) (outcome : Result EndpointRequest Problem) → len
     ≤ length (take head_limit bytes) → HeadOutcome takes_plans (take head_limit bytes)
     (drop len (take head_limit bytes)) outcome
     → HeadOutcome takes_plans bytes (drop len bytes) outcome
@@ -61,15 +61,15 @@ head_outcome_all takes_plans bytes len outcome l a =
       wants = a.wants;
     }
 
-pub head_outcome_front : (takes_plans : Bool) (bytes front : List ℕ) (len : ℕ) (outcome : Result HeadRequest Problem)
-    → front ≡ take head_limit bytes → len ≤ length (take head_limit bytes)
+pub head_outcome_front : (takes_plans : Bool) (bytes front : List ℕ) (len : ℕ)
+    (outcome : Result EndpointRequest Problem) → front ≡ take head_limit bytes → len ≤ length (take head_limit bytes)
     → HeadOutcome takes_plans front (drop len front) outcome
     → HeadOutcome takes_plans bytes (drop len bytes) outcome
 head_outcome_front takes_plans bytes front len outcome e l a = head_outcome_all takes_plans bytes len outcome l
     (subst (λ (t : List ℕ). HeadOutcome takes_plans t (drop len t) outcome) e a)
 
 -- A head has the same outcome for two services that both take plans, or both don't.
-pub outcome_taken : {a b : Bool} {bytes rest : List ℕ} {outcome : Result HeadRequest Problem} → a ≡ b
+pub outcome_taken : {a b : Bool} {bytes rest : List ℕ} {outcome : Result EndpointRequest Problem} → a ≡ b
     → HeadOutcome a bytes rest outcome → HeadOutcome b bytes rest outcome
 outcome_taken {a} {b} {bytes} {rest} {outcome} e h = subst (λ (t : Bool). HeadOutcome t bytes rest outcome) e h
 
@@ -88,7 +88,7 @@ answer_problem d known left old bytes rest p t a =
 
 -- A head with its complete body is answered by the effect of its endpoint.
 pub answer_done : {S : Type 0} (d : ServiceBehaviour S) (known mid left : Option (List ℕ)) (old new : S)
-    (bytes rest body : List ℕ) (w : HeadRequest) (r : Response)
+    (bytes rest body : List ℕ) (w : EndpointRequest) (r : Response)
     → Consumes known mid bytes → HeadOutcome (d.requests.takes_plans old) bytes rest (Ok w)
     → ReadsBody mid left rest w.body body
     → EndpointEffectOrFailure d old r new w.endpoint w.number w.query body → IsConnectionAnswer d known left old r new
@@ -109,7 +109,7 @@ answer_done d known mid left old new bytes rest body w r t a b does =
       | inr failed ↦ record { bytes = bytes ++ b.more; taken = taken; answers = inr (inr failed) }
     ]
 
-pub cut_body : (takes_plans : Bool) (known mid left : Option (List ℕ)) (bytes rest : List ℕ) (w : HeadRequest)
+pub cut_body : (takes_plans : Bool) (known mid left : Option (List ℕ)) (bytes rest : List ℕ) (w : EndpointRequest)
     → Consumes known mid bytes
     → HeadOutcome takes_plans bytes rest (Ok w) → CutsBody mid left rest w.body → IsCutOff takes_plans known left
 cut_body takes_plans known mid left bytes rest w t a c = record {
@@ -122,7 +122,7 @@ cut_body takes_plans known mid left bytes rest w t a c = record {
 -- A head and its complete body, as the program's buffers hold them, are answered by the effect of
 -- the endpoint.
 pub answer_all : {S : Type 0} (d : ServiceBehaviour S) (known mid left : Option (List ℕ)) (old new : S)
-    (bytes front start body text : List ℕ) (len : ℕ) (w : HeadRequest) (r : Response)
+    (bytes front start body text : List ℕ) (len : ℕ) (w : EndpointRequest) (r : Response)
     → Consumes known mid bytes → front ≡ take head_limit bytes → len ≤ length (take head_limit bytes)
     → HeadOutcome (d.requests.takes_plans old) front (drop len front) (Ok w) → start ≡ drop len bytes → text ≡ body
     → ReadsBody mid left start w.body body → EndpointEffectOrFailure d old r new w.endpoint w.number w.query text
@@ -134,7 +134,7 @@ answer_all d known mid left old new bytes front start body text len w r t e l a 
     (subst (λ (x : List ℕ). EndpointEffectOrFailure d old r new w.endpoint w.number w.query x) is does)
 
 pub cut_all : (takes_plans : Bool) (known mid left : Option (List ℕ)) (bytes front start : List ℕ) (len : ℕ)
-    (w : HeadRequest)
+    (w : EndpointRequest)
     → Consumes known mid bytes → front ≡ take head_limit bytes → len ≤ length (take head_limit bytes)
     → HeadOutcome takes_plans front (drop len front) (Ok w) → start ≡ drop len bytes → CutsBody mid left start w.body
     → IsCutOff takes_plans known left

@@ -26,7 +26,7 @@ use Rattle.thes_http.specs.declared.response.Response.{Response}
 use Rattle.thes_requests.specs.declared.request.Display.{Display}
 use Rattle.thes_requests.specs.declared.request.Display.TheVariants as display
 use Rattle.thes_http_request.specs.Heads.{parts_of, HasHead, IsCutHead, IsBadHead}
-use Rattle.thes_http_request.specs.HeadRequests.{HeadRequest, head_request_of}
+use Rattle.thes_http_request.specs.EndpointRequests.{EndpointRequest, request_of_parts}
 use Rattle.thes_http_request.specs.Queries.{DisplayQuery, display_query_of}
 use Rattle.thes_http.specs.ServiceBehaviour.{ServiceBehaviour}
 use Rattle.thes_http.specs.Responses.{problem_response, form_response, fault_response, command_response, plan_response}
@@ -120,7 +120,7 @@ module _ {S : Type 0} (d : ServiceBehaviour S) (old : S) (r : Response) (new : S
 
   -- The effect of a request with a complete body, and its response; if there is a problem with its head, the response
   -- reports the problem, and there is no effect.
-  abbrev pub AnswersHead : Result HeadRequest Problem → List ℕ → Type 0
+  abbrev pub AnswersHead : Result EndpointRequest Problem → List ℕ → Type 0
   AnswersHead (Err problem) rest = RespondsUnchanged (problem_response problem)
   AnswersHead (Ok w) rest = (w.body ≤ length rest) × EndpointEffect w.endpoint w.number w.query (take w.body rest)
 
@@ -130,12 +130,12 @@ module _ {S : Type 0} (d : ServiceBehaviour S) (old : S) (r : Response) (new : S
   Answers bytes =
       (IsBadHead bytes × RespondsUnchanged (problem_response BadHead))
       ⊎ (((h : RequestHead) × (rest : List ℕ) × HasHead bytes h rest
-      × AnswersHead (head_request_of (d.requests.takes_plans old) (parts_of h)) rest)
+      × AnswersHead (request_of_parts (d.requests.takes_plans old) (parts_of h)) rest)
       ⊎ RespondsUnchanged (fault_response OutOfMemory))
 
 -- The bytes end inside the head, or inside the body. Whether there is a body may depend on whether plans are taken.
 abbrev pub IsCutRequest : Bool → List ℕ → Type 0
 IsCutRequest takes_plans bytes =
     IsCutHead bytes
-    ⊎ ((h : RequestHead) × (rest : List ℕ) × (w : HeadRequest) × HasHead bytes h rest
-    × (head_request_of takes_plans (parts_of h) ≡ Ok w) × (length rest < w.body))
+    ⊎ ((h : RequestHead) × (rest : List ℕ) × (w : EndpointRequest) × HasHead bytes h rest
+    × (request_of_parts takes_plans (parts_of h) ≡ Ok w) × (length rest < w.body))

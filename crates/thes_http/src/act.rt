@@ -10,7 +10,7 @@ use thes_base::fault::{Fault, FormFault, ReadStop};
 use thes_base::number::{PostNo, ResNo};
 use thes_base::text::Tag;
 use thes_http_request::endpoint::Endpoint;
-use thes_http_request::head_request::HeadRequest;
+use thes_http_request::endpoint_request::EndpointRequest;
 use thes_http_request::problem::Problem;
 use thes_http_request::query::read_query;
 use thes_requests::JsonScratch;
@@ -21,7 +21,7 @@ use thes_requests::request::{Display, DisplayRequest, Query, Request, read_reque
 pub fn act<S: Service>(
     alloc: Global,
     service: &mut S,
-    want: HeadRequest<'_>,
+    want: EndpointRequest<'_>,
     body: &[u8],
 ) -> Response
     requires { S.is_open service.old ≡ true }

@@ -15,7 +15,7 @@ use thes_base::fault::Fault;
 use thes_base::pipe::{Budget, Pipe};
 use thes_http_request::body::{BodyStop, read_body};
 use thes_http_request::endpoint::{Paths, Routes};
-use thes_http_request::head_request::read_head_request;
+use thes_http_request::endpoint_request::request_of_head;
 use thes_http_request::inbox::{HeadStop, Inbox, InputFault};
 use thes_http_request::problem::Problem;
 
@@ -79,7 +79,7 @@ fn answer<R: Read, S: Service>(
         Err(HeadStop::InputFault(gone)) => return Err(gone),
     };
     let paths = paths_of(routes, service);
-    let want = match read_head_request(alloc, paths, inbox.head_bytes(), spans, &headers) {
+    let want = match request_of_head(alloc, paths, inbox.head_bytes(), spans, &headers) {
         Ok(want) => want,
         Err(problem) => return Ok(Response::problem(problem)),
     };

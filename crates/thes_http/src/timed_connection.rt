@@ -16,13 +16,13 @@ use thes_base::pipe::Pipe;
 use thes_http_request::endpoint::Routes;
 
 // The greatest number of reads, of 16 KiB each, that discard input after the response.
-const READS: u32 = 32_768;
+const DRAIN_READS: u32 = 32_768;
 
 // The greatest number of these reads that may time out, after 4 ms each, or be interrupted.
-const WAITS: u32 = 256;
+const DRAIN_WAITS: u32 = 256;
 
 // The greatest time for all of these reads, in seconds.
-const SEE_OFF: u64 = 2;
+const DRAIN_SECONDS: u64 = 2;
 
 /// The two ends of a connection: one to read from, and one to write to.
 #[derive(Drop)]
@@ -77,7 +77,7 @@ fn is_over<C: Clock>(clock: &C, start: Instant) -> bool {
 fn is_long(passed: Duration) -> bool
     ensures { IsTrue result ↔ 2_000_000_000 ≤ as_nanos passed }
 {
-    passed >= Duration::from_secs(SEE_OFF)
+    passed >= Duration::from_secs(DRAIN_SECONDS)
 }
 
 // Shuts down the sending side, and discards what the client still sends, for two seconds at most,
@@ -92,14 +92,14 @@ fn drain_input<C: Clock, T: Read + OpenStream + Drop>(clock: &C, mut stream: T) 
     };
     let mut buffer = [0u8; 16_384];
     let mut waits = 0;
-    for _ in 0..READS {
+    for _ in 0..DRAIN_READS {
         if is_over(clock, start) {
             return;
         }
         match stream.read(&mut buffer) {
             Ok(0) => return,
             Ok(_) => {}
-            Err(error) if waits < WAITS && has_waited(error.kind()) => waits += 1,
+            Err(error) if waits < DRAIN_WAITS && has_waited(error.kind()) => waits += 1,
             Err(_) => return,
         }
     }

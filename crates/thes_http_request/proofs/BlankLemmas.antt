@@ -12,7 +12,7 @@ use Rattle.std.specs.Cmp.Derive.{both_true}
 use Rattle.httparse.specs.Grammar.{LineEnd, crlf, lf, print_blank, IsToken, is_token, is_token_byte, is_uri_byte}
 use Rattle.httparse.specs.Grammar.{AllPass}
 use Rattle.std.specs.Str.{bytes_eq}
-use Rattle.thes_http_request.specs.Heads.{without_blank_lines, is_space, is_open_target}
+use Rattle.thes_http_request.specs.Heads.{after_blank_lines, is_space, is_open_target}
 
 first_true : (x : Bool) (a b : List ℕ) → (x && true) ≡ true → cond x a b ≡ a
 first_true x a b h = grind (arith, common_steps)
@@ -27,35 +27,35 @@ second_false : (y z : Bool) (a b : List ℕ) → (y && (z && true)) ≡ false �
 second_false y z a b h = grind (arith, common_steps, first_false)
 
 -- A leading line feed is skipped.
-pub blank_line_feed : (bytes : List ℕ) → bytes_eq (take 1 bytes) (10 ∷ []) ≡ true → without_blank_lines bytes
-    ≡ without_blank_lines (drop 1 bytes)
-unfolding without_blank_lines
+pub blank_line_feed : (bytes : List ℕ) → bytes_eq (take 1 bytes) (10 ∷ []) ≡ true → after_blank_lines bytes
+    ≡ after_blank_lines (drop 1 bytes)
+unfolding after_blank_lines
 blank_line_feed bytes h = grind (arith, common_steps, first_true)
 
 -- A leading carriage return with its line feed is skipped.
 pub blank_return : (bytes : List ℕ) → bytes_eq (take 1 bytes) (10 ∷ []) ≡ false → bytes_eq (take 2 bytes)
-    (13 ∷ 10 ∷ []) ≡ true → without_blank_lines bytes ≡ without_blank_lines (drop 2 bytes)
-unfolding without_blank_lines
+    (13 ∷ 10 ∷ []) ≡ true → after_blank_lines bytes ≡ after_blank_lines (drop 2 bytes)
+unfolding after_blank_lines
 blank_return bytes h k = grind (arith, common_steps, first_false, second_true)
 
 -- Bytes that begin with neither line end are left as they are.
 pub blank_end : (bytes : List ℕ) → bytes_eq (take 1 bytes) (10 ∷ []) ≡ false → bytes_eq (take 2 bytes) (13 ∷ 10 ∷ [])
-    ≡ false → without_blank_lines bytes ≡ bytes
-unfolding without_blank_lines
+    ≡ false → after_blank_lines bytes ≡ bytes
+unfolding after_blank_lines
 blank_end bytes h k = grind (arith, common_steps, first_false, second_false)
 
 -- Empty lines are skipped, whatever line follows.
 
-skip_line_feed : (bytes : List ℕ) → without_blank_lines (10 ∷ bytes) ≡ without_blank_lines bytes
-unfolding without_blank_lines
+skip_line_feed : (bytes : List ℕ) → after_blank_lines (10 ∷ bytes) ≡ after_blank_lines bytes
+unfolding after_blank_lines
 skip_line_feed bytes = grind (arith, common_steps)
 
-skip_return : (bytes : List ℕ) → without_blank_lines (13 ∷ 10 ∷ bytes) ≡ without_blank_lines bytes
-unfolding without_blank_lines
+skip_return : (bytes : List ℕ) → after_blank_lines (13 ∷ 10 ∷ bytes) ≡ after_blank_lines bytes
+unfolding after_blank_lines
 skip_return bytes = refl
 
-pub skip_blank : (ends : List LineEnd) (bytes : List ℕ) → without_blank_lines (print_blank ends ++ bytes)
-    ≡ without_blank_lines bytes
+pub skip_blank : (ends : List LineEnd) (bytes : List ℕ) → after_blank_lines (print_blank ends ++ bytes)
+    ≡ after_blank_lines bytes
 skip_blank [] bytes = refl
 skip_blank (crlf ∷ ends) bytes = skip_return (print_blank ends ++ bytes) ∙ skip_blank ends bytes
 skip_blank (lf ∷ ends) bytes = skip_line_feed (print_blank ends ++ bytes) ∙ skip_blank ends bytes
@@ -79,13 +79,13 @@ differs_from_other b n none h t e = grind (arith, common_steps, both_ways, eqb-t
 no_return : (y z : Bool) (a b : List ℕ) → y ≡ false → cond (y && z) a b ≡ b
 no_return y z a b e = grind (arith, common_steps)
 
-line_stays : (b : ℕ) (bytes : List ℕ) → (b == 10) ≡ false → (b == 13) ≡ false → without_blank_lines (b ∷ bytes) ≡ b
+line_stays : (b : ℕ) (bytes : List ℕ) → (b == 10) ≡ false → (b == 13) ≡ false → after_blank_lines (b ∷ bytes) ≡ b
     ∷ bytes
-unfolding without_blank_lines
+unfolding after_blank_lines
 line_stays b bytes h k = grind (arith, common_steps, cond-false, no_return)
 
 -- A line that begins with a method isn't empty.
-pub token_stays : (method bytes : List ℕ) → IsToken method → without_blank_lines (method ++ bytes) ≡ method ++ bytes
+pub token_stays : (method bytes : List ℕ) → IsToken method → after_blank_lines (method ++ bytes) ≡ method ++ bytes
 token_stays method bytes t = grind (arith, common_steps, line_stays, differs_from_other, line_feed_none, return_none)
 
 -- A line of a method, a space and a target has its first space after the method.

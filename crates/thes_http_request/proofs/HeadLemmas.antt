@@ -10,7 +10,7 @@ use Rattle.httparse.specs.Spans.{RequestExceeds}
 use Rattle.thes_http_request.proofs.BlankLemmas.{skip_blank, token_stays, open_target}
 use Rattle.thes_http_request.proofs.LineLemmas.{fields_lines}
 use Rattle.thes_http_request.specs.Laws.{CutIsNotBad}
-use Rattle.thes_http_request.specs.Heads.{head_limit, fields_limit, without_blank_lines, whole_lines, is_open_target}
+use Rattle.thes_http_request.specs.Heads.{head_limit, fields_limit, after_blank_lines, whole_lines, is_open_target}
 use Rattle.thes_http_request.specs.Heads.{ends_in_target, IsUnfinished, IsNoHead, HasTooManyLines, IsCutHead, IsBadHead}
 
 pub none_of_never : (bytes : List ℕ) → NeverHasRequest bytes → HasNoRequest bytes
@@ -59,8 +59,8 @@ cut_front front bytes bytes' e same l h =
 -- Bytes that end within a target pass the test `ends_in_target`.
 pub ends_in_target_holds : (bytes : List ℕ) → EndsInTarget bytes → ends_in_target bytes ≡ true
 ends_in_target_holds bytes (blank, method, target, token, uri, is) =
-    let line : without_blank_lines bytes ≡ method ++ (32 ∷ target) =
-    ap without_blank_lines (is ∙ append_assoc (print_blank blank) method (32 ∷ target))
+    let line : after_blank_lines bytes ≡ method ++ (32 ∷ target) =
+    ap after_blank_lines (is ∙ append_assoc (print_blank blank) method (32 ∷ target))
     ∙ (skip_blank blank (method ++ (32 ∷ target)) ∙ token_stays method (32 ∷ target) token) in
     ap is_open_target line ∙ open_target method target token uri
 

@@ -2,7 +2,7 @@ pub mod HeadLemmas
 pub mod HeadLawLemmas
 pub mod InboxLemmas
 mod BodyLemmas
-mod HeadRequestLemmas
+mod EndpointRequestLemmas
 mod QueryLemmas
 mod HeadOutcomeLemmas
 mod FieldLemmas

@@ -10,7 +10,7 @@ use Rattle.std.proofs.lemmas.Bool.{both_ways, eqb-true}
 use Rattle.httparse.specs.Grammar.{LineEnd, crlf, lf, print_end, print_blank, print_version, Field, print_field}
 use Rattle.httparse.specs.Grammar.{IsField, RequestHead, IsRequestHead, print_request, ReadsRequest, AllPass}
 use Rattle.httparse.specs.Grammar.{is_token_byte, is_uri_byte, is_value_byte}
-use Rattle.thes_http_request.specs.Heads.{without_blank_lines, is_line_feed, whole_lines}
+use Rattle.thes_http_request.specs.Heads.{after_blank_lines, is_line_feed, whole_lines}
 use Rattle.thes_http_request.proofs.BlankLemmas.{skip_blank, token_stays}
 
 abbrev lines_in : List ℕ → ℕ
@@ -66,10 +66,10 @@ pub front_is : (front : List ℕ) (h : RequestHead) → front ++ 10 ∷ [] ≡ p
 front_is front h e = grind (arith, common_steps, append_cancel_right, to_feed)
 
 line_is : (front rest : List ℕ) (h : RequestHead) → ReadsRequest (front ++ 10 ∷ []) h []
-    → without_blank_lines (front ++ rest) ≡ h.method ++ (after_method h ++ rest)
+    → after_blank_lines (front ++ rest) ≡ h.method ++ (after_method h ++ rest)
 line_is front rest h r =
-    ap (λ t. without_blank_lines (t ++ rest)) (front_is front h r.1)
-    ∙ (ap without_blank_lines (append_assoc (print_blank h.blank) (h.method ++ after_method h) rest
+    ap (λ t. after_blank_lines (t ++ rest)) (front_is front h r.1)
+    ∙ (ap after_blank_lines (append_assoc (print_blank h.blank) (h.method ++ after_method h) rest
     ∙ ap (λ t. print_blank h.blank ++ t) (append_assoc h.method (after_method h) rest))
     ∙ (skip_blank h.blank (h.method ++ (after_method h ++ rest)) ∙ token_stays h.method (after_method h ++ rest)
     r.0.method))
@@ -154,7 +154,7 @@ few_lines h is =
 
 -- A prefix of bytes has no more complete lines than the bytes.
 lines_of_prefix : (xs ys : List ℕ) → whole_lines xs ≤ whole_lines (xs ++ ys)
-unfolding without_blank_lines
+unfolding after_blank_lines
 lines_of_prefix [] ys = omega arith
 lines_of_prefix (b ∷ []) ys = grind (arith, common_steps, sum_by-cons)
 lines_of_prefix (a ∷ b ∷ bytes) ys =

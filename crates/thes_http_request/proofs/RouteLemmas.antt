@@ -113,13 +113,13 @@ abbrev pub number_in : RouteOf Endpoint → List ℕ → List ℕ
 number_in r path = unwrap_or (named (codes "n") (walk r.pattern r.text path r.names 0 0)) []
 
 -- The route is that of the endpoint that the path names. If the path is UTF-8, so is the text that the parameter took.
-pub record IsPlaceOf (path : List ℕ) (r : RouteOf Endpoint) : Type 0 where
+pub record IsRouteOf (path : List ℕ) (r : RouteOf Endpoint) : Type 0 where
   pub endpoint : endpoint_of_path path ≡ Some (record { endpoint = r.value; number = number_in r path })
   pub text : IsUtf8 path → AllText (walk r.pattern r.text path r.names 0 0)
 
 plain_is : (w : List ℕ) (endpoint : Endpoint) (path : List ℕ) (r : RouteOf Endpoint) → list_all is_byte w ≡ true
     → endpoint_of_path w ≡ Some (record { endpoint = endpoint; number = [] })
-    → IsMatch r path w (plain_route w endpoint) → IsPlaceOf path r
+    → IsMatch r path w (plain_route w endpoint) → IsRouteOf path r
 plain_is w endpoint path r h is m =
     let one = matches_word w [] path h (rw (append-nil w) m.1) in
     let whole : path ≡ w = one.1 ∙ (ap (λ t. w ++ t) one.2 ∙ append-nil w) in
@@ -138,8 +138,8 @@ utf8_before v rest u =
     rw (take_at v (slash ∷ rest) (length v) refl) at cut
 
 -- The endpoint, with the text that the parameter of its route took.
-abbrev place_with : Endpoint → List (List ℕ × List ℕ) → Option EndpointMatch
-place_with endpoint pairs = Some (record { endpoint = endpoint; number = unwrap_or (named (codes "n") pairs) [] })
+abbrev endpoint_with : Endpoint → List (List ℕ × List ℕ) → Option EndpointMatch
+endpoint_with endpoint pairs = Some (record { endpoint = endpoint; number = unwrap_or (named (codes "n") pairs) [] })
 
 -- A path that matches a route with a number names the endpoint of the route.
 numbered_is : (w t : List ℕ) (endpoint : Endpoint) (path v rest : List ℕ) (r : RouteOf Endpoint)
@@ -147,13 +147,13 @@ numbered_is : (w t : List ℕ) (endpoint : Endpoint) (path v rest : List ℕ) (r
     → wild_stop (w ++ param_token ∷ t) (length w) path (length w) ≡ length w + length v
     → part_of (w ++ (codes "{n}" ++ t)) (length w + 1) (length w + 2) ≡ codes "n"
     → endpoint_of_path (w ++ (v ++ rest)) ≡ Some (record { endpoint = endpoint; number = v })
-    → (IsUtf8 (w ++ (v ++ rest)) → IsUtf8 v) → IsPlaceOf path r
+    → (IsUtf8 (w ++ (v ++ rest)) → IsUtf8 v) → IsRouteOf path r
 numbered_is w t endpoint path v rest r h e k stop name is utf =
     let one = walk_one w t (w ++ (codes "{n}" ++ t)) path (length w + 1, length w + 2) v rest h e stop in
     let pairs : walk (w ++ param_token ∷ t) (w ++ (codes "{n}" ++ t)) path ((length w + 1, length w + 2) ∷ []) 0 0
     ≡ (codes "n", v) ∷ [] = one ∙ ap (λ x. (x, v) ∷ []) name in
-    subst (λ (x : RouteOf Endpoint). IsPlaceOf path x) k (record {
-      endpoint = ap endpoint_of_path e ∙ (is ∙ sym (ap (place_with endpoint) pairs));
+    subst (λ (x : RouteOf Endpoint). IsRouteOf path x) k (record {
+      endpoint = ap endpoint_of_path e ∙ (is ∙ sym (ap (endpoint_with endpoint) pairs));
       text = λ u. subst AllText (sym pairs) (
         subst IsUtf8 (encode_ascii 110 (omega arith)) (IsUtf8-encode 110 refl),
         utf (subst IsUtf8 e u),
@@ -163,7 +163,7 @@ numbered_is w t endpoint path v rest r h e k stop name is utf =
 
 concept_is : (path : List ℕ) (r : RouteOf Endpoint)
     → IsMatch r path (codes "/concepts/" ++ param_token ∷ []) (numbered_route (codes "/concepts/") [] Concept)
-    → IsPlaceOf path r
+    → IsRouteOf path r
 unfolding endpoint_of_path
 concept_is path r m =
     let w = codes "/concepts/" in
@@ -180,7 +180,7 @@ concept_is path r m =
 
 posting_is : (path : List ℕ) (r : RouteOf Endpoint)
     → IsMatch r path (codes "/postings/" ++ param_token ∷ []) (numbered_route (codes "/postings/") [] Posting)
-    → IsPlaceOf path r
+    → IsRouteOf path r
 unfolding endpoint_of_path
 posting_is path r m =
     let w = codes "/postings/" in
@@ -198,7 +198,7 @@ posting_is path r m =
 postings_is : (path : List ℕ) (r : RouteOf Endpoint)
     → IsMatch r path (codes "/concepts/" ++ param_token ∷ codes "/postings")
     (numbered_route (codes "/concepts/") (codes "/postings") Postings)
-    → IsPlaceOf path r
+    → IsRouteOf path r
 unfolding endpoint_of_path
 postings_is path r m =
     let w = codes "/concepts/" in
@@ -222,9 +222,9 @@ postings_is path r m =
 row_and_rest : {A B : Type 0} → A → B → A × B
 row_and_rest a b = (a, b)
 
-place_found_in : (path : List ℕ) (r : RouteOf Endpoint) → AnyRow (IsMatch r path) ten_rows → IsPlaceOf path r
+route_found_in : (path : List ℕ) (r : RouteOf Endpoint) → AnyRow (IsMatch r path) ten_rows → IsRouteOf path r
 unfolding endpoint_of_path
-place_found_in path r h = any_elim (IsMatch r path) ten_rows
+route_found_in path r h = any_elim (IsMatch r path) ten_rows
     (row_and_rest (postings_is path r) (row_and_rest (concept_is path r)
     (row_and_rest (plain_is (codes "/display/alphabetical") Alphabetical path r refl refl)
     (row_and_rest (plain_is (codes "/display/hierarchical") Hierarchical path r refl refl)
@@ -236,9 +236,9 @@ place_found_in path r h = any_elim (IsMatch r path) ten_rows
 
 -- A route that the router finds is that of the endpoint which the path names.
 pub route_found : (rows : RouteRows) (path : List ℕ) (r : RouteOf Endpoint) → rows ≡ route_rows
-    → first rows path ≡ Some r → IsPlaceOf path r
+    → first rows path ≡ Some r → IsRouteOf path r
 route_found rows path r e f =
-    place_found_in path r (found_matches 0 ten_rows path r (rw (e ∙ ten_rows_are) at f))
+    route_found_in path r (found_matches 0 ten_rows path r (rw (e ∙ ten_rows_are) at f))
 
 -- A choice by a name is None if its second branch is None, and its first branch is None for a part with that name.
 unless_named : (a w : List ℕ) (x y : Option EndpointMatch) → (a ≡ w → x ≡ None) → y ≡ None

@@ -32,12 +32,12 @@ pub record HasHead (bytes : List ℕ) (h : RequestHead) (rest : List ℕ) : Type
   pub few : length h.fields ≤ fields_limit
 
 -- The bytes after the empty lines that may precede a request line (RFC 9112, section 2.2).
-unfoldable pub without_blank_lines : List ℕ → List ℕ
-without_blank_lines [] = []
-without_blank_lines (b ∷ []) = if b == 10 then [] else b ∷ []
-without_blank_lines (a ∷ b ∷ bytes) =
-    if a == 10 then without_blank_lines (b ∷ bytes)
-    else if a == 13 && b == 10 then without_blank_lines bytes
+unfoldable pub after_blank_lines : List ℕ → List ℕ
+after_blank_lines [] = []
+after_blank_lines (b ∷ []) = if b == 10 then [] else b ∷ []
+after_blank_lines (a ∷ b ∷ bytes) =
+    if a == 10 then after_blank_lines (b ∷ bytes)
+    else if a == 13 && b == 10 then after_blank_lines bytes
     else a ∷ b ∷ bytes
 
 -- Whether the byte is a line feed.
@@ -50,7 +50,7 @@ is_space b = b == 32
 
 -- The number of complete lines after the leading empty ones, the request line included.
 abbrev pub whole_lines : List ℕ → ℕ
-whole_lines bytes = count_by is_line_feed (without_blank_lines bytes)
+whole_lines bytes = count_by is_line_feed (after_blank_lines bytes)
 
 -- Whether the bytes of a line end within its target: they are a method, a space, and bytes of a
 -- target.
@@ -61,7 +61,7 @@ is_open_target line =
 
 -- Whether the bytes, after leading empty lines, end within the target of a request line.
 abbrev pub ends_in_target : List ℕ → Bool
-ends_in_target bytes = is_open_target (without_blank_lines bytes)
+ends_in_target bytes = is_open_target (after_blank_lines bytes)
 
 -- The bytes have no complete head, and at most 65 complete lines: a request line and 64 header lines. More bytes may
 -- complete a head, or the bytes end within a target, of which more may follow.

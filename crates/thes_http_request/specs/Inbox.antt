@@ -19,7 +19,7 @@ use Rattle.thes_http_request.specs.declared.inbox.InputFault.TheVariants.{Cut, R
 use Rattle.thes_http_request.specs.declared.problem.Problem.{Problem}
 use Rattle.thes_http_request.specs.Heads.{HasHead, IsBadHead, IsCutHead, fields_limit, head_limit, parts_of}
 use Rattle.thes_http_request.specs.Fields.{is_named}
-use Rattle.thes_http_request.specs.HeadRequests.{HeadRequest, head_request_of}
+use Rattle.thes_http_request.specs.EndpointRequests.{EndpointRequest, request_of_parts}
 
 -- The bytes begin with the head of a request: `spans` says where its method and its path are, and how long it is;
 -- `headers` says where the name and the value of each field are.
@@ -39,10 +39,11 @@ first_named name bytes headers = position_or_len (spans_named name bytes) header
 
 -- The bytes begin with a head, which `rest` follows, and the checks of that head have this outcome, which depends on
 -- whether plans are taken.
-pub record HeadOutcome (takes_plans : Bool) (bytes rest : List ℕ) (outcome : Result HeadRequest Problem) : Type 0 where
+pub record HeadOutcome (takes_plans : Bool) (bytes rest : List ℕ) (outcome : Result EndpointRequest Problem)
+    : Type 0 where
   pub head : RequestHead
   pub has : HasHead bytes head rest
-  pub wants : head_request_of takes_plans (parts_of head) ≡ outcome
+  pub wants : request_of_parts takes_plans (parts_of head) ≡ outcome
 
 -- The pipe has failed, or was denied a read or a write.
 abbrev pub HasStopped : {T : Type 0} → Pipe T → Type 0

@@ -2,7 +2,7 @@
 ghost use Rattle.std.specs.Prelude.{◌≡◌, ◌⊎◌, true, false, length, MatchOption};
 ghost use Rattle.std.specs.List.{list_any, list_all, before_first, after_first};
 ghost use Rattle.httparse.specs.Grammar.{is_uri_byte};
-ghost use Rattle.thes_http_request.specs.Heads.{without_blank_lines, is_space, whole_lines, ends_in_target, IsUnfinished, IsNoHead, HasTooManyLines};
+ghost use Rattle.thes_http_request.specs.Heads.{after_blank_lines, is_space, whole_lines, ends_in_target, IsUnfinished, IsNoHead, HasTooManyLines};
 ghost use Rattle.thes_http_request.specs.Inbox.{IsHeadAt};
 
 use httparse::spans::{HeaderSpan, RequestSpans, parse_request};
@@ -45,8 +45,8 @@ pub fn head_of(bytes: &[u8], headers: &mut [HeaderSpan]) -> Head
 
 // Skips the empty lines before a request line (RFC 9112, section 2.2).
 #[tactic(auto, using(crate::proofs::BlankLemmas::blank_line_feed, crate::proofs::BlankLemmas::blank_return, crate::proofs::BlankLemmas::blank_end))]
-fn without_blank_lines(bytes: &[u8]) -> &[u8]
-    ensures { result.now ≡ without_blank_lines bytes.now }
+fn after_blank_lines(bytes: &[u8]) -> &[u8]
+    ensures { result.now ≡ after_blank_lines bytes.now }
 {
     let mut rest = bytes;
     loop {
@@ -65,7 +65,7 @@ fn without_blank_lines(bytes: &[u8]) -> &[u8]
 fn whole_lines(bytes: &[u8]) -> usize
     ensures { result ≡ whole_lines bytes.now }
 {
-    let head = without_blank_lines(bytes);
+    let head = after_blank_lines(bytes);
     let mut lines = 0;
     for byte in head {
         if *byte == b'\n' {
@@ -80,7 +80,7 @@ fn whole_lines(bytes: &[u8]) -> usize
 fn ends_in_target(bytes: &[u8]) -> bool
     ensures { result ≡ ends_in_target bytes.now }
 {
-    match split_at_space(without_blank_lines(bytes)) {
+    match split_at_space(after_blank_lines(bytes)) {
         None => false,
         Some((method, target)) => is_token(method) && is_target(target),
     }

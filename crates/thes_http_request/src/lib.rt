@@ -5,7 +5,7 @@ pub mod body;
 pub mod endpoint;
 mod fields;
 pub mod head;
-pub mod head_request;
+pub mod endpoint_request;
 pub mod inbox;
 pub mod laws;
 pub mod problem;

@@ -15,8 +15,8 @@ use Rattle.thes_base.specs.declared.pipe.Pipe.{Pipe}
 use Rattle.thes_office.specs.Office.{FaultBehaviour, OfficeView}
 use Rattle.thes_store.specs.Causes.{max_failures}
 use Rattle.thes_store.specs.Storage.{StorageView}
-use Rattle.thes_import.specs.ImportEngine.{IsReportCut, IsWriterFault, PerformsFirst, StopsAfterRows, WritesPartOf}
-use Rattle.thes_import.specs.ImportEngine.{WritesWhole}
+use Rattle.thes_import.specs.FileImport.{IsReportCut, IsWriterFault, PerformsFirst, StopsAfterRows, WritesPartOf}
+use Rattle.thes_import.specs.FileImport.{WritesWhole}
 use Rattle.thes_import.specs.Imports.{ImportsBlock, PerformsWith}
 use Rattle.thes_posting_files.specs.Outcomes.{IsOutcome, counts_of, outcome_lines, outcomes_text}
 use Rattle.thes_posting_files.specs.PostingFile.{IsPostingFile}

@@ -1,4 +1,4 @@
 pub mod Imports
 pub mod RepeatedImport
-pub mod ImportEngine
+pub mod FileImport
 pub mod OneImport

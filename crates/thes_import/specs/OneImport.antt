@@ -2,18 +2,11 @@
 use Rattle.std.specs.Prelude.{◌≡◌, ℕ, List, Option, Some, None, Ok}
 use Rattle.thes_base.specs.Refusals.{AreLimits}
 use Rattle.thes_base.specs.State.{State}
-use Rattle.thes_tables.specs.Cells.{Raw}
 use Rattle.thes_store.specs.Storage.{StorageView}
 use Rattle.thes_office.specs.Office.{OfficeView}
-use Rattle.thes_office.specs.TablesOfState.{TablesOfState}
+use Rattle.thes_office.specs.TablesOfState.{TablesOfState, EncodeOneState}
 use Rattle.thes_import.specs.Imports.{Imports}
 use Rattle.thes_posting_files.specs.declared.report.Report.{Report}
-
--- The tables of two stores, `first` and `second`, encode the same state, with this base.
-pub record EncodeOneState (base : List ℕ) (first second : Raw) : Type 0 where
-  pub state : State
-  pub one : TablesOfState first base state
-  pub other : TablesOfState second base state
 
 -- Both reports have the same text and counts, or both imports found no header.
 abbrev pub ReportSame : Option Report → Option Report → Type 0

@@ -1,7 +1,7 @@
 //! Imports a posting file from a reader, and writes the outcomes to a writer.
 ghost use Rattle.std.specs.Prelude.{◌≡◌};
 ghost use Rattle.thes_base.specs.Pipe.{IsFresh, KeepsSharedCallLimit, PaysCalls};
-ghost use Rattle.thes_import.specs.ImportEngine.{EndsFileImport, ImportsBytes, WritesReport, import_streams};
+ghost use Rattle.thes_import.specs.FileImport.{EndsFileImport, ImportsBytes, WritesReport, import_streams};
 ghost use Rattle.thes_posting_files.specs.Outcomes.{no_counts};
 
 use crate::perform::import_block;

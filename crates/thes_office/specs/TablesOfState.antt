@@ -11,3 +11,9 @@ pub record TablesOfState (raw : Raw) (base : List ℕ) (s : State) : Type 0 wher
   pub rows : raw ≡ cells_of_tables tables
   pub holds : IsRowsOf base s tables
   pub legal : IsLegalState base s
+
+-- The tables of two stores, `first` and `second`, encode the same state, with this base.
+pub record EncodeOneState (base : List ℕ) (first second : Raw) : Type 0 where
+  pub state : State
+  pub one : TablesOfState first base state
+  pub other : TablesOfState second base state

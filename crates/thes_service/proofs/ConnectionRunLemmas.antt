@@ -17,7 +17,7 @@ use Rattle.thes_http_request.specs.declared.endpoint.Endpoint.TheVariants as end
 use Rattle.thes_http_request.specs.declared.problem.Problem.{Problem}
 use Rattle.thes_http_request.specs.Heads.{parts_of}
 use Rattle.thes_http_request.specs.Queries.{DisplayQuery, display_query_of}
-use Rattle.thes_http_request.specs.HeadRequests.{HeadRequest, head_request_of}
+use Rattle.thes_http_request.specs.EndpointRequests.{EndpointRequest, request_of_parts}
 use Rattle.thes_http.specs.declared.response.Response.{Response}
 use Rattle.thes_requests.specs.declared.request.Display.{Display}
 use Rattle.thes_requests.specs.declared.request.Display.TheVariants as display
@@ -106,7 +106,7 @@ module _ {K : Type 0} (view : K → StorageView) (takes : Bool) where
   does old mid new r endpoint.Hierarchical number query body x reached = displays old mid new r display.Hierarchical
       (display_query_of query) x reached
 
-  head_answered : (old mid new : OfficeView K) (r : Response) (wants : Result HeadRequest Problem) (rest : List ℕ)
+  head_answered : (old mid new : OfficeView K) (r : Response) (wants : Result EndpointRequest Problem) (rest : List ℕ)
       → AnswersHead Office mid r new wants rest → IsReached old mid → IsReached old new
   head_answered old mid new r (Ok w) rest x reached = does old mid new r w.endpoint w.number w.query _ x.1 reached
   head_answered old mid new r (Err problem) rest x reached = led_kept view old mid new reached x.1
@@ -115,7 +115,7 @@ module _ {K : Type 0} (view : K → StorageView) (takes : Bool) where
       → IsReached old mid → IsReached old new
   exchange_reached old mid new r bytes (inl x) reached = led_kept view old mid new reached x.1.1
   exchange_reached old mid new r bytes (inr (inl x)) reached =
-      head_answered old mid new r (head_request_of takes (parts_of x.0)) x.1 x.3 reached
+      head_answered old mid new r (request_of_parts takes (parts_of x.0)) x.1 x.3 reached
   exchange_reached old mid new r bytes (inr (inr x)) reached = led_kept view old mid new reached x.1
 
   all_answered : (old new : OfficeView K) (exchanges : List Exchange) → AreAnswered Office old exchanges new

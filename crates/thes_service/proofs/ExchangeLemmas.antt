@@ -7,8 +7,7 @@ use Rattle.thes_base.specs.State.{State}
 use Rattle.thes_base.proofs.MachineLemmas.{legal_is_consistent}
 use Rattle.thes_store.specs.Storage.{StorageView}
 use Rattle.thes_office.specs.Office.{OfficeView}
-use Rattle.thes_office.specs.TablesOfState.{TablesOfState}
-use Rattle.thes_import.specs.OneImport.{EncodeOneState}
+use Rattle.thes_office.specs.TablesOfState.{TablesOfState, EncodeOneState}
 use Rattle.thes_http.specs.Server.{AreAnswered, Exchange}
 use Rattle.thes_http.specs.Serving.{Answers}
 use Rattle.thes_service.specs.Laws.{ExchangesInState, HasOneListOfResponses, ReportsFailure}

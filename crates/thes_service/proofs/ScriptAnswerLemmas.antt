@@ -13,7 +13,7 @@ use Rattle.thes_base.specs.State.{State}
 use Rattle.thes_base.proofs.MachineLemmas.{legal_is_consistent}
 use Rattle.thes_store.specs.Storage.{StorageView}
 use Rattle.thes_office.specs.Office.{OfficeView, setting as setting_of}
-use Rattle.thes_office.specs.TablesOfState.{TablesOfState}
+use Rattle.thes_office.specs.TablesOfState.{TablesOfState, EncodeOneState}
 use Rattle.thes_office.proofs.StepLemmas.{setting_fits}
 use Rattle.thes_requests.specs.declared.answer.Reply.TheVariants as reply
 use Rattle.thes_requests.specs.declared.handler.QueryAnswer.{QueryAnswer}
@@ -33,7 +33,6 @@ use Rattle.thes_requests.specs.Serving.{ServesPlan, is_plan_line, query_answer}
 use Rattle.thes_requests.proofs.ReadingLemmas.{one_outcome}
 use Rattle.thes_exchange.specs.QueryAnswers.{IsQueryAnswer}
 use Rattle.thes_exchange.proofs.OneViewLemmas.{one_view}
-use Rattle.thes_import.specs.OneImport.{EncodeOneState}
 use Rattle.thes_import.proofs.OneImportLemmas.{run_from_state}
 use Rattle.thes_service.specs.Laws.{HasOneScript, IsFailedLine}
 use Rattle.thes_service.specs.OfficeRequests.{OfficeServes}

@@ -17,7 +17,7 @@ use Rattle.thes_http_request.specs.declared.endpoint.Endpoint.{Endpoint}
 use Rattle.thes_http_request.specs.declared.endpoint.Endpoint.TheVariants as endpoint
 use Rattle.thes_http_request.specs.declared.problem.Problem.{Problem}
 use Rattle.thes_http_request.specs.Heads.{parts_of}
-use Rattle.thes_http_request.specs.HeadRequests.{HeadRequest, head_request_of}
+use Rattle.thes_http_request.specs.EndpointRequests.{EndpointRequest, request_of_parts}
 use Rattle.thes_http_request.specs.Queries.{DisplayQuery, display_query_of}
 use Rattle.thes_http.specs.declared.response.Response.{Response}
 use Rattle.thes_requests.specs.declared.request.Display.{Display}
@@ -103,7 +103,7 @@ module _ {S T : Type 0} (d : ServiceBehaviour S) (e : ServiceBehaviour T) (old n
   acts endpoint.Alphabetical number query body a = displays_asked display.Alphabetical (display_query_of query) a
   acts endpoint.Hierarchical number query body a = displays_asked display.Hierarchical (display_query_of query) a
 
-  answers_head : (asked : Result HeadRequest Problem) (rest : List ℕ) → AnswersHead d old r new asked rest
+  answers_head : (asked : Result EndpointRequest Problem) (rest : List ℕ) → AnswersHead d old r new asked rest
       → AnswersHead e s r t asked rest
   answers_head (Err problem) rest a = responds _ a
   answers_head (Ok w) rest a = (a.0, acts w.endpoint w.number w.query (take w.body rest) a.1)
@@ -114,8 +114,8 @@ module _ {S T : Type 0} (d : ServiceBehaviour S) (e : ServiceBehaviour T) (old n
     a.0,
     a.1,
     a.2,
-    answers_head (head_request_of (e.requests.takes_plans s) (parts_of a.0)) a.1
-        (subst (λ (takes : Bool). AnswersHead d old r new (head_request_of takes (parts_of a.0)) a.1) does.takes_plans
+    answers_head (request_of_parts (e.requests.takes_plans s) (parts_of a.0)) a.1
+        (subst (λ (takes : Bool). AnswersHead d old r new (request_of_parts takes (parts_of a.0)) a.1) does.takes_plans
         a.3),
   ))
   answers_as_much bytes (inr (inr a)) = inr (inr (responds _ a))

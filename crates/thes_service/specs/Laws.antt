@@ -8,8 +8,7 @@ use Rattle.thes_base.specs.Refusals.{Setting, AreLimits}
 use Rattle.thes_base.specs.State.{State}
 use Rattle.thes_store.specs.Storage.{StorageView}
 use Rattle.thes_office.specs.Office.{OfficeView}
-use Rattle.thes_office.specs.TablesOfState.{TablesOfState}
-use Rattle.thes_import.specs.OneImport.{EncodeOneState}
+use Rattle.thes_office.specs.TablesOfState.{TablesOfState, EncodeOneState}
 use Rattle.thes_requests.specs.declared.answer.Reply.TheVariants as reply
 use Rattle.thes_requests.specs.declared.line_serving.LineAnswer.TheVariants.{Reply}
 use Rattle.thes_requests.specs.declared.line_serving.LineOutcome.{LineOutcome}

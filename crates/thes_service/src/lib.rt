@@ -2,10 +2,10 @@
 #![tactic(auto)]
 
 mod displaying;
-mod engine;
 pub mod laws;
+mod office_handler;
 pub mod plan_mode;
 mod posting_lister;
 mod viewing;
 
-pub use engine::{OfficeHandler, office_script, office_serve};
+pub use office_handler::{OfficeHandler, office_script, office_serve};

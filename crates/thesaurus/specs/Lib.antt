@@ -41,7 +41,7 @@ pub use Rattle.thes_http.specs.Responses
 pub use Rattle.thes_http.specs.ServiceBehaviour
 pub use Rattle.thes_http.specs.Serving as HttpServing
 pub use Rattle.thes_http_request.specs.Inbox
-pub use Rattle.thes_import.specs.ImportEngine
+pub use Rattle.thes_import.specs.FileImport
 pub use Rattle.thes_links.specs.GraphView
 pub use Rattle.thes_links.specs.Reading as LinksReading
 pub use Rattle.thes_links.specs.Rules

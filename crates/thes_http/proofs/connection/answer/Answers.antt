@@ -13,11 +13,11 @@ returns-in-Err g c =
     let len = c.in-Ok.ensures.whole.0.within.section.len_fits in
     outcome_of_answer (rw c.problem-in-Err.ensures
     (answer_problem _ _ _ _ _ _ _ c.read_head.ensures.taken (head_outcome_front _ _ _ _ _ c.head_bytes.ensures len
-    (outcome_taken c.paths_of-paths.ensures (c.read_head_request.ensures.err _ (search rules))))))
+    (outcome_taken c.paths_of-paths.ensures (c.request_of_head.ensures.err _ (search rules))))))
     c.read_head.ensures.calls
 
-pub read_head_request-requires-clause-short : goal.read_head_request-requires-clause-short
-read_head_request-requires-clause-short g c = front_short _ _ c.head_bytes.ensures
+pub request_of_head-requires-clause-short : goal.request_of_head-requires-clause-short
+request_of_head-requires-clause-short g c = front_short _ _ c.head_bytes.ensures
 
 pub bytes_after-start-requires : goal.bytes_after-start-requires
 bytes_after-start-requires g c = len_within _ _ c.in-Ok.ensures.whole.0.within.section.len_fits
@@ -26,7 +26,7 @@ pub returns-in-Ok-read_body : goal.returns-in-Ok-read_body
 returns-in-Ok-read_body g c =
     outcome_of_answer (answer_all _ _ _ _ _ _ _ _ _ _ _ _ _ _ c.read_head.ensures.taken c.head_bytes.ensures
     c.in-Ok.ensures.whole.0.within.section.len_fits
-    (outcome_taken c.paths_of-paths.ensures c.in-Ok-read_head_request.ensures.ok) c.bytes_after-start.ensures
+    (outcome_taken c.paths_of-paths.ensures c.in-Ok-request_of_head.ensures.ok) c.bytes_after-start.ensures
     c.deref.ensures.value c.in-Ok-read_body.ensures.outcome.whole c.act.ensures)
     (pays_then c.read_head.ensures.calls c.read_body.ensures.outcome.calls)
 
@@ -43,7 +43,7 @@ returns g c = record {
       let cut = c.read_body.ensures.outcome.cut (search rules) in (
         cut_all _ _ _ _ _ _ _ _ _ c.read_head.ensures.taken c.head_bytes.ensures
             c.in-Ok.ensures.whole.0.within.section.len_fits
-            (outcome_taken c.paths_of-paths.ensures c.in-Ok-read_head_request.ensures.ok)
+            (outcome_taken c.paths_of-paths.ensures c.in-Ok-request_of_head.ensures.ok)
             c.bytes_after-start.ensures cut.0,
         cut.1,
       );

@@ -2,7 +2,7 @@ use Rattle.std.proofs.Common.{◌≡◌, ◌∙◌, ◌+◌, ◌++◌, List, ℕ
 use Rattle.std.proofs.Common.{rules}
 use Rattle.std.specs.Io.KnownBytes.{Appends}
 use Rattle.thes_base.specs.Pipe.{AppendsPrefix, written_bytes}
-use Rattle.thes_import.specs.ImportEngine.{ImportsBytes}
+use Rattle.thes_import.specs.FileImport.{ImportsBytes}
 use Rattle.thes_posting_files.specs.Outcomes.{outcome_lines, row_count}
 use Rattle.thes_posting_files.specs.PostingFile.{IsPostingFile}
 use Rattle.thes_import.proofs.BlockLemmas.{performs_nothing}

@@ -2,7 +2,7 @@ use Rattle.std.proofs.Common.{sym}
 use Rattle.thes_export.proofs.ExportLemmas.{export_read}
 use Rattle.thes_service.specs.Service.{IsExportRead}
 use Rattle.thes_service.proofs.StateViewLemmas.{result_ready}
-use Rattle.thes_service.proofs.engine.OfficeHandlerService.export.Goals as goal
+use Rattle.thes_service.proofs.office_handler.OfficeHandlerService.export.Goals as goal
 
 pub returns : goal.returns
 returns g c =

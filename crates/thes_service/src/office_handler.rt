@@ -1,4 +1,4 @@
-//! The engine over an office: performs requests, answers queries, runs scripts, and serves HTTP
+//! The handler over an office: performs requests, answers queries, runs scripts, and serves HTTP
 //! connections.
 ghost use Rattle.std.specs.Prelude.{◌≡◌, refl, IfOk};
 ghost use Rattle.thes_base.specs.Pipe.{KeepsSharedCallLimit};

@@ -121,7 +121,7 @@ module _ {W K : Type 0} (contents : W → Option (List ℕ)) (view : K → Stora
     pub unwritten : new ≡ old
 
   -- All rows were performed, and all outcomes were written.
-  pub record ImportsRows (file : List ℕ) (counts : Counts) : Type 0 where
+  pub record ImportsAllRows (file : List ℕ) (counts : Counts) : Type 0 where
     pub outcomes : List Outcome
     pub first : PerformsFirst file outcomes [] (Ok tt)
     pub counts_are : counts ≡ counts_of outcomes
@@ -130,7 +130,7 @@ module _ {W K : Type 0} (contents : W → Option (List ℕ)) (view : K → Stora
   -- The import of a file whose bytes were read: of all its rows; of none, since it has no header; or of the rows before
   -- a fault.
   abbrev pub ImportsBytes : List ℕ → Result ImportEnd ImportStop → Type 0
-  ImportsBytes file (Ok (ended.Rows counts)) = ImportsRows file counts
+  ImportsBytes file (Ok (ended.Rows counts)) = ImportsAllRows file counts
   ImportsBytes file (Ok ended.Malformed) = HasNoHeader file × (after ≡ before) × (new ≡ old)
   ImportsBytes file (Err stopped) =
       StopsAtOnce stopped

@@ -4,7 +4,7 @@ ghost use Rattle.httparse.specs.Spans.{IsHeaderWithin, header_bytes};
 ghost use Rattle.thes_http_request.specs.Heads.{head_limit};
 ghost use Rattle.thes_http_request.specs.Inbox.{IsHeadAt, HeadOutcome};
 ghost use Rattle.thes_http_request.specs.Endpoints.{path_of, query_of};
-ghost use Rattle.thes_http_request.specs.HeadRequests.{head_request_of};
+ghost use Rattle.thes_http_request.specs.EndpointRequests.{request_of_parts};
 
 use crate::endpoint::{Endpoint, Paths};
 use crate::fields::{body_length, has_field};
@@ -15,7 +15,7 @@ use std::alloc::Global;
 /// The request in a head: an endpoint, the number and the query string in its target, and the
 /// length of its body.
 #[derive(Clone, Copy, Drop)]
-pub struct HeadRequest<'a> {
+pub struct EndpointRequest<'a> {
     pub endpoint: Endpoint,
     /// The text in the path where a number is expected; empty if none is expected.
     pub number: &'a str,
@@ -33,13 +33,13 @@ struct FieldSpans<'a> {
 
 /// Returns the request in a head, or the first problem with it.
 #[tactic(auto, using(crate::proofs::HeadOutcomeLemmas::head_outcome_ok, crate::proofs::HeadOutcomeLemmas::head_outcome_err))]
-pub fn read_head_request<'a>(
+pub fn request_of_head<'a>(
     alloc: Global,
     paths: Paths<'_>,
     head: &'a [u8],
     spans: RequestSpans,
     headers: &[HeaderSpan],
-) -> Result<HeadRequest<'a>, Problem>
+) -> Result<EndpointRequest<'a>, Problem>
     requires at { IsHeadAt head.now headers.now spans }
     requires short { length head.now ≤ head_limit }
     ensures ok { IfOk result (λ w. HeadOutcome paths.entry.takes_plans head.now
@@ -70,9 +70,9 @@ fn request_of_parts<'a>(
     method: &[u8],
     target: &'a str,
     spans: &FieldSpans<'_>,
-) -> Result<HeadRequest<'a>, Problem>
+) -> Result<EndpointRequest<'a>, Problem>
     requires { All (IsHeaderWithin (length spans.now.bytes.now)) spans.now.headers.now }
-    ensures ok { IfOk result (λ w. head_request_of paths.entry.takes_plans (record {
+    ensures ok { IfOk result (λ w. request_of_parts paths.entry.takes_plans (record {
       method = method.now;
       target = target.now;
       fields = map (header_bytes spans.now.bytes.now) spans.now.headers.now;
@@ -84,7 +84,7 @@ fn request_of_parts<'a>(
           body = w.body;
         })) }
     ensures err { (p : _) → IsErrOf result p
-        → head_request_of paths.entry.takes_plans (record {
+        → request_of_parts paths.entry.takes_plans (record {
           method = method.now;
           target = target.now;
           fields = map (header_bytes spans.now.bytes.now) spans.now.headers.now;
@@ -101,7 +101,7 @@ fn request_of_parts<'a>(
         return Err(Problem::BadMethod(found.endpoint));
     }
     match body_length(spans.bytes, spans.headers, found.endpoint.body_limit()) {
-        Ok(body) => Ok(HeadRequest {
+        Ok(body) => Ok(EndpointRequest {
             endpoint: found.endpoint,
             number: found.number,
             query,

@@ -2,9 +2,9 @@ use Rattle.std.proofs.lemmas.Grind.{common_steps}
 use Rattle.std.proofs.Common.{arith, rules, ◌≡◌, ◌∙◌, sym, ap, Err, Some, true, false}
 use Rattle.std.specs.Str.{bytes_eq}
 use Rattle.thes_http_request.specs.Endpoints.{EndpointMatch, endpoint_at, path_of, method_of}
-use Rattle.thes_http_request.proofs.HeadRequestLemmas.{refuses_coding, refuses_path, refuses_method, refuses_length}
-use Rattle.thes_http_request.proofs.HeadRequestLemmas.{accepts_request}
-use Rattle.thes_http_request.proofs.head_request.request_of_parts.Goals as goal
+use Rattle.thes_http_request.proofs.EndpointRequestLemmas.{refuses_coding, refuses_path, refuses_method, refuses_length}
+use Rattle.thes_http_request.proofs.EndpointRequestLemmas.{accepts_request}
+use Rattle.thes_http_request.proofs.endpoint_request.request_of_parts.Goals as goal
 
 pub returns-then-has_field-clause-err : goal.returns-then-has_field-clause-err
 returns-then-has_field-clause-err c = grind (arith, common_steps, refuses_coding)

@@ -1,7 +1,7 @@
 use Rattle.std.proofs.Common.{sym}
 use Rattle.thes_service.specs.Service.{IsDisplayed}
 use Rattle.thes_service.proofs.StateViewLemmas.{result_ready}
-use Rattle.thes_service.proofs.engine.OfficeHandlerService.display.Goals as goal
+use Rattle.thes_service.proofs.office_handler.OfficeHandlerService.display.Goals as goal
 
 pub returns : goal.returns
 returns g c =
