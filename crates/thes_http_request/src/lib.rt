@@ -3,9 +3,9 @@
 
 pub mod body;
 pub mod endpoint;
+pub mod endpoint_request;
 mod fields;
 pub mod head;
-pub mod endpoint_request;
 pub mod inbox;
 pub mod laws;
 pub mod problem;
