@@ -156,8 +156,8 @@ fn without_files<L>(trouble: StoreTrouble, fault: Fault) -> UnopenedStore<L>
     }
 }
 
-// Opens the database of the store in a file for a task. If the store is to be made, makes its mark
-// first.
+// Opens the database of the store in a file for a task. If the store is to be made, first marks it
+// as unfinished (`MakingMark`).
 fn open_store<'r, D: Databases>(
     rt: &'r HostRuntime,
     databases: &D,

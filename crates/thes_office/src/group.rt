@@ -10,7 +10,7 @@ ghost use Rattle.thes_store.specs.Storage.{CommitFrame, QueryFrame};
 ghost use Rattle.thes_office.specs.Groups.{AreKeysMarked, GroupDecided, IsDecided, IsGroup, IsMarked};
 ghost use Rattle.thes_office.specs.Groups.{IsNewPost, IsPostOf, MayDecideGroup, PerformsGroup, place_of_key};
 
-use crate::decisions::{Decided, commit_changes};
+use crate::commit::{Decided, commit_changes};
 use crate::facts::facts_of;
 use std::alloc::Global;
 use thes_base::fault::Fault;

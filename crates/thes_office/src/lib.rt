@@ -2,7 +2,7 @@
 //! memory of all but postings.
 #![tactic(auto)]
 
-mod decisions;
+mod commit;
 mod facts;
 mod group;
 mod keeper_load;

@@ -14,7 +14,7 @@ ghost use Rattle.thes_office.specs.PlanDecisions.{DecidesRequest, HasEachDecisio
 ghost use Rattle.thes_office.specs.PlanDecisions.{IsPlanDecision, IsUsableAfter, MayDecidePlan, refusal_in};
 ghost use Rattle.thes_office.specs.Plans.{TablesAfterPlan};
 
-use crate::decisions::{Decided, commit_changes};
+use crate::commit::{Decided, commit_changes};
 use crate::plan_facts::facts_in_plan;
 use std::alloc::Global;
 use thes_base::fault::{Fault, Refusal};

@@ -37,7 +37,7 @@ impl PostingLister {
     }
 }
 
-/// Leaves the list unchanged if memory runs out.
+/// Appends each posting to the list, or leaves the list unchanged if memory runs out.
 impl PostingSink for PostingLister {
     ghost use Rattle.thes_service.specs.PostingLists.{ListsRow};
 

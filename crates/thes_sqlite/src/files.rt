@@ -9,60 +9,12 @@ ghost use Rattle.thes_sqlite.specs.Causes.{PrecedesOpening};
 ghost use Rattle.thes_sqlite.specs.DatabaseFiles.{ClosesFiles, FailsToOpen, OpensFiles};
 
 use crate::cause::{Cause, cause_of_files, cause_of_opening};
-use crate::head::{HEAD_SIZE, begins_as_database};
+use crate::head::{FoundFile, begins_as_database, find_file};
 use crate::page_cache::{page_count, stated_page_size};
 use sqlite::{Connection, Error, FileFrom, FileStore, Leftover, Options};
 use sqlite_disk::{Disk, Files, Start};
 use std::fs;
-use std::fs::File;
 use std::hash::{BuildHasher, RandomState};
-use std::io::{ErrorKind, Read};
-use std::os::unix::fs::MetadataExt;
-
-// The size of a database's file, in bytes, and its first bytes, before it is opened as a database.
-// An absent file has size 0.
-#[derive(Clone, Copy)]
-pub(crate) struct FoundFile {
-    size: u64,
-    // The first bytes; zeros where the file has none.
-    pub(crate) head: [u8; HEAD_SIZE],
-}
-
-// Reads the first bytes of a database's file, and returns them with `size`, the file's size.
-fn read_head(rt: &HostRuntime, path: &str, size: u64) -> Result<FoundFile, Cause>
-    ensures { IfErr result PrecedesOpening }
-{
-    let mut head = [0; HEAD_SIZE];
-    let Ok(mut file) = File::open(rt, path) else {
-        return Err(Cause::Unreadable);
-    };
-    match file.read(&mut head) {
-        Ok(_) => Ok(FoundFile { size, head }),
-        Err(_) => Err(Cause::Unreadable),
-    }
-}
-
-/// Returns the size and the first bytes of a database's file before it is opened as a database.
-/// There may be no file, which counts as an empty one. The errors are `NotAFile`, `Linked` for a
-/// file with another hard link, and `Unreadable`.
-pub(crate) fn find_file(rt: &HostRuntime, path: &str) -> Result<FoundFile, Cause>
-    ensures { IfErr result PrecedesOpening }
-{
-    match fs::metadata(rt, path) {
-        Ok(found) if !found.is_file() => Err(Cause::NotAFile),
-        Ok(found) if found.nlink() > 1 => Err(Cause::Linked),
-        Ok(found) if found.len() > 0 => read_head(rt, path, found.len()),
-        Ok(_) => Ok(FoundFile {
-            size: 0,
-            head: [0; HEAD_SIZE],
-        }),
-        Err(error) if error.kind() == ErrorKind::NotFound => Ok(FoundFile {
-            size: 0,
-            head: [0; HEAD_SIZE],
-        }),
-        Err(_) => Err(Cause::Unreadable),
-    }
-}
 
 // Returns whether the database in a file has a log. The log is next to the file to which symbolic
 // links lead; if they lead to none, there is no log.

@@ -4,7 +4,8 @@
 ghost use Rattle.std.specs.Prelude.{IfSome, IsTrue};
 ghost use Rattle.sqlite_disk.specs.Memory.{memory_is_usable};
 
-use crate::files::{FoundFile, find_file, options_for};
+use crate::files::options_for;
+use crate::head::{FoundFile, find_file};
 use crate::page_cache::stated_page_size;
 use sqlite_catalog::load::{read, read_table, with_code};
 use sqlite_disk::{Disk, Files, Memory};

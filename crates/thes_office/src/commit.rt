@@ -1,4 +1,4 @@
-//! `Decided`, the answers and the changes of rows so far of a group or a plan, and their commit.
+//! The commit of what a group or a plan has decided: `Decided`, its answers and changes of rows so far.
 ghost use Rattle.std.specs.Prelude.{◌≡◌, ◌++◌, ◌∷◌, [], OnOk};
 ghost use Rattle.thes_store.specs.Storage.{CommitFrame, DeltaFitsStorage, RawAfterChanges};
 
