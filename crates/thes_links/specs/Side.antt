@@ -18,10 +18,10 @@ side_no Alike = 3
 side_no Down = 4
 side_no Other = 5
 
--- The side `one` if the direction is Either, or else the side `other`.
+-- The side `both` if the direction is Either, or else the side `rest`.
 abbrev pub if_either : Direction → Side → Side → Side
-if_either Either one other = one
-if_either _ one other = other
+if_either Either both rest = both
+if_either _ both rest = rest
 
 -- The side of an end on which a link lies. The arguments are the direction in which the link leads to a broader
 -- concept, whether the end is the link's first one, and the directions to a related concept and to an exact match.
