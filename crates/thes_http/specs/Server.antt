@@ -8,7 +8,7 @@ use Rattle.thes_base.specs.Pipe.{IsFresh, device_of}
 use Rattle.thes_base.specs.declared.pipe.Pipe.{Pipe}
 use Rattle.thes_requests.specs.Script.{session}
 use Rattle.thes_http.specs.Connection.{EndsAs}
-use Rattle.thes_http.specs.declared.deadline.TimedStream.{TimedStream}
+use Rattle.thes_http.specs.declared.timed_stream.TimedStream.{TimedStream}
 use Rattle.thes_http.specs.declared.response.Response.{Response}
 use Rattle.thes_http.specs.declared.timed_connection.Ends.{Ends}
 use Rattle.thes_http.specs.declared.timed_connection.ServedStream.{ServedStream}

@@ -5,12 +5,12 @@
 mod act;
 pub mod connection;
 pub mod connection_count;
-mod deadline;
 mod head_text;
 pub mod laws;
 mod response;
 pub mod server;
 pub mod service;
 mod timed_connection;
+mod timed_stream;
 
 pub use response::Status;

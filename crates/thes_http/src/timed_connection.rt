@@ -5,8 +5,8 @@ ghost use Rattle.std.specs.Duration.{as_nanos};
 ghost use Rattle.thes_http.specs.Server.{IsServedBy, LeadsBy, is_wait};
 
 use crate::connection::{ConnectionEnd, serve_one};
-use crate::deadline::TimedStream;
 use crate::service::Service;
+use crate::timed_stream::TimedStream;
 use std::alloc::Global;
 use std::io::{ErrorKind, Read, Write};
 use std::net::{OpenStream, Shutdown};
