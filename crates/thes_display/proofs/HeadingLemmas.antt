@@ -72,8 +72,8 @@ same_heading x y a b c = λ i. record { term = record { text = a i; concept = b 
 abbrev pub lead_in_with : ℕ → List ℕ → Heading
 lead_in_with n text = record { term = record { text = text; concept = n }; lead_in = true }
 
--- If a list ends with the headings of some elements, and the heading of one more element is appended, the list ends with
--- the headings of all of them.
+-- If a list ends with the headings of some elements, and the heading of one more element is appended, the list ends
+-- with the headings of all of them.
 pub one_more : {A : Type 0} (make : A → Heading) (first now new : List Heading) (xs more : List A) (x : A) (t : Term)
     (b : Bool) → now ≡ first ++ map make xs → new ≡ now ++ record { term = t; lead_in = b } ∷ []
     → t.text ≡ (make x).term.text → t.concept ≡ (make x).term.concept → b ≡ (make x).lead_in → more ≡ xs ++ x ∷ []

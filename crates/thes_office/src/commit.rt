@@ -1,4 +1,4 @@
-//! The commit of what a group or a plan has decided: `Decided`, its answers and changes of rows so far.
+//! The commit of what a group or a plan has decided: its answers and changes of rows (`Decided`).
 ghost use Rattle.std.specs.Prelude.{◌≡◌, ◌++◌, ◌∷◌, [], OnOk};
 ghost use Rattle.thes_store.specs.Storage.{CommitFrame, DeltaFitsStorage, RawAfterChanges};
 
