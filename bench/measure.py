@@ -28,7 +28,7 @@ RUNS = 5
 # Runs a program, and has valgrind count its instructions.
 COUNTER = ["valgrind", "--tool=cachegrind", "--cache-sim=no", "--cachegrind-out-file=/dev/null"]
 # The decimals of a value by its unit.
-DECIMALS = {"s": 3, "ms": 1, "times": 2, "microseconds": 1, "MB": 1, "bytes": 1, "instructions": 0, "misses": 0, "%": 0}
+DECIMALS = {"s": 3, "ms": 1, "times": 2, "microseconds": 1, "MB": 1, "bytes": 1, "instructions": 0, "misses": 0, "%": 1}
 
 
 class Measured(NamedTuple):

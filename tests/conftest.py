@@ -32,7 +32,7 @@ ROOT = Path(__file__).resolve().parents[1]
 FOLDERS = ("program", "reference", "office", "desk", "builds", "sources")
 # The tests of these run the program.
 NEEDING = ("program", "reference", "office", "desk")
-MODULES = [*(str(ROOT / "tests" / it) for it in FOLDERS), str(ROOT / "tools"), str(ROOT / "desk")]
+MODULES = [*(str(ROOT / "tests" / it) for it in FOLDERS), *(str(ROOT / it) for it in ("dev", "tools", "desk"))]
 # The files that take longest begin first.
 LONGEST = (
     "refuse-memory",

@@ -5,7 +5,7 @@ from datetime import UTC, date, datetime, timedelta
 
 from markupsafe import Markup
 
-from thesaurus_desk.journal.tables import written
+from thesaurus_desk.journal.schema import written
 
 # The days after which another year, month or day has begun, by how many characters name it.
 DAYS = {4: 366, 7: 31, 10: 1}

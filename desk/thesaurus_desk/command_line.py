@@ -6,8 +6,10 @@
         several people, behind a server with TLS (share/nginx-desk.conf)
   tools/desk --db new.db --base https://museum.example/id/ --alone anna
         a new thesaurus; what its addresses begin with stays for good
+  tools/desk --db museum.db --users users.json --port 8090 --backups backups --keep 30
+        with a backup of store, journal and users each night, made while the desk runs
   tools/desk user add anna --role head --users users.json
-        a user, whose password is asked for (also: list, role, password, remove)
+        a user, whose password is asked for (also: list, role, password, token, remove, forget)
   tools/desk check --db museum.db
         compares the desk's journal with the store
 
@@ -21,9 +23,10 @@ from __future__ import annotations
 import argparse
 import re
 import sys
+from datetime import time
 from pathlib import Path
 
-from thesaurus_desk.entry.roles import Role
+from thesaurus_desk.auth.roles import Role, role_named
 from thesaurus_tools.command_line import natural, parser_of
 
 LIMITS = ("resources", "labels", "links", "postings", "moves")
@@ -37,6 +40,29 @@ def port_number(text: str) -> int:
     if not re.fullmatch("[0-9]{1,5}", text) or int(text) > PORTS:
         raise argparse.ArgumentTypeError(f"{text} is no port")
     return int(text)
+
+
+def process_count(text: str) -> int:
+    """Returns the number of processes in an argument."""
+    if not re.fullmatch("[0-9]{1,2}", text):
+        raise argparse.ArgumentTypeError(f"{text} is not a number from 0 to 99")
+    return int(text)
+
+
+def hour_of_day(text: str) -> time:
+    """Returns the hour in an argument."""
+    try:
+        return time.fromisoformat(text)
+    except ValueError:
+        raise argparse.ArgumentTypeError(f"{text} is no hour: write it as 02:30") from None
+
+
+def group_role(text: str) -> tuple[str, Role]:
+    """Returns the group in an argument, and its role."""
+    name, _, word = text.rpartition("=")
+    if not name.strip() or word not in ROLES:
+        raise argparse.ArgumentTypeError(f"{text} isn't NAME=ROLE, with one of {', '.join(ROLES)}")
+    return name.strip(), role_named(word)
 
 
 def host_name(text: str) -> str:
@@ -79,6 +105,14 @@ def serving_parser() -> argparse.ArgumentParser:
         action="store_true",
         help="take the name from X-Remote-User of that server, and the role from --users",
     )
+    add(
+        "--group",
+        type=group_role,
+        action="append",
+        default=[],
+        metavar="NAME=ROLE",
+        help="with --remote-user: the role of those of a group of X-Remote-Groups whom --users doesn't have",
+    )
     add("--port", type=port_number, default=0, metavar="N", help="the port on 127.0.0.1; a free one if left out")
     add(
         "--host",
@@ -91,7 +125,29 @@ def serving_parser() -> argparse.ArgumentParser:
     add("--secure", action="store_true", help="browsers come over TLS only")
     add("--public", action="store_true", help="let anyone read concepts and the interfaces for programs")
     add("--title", default="", metavar="TEXT", help="the name on top of each page; otherwise those of the schemes")
-    add("--threads", type=natural, default=8, metavar="N", help="pages made at a time (8)")
+    add(
+        "--backups",
+        type=Path,
+        metavar="FOLDER",
+        help="make a backup of store, journal and users there each night; a head may ask for one at any time",
+    )
+    add("--keep", type=natural, default=30, metavar="N", help="how many backups are kept (30)")
+    add("--backup-at", type=hour_of_day, default=time(2, 30), metavar="HH:MM", help="when each night (02:30)")
+    add(
+        "--workers",
+        type=process_count,
+        metavar="N",
+        help="processes that make pages, beside the one that writes (1; 2 where there are four processors); 0: one "
+        "process does all",
+    )
+    add("--threads", type=natural, default=8, metavar="N", help="requests answered at a time by each process (8)")
+    add(
+        "--patience",
+        type=natural,
+        default=120,
+        metavar="SECONDS",
+        help="how long to wait for an answer of the program, which is then started again (120)",
+    )
     add("--no-browser", action="store_true", help="don't open a browser")
     return parser
 
@@ -106,8 +162,14 @@ def serving_arguments(words: list[str]) -> argparse.Namespace:
         parser.error("one of --alone NAME and --users FILE is needed: who may come in?")
     if given.alone and (given.proxy or given.remote_user or given.public):
         parser.error("--alone is for one person at this machine, without a server in front")
+    if given.alone and given.workers:
+        parser.error("--alone is served by one process: --workers is for --users")
     if given.remote_user and not given.proxy:
         parser.error("--remote-user needs --proxy FILE, or any program on this machine could send a name")
+    # (each process that makes pages has the same options)
+    given.words = words
+    if given.group and not given.remote_user:
+        parser.error("--group needs --remote-user: a server in front says who is in which group")
     return given
 
 
@@ -121,6 +183,8 @@ def user_parser() -> argparse.ArgumentParser:
         "role": "gives a user another role",
         "password": "gives a user another password; the user's sessions end",
         "remove": "removes a user, whose sessions end; the journal keeps what was done",
+        "token": "prints a new token, by which a program is the user; the one before isn't good any more",
+        "forget": "removes a user, and puts a number in place of the name in the journal, while no desk is running",
     }
     for name, text in kinds.items():
         command = commands.add_parser(name, help=text, description=f"{text[0].upper()}{text[1:]}.")
@@ -132,6 +196,11 @@ def user_parser() -> argparse.ArgumentParser:
             command.add_argument(
                 "--no-password", action="store_true", help="a user whose name a server in front sends (--remote-user)"
             )
+        if name == "token":
+            command.add_argument("--remove", action="store_true", help="take the user's token away")
+        if name == "forget":
+            command.add_argument("--db", type=Path, required=True, metavar="FILE", help="the store")
+            command.add_argument("--backups", type=Path, metavar="FOLDER", help="say which backups have the name still")
         command.add_argument(
             "--users", type=Path, required=True, metavar="FILE", help="the users' file; it is made if need be"
         )
@@ -141,9 +210,11 @@ def user_parser() -> argparse.ArgumentParser:
 def check_parser() -> argparse.ArgumentParser:
     """Returns the parser of the command that compares the journal with the store."""
     parser = argparse.ArgumentParser(
-        prog="desk check", description="Compares the desk's journal with the store, while no desk is running."
+        prog="desk check",
+        description="Compares the desk's journal with the store, and with its own digests, while no desk is running.",
     )
     parser.add_argument("--db", type=Path, metavar="FILE", required=True, help="the store")
+    parser.add_argument("--digest", default="", help="one that was printed before: the journal must have it still")
     return parser
 
 
@@ -152,15 +223,15 @@ def main(words: list[str] | None = None) -> int:
     words = sys.argv[1:] if words is None else words
     command, rest = (words[0], words[1:]) if words[:1] and words[0] in COMMANDS else ("serve", words)
     if command == "user":
-        from thesaurus_desk.user_commands import change_users
+        from thesaurus_desk.auth.user_commands import change_users
 
         return change_users(user_parser().parse_args(rest))
     if command == "check":
         given = check_parser().parse_args(rest)
-        from thesaurus_desk.serving import check_journal
+        from thesaurus_desk.server import check_journal
 
         return check_journal(given)
     given = serving_arguments(rest)
-    from thesaurus_desk.serving import serve  # (help needs no Flask)
+    from thesaurus_desk.server import serve  # (help needs no Flask)
 
     return serve(given)

@@ -90,8 +90,8 @@ class Repository:
         for path, text in FILES.items():
             (self.root / path).parent.mkdir(parents=True, exist_ok=True)
             (self.root / path).write_text(text, encoding="utf-8")
-        (self.root / "tools").mkdir()
-        for path in ("thesaurus", "tools/build", "tools/libraries.py"):
+        (self.root / "dev").mkdir()
+        for path in ("thesaurus", "dev/build", "dev/libraries.py"):
             shutil.copy(ROOT / path, self.root / path)
 
     def set_number(self, text: str, other: int) -> None:
@@ -132,6 +132,18 @@ class Repository:
                     told += part
         os.close(ours)
         return Called(ran.returncode, "", told.decode())
+
+
+def test_no_python(tmp_path: Path) -> None:
+    """The status isn't that of a machine without the prover."""
+    repository = Repository(tmp_path / "repository")
+    repository.make()
+    programs = tmp_path / "programs"
+    programs.mkdir()
+    for name in ("dirname", "find", "head", "readlink", "rt", "sh"):
+        (programs / name).symlink_to(shutil.which(name) or "")
+    called = repository.call(tmp_path, PATH=str(programs), THESAURUS_BUILD="")
+    assert called.status == 126 and "Python 3.11" in called.err, called
 
 
 class Story(NamedTuple):

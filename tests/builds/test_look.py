@@ -1,4 +1,4 @@
-"""tools/look: what it prints of the sample before the proof, and what it says where rt lacks or fails."""
+"""dev/look: what it prints of the sample before the proof, and what it says where rt lacks or fails."""
 from __future__ import annotations
 
 import os
@@ -24,7 +24,7 @@ done
 
 
 def look(path: str = os.environ["PATH"], home: Path = ROOT) -> subprocess.CompletedProcess[str]:
-    call = [sys.executable, str(home / "tools" / "look")]
+    call = [sys.executable, str(home / "dev" / "look")]
     where = {**os.environ, "PATH": path, "PYTHONDONTWRITEBYTECODE": "1"}
     return subprocess.run(call, capture_output=True, text=True, check=False, env=where)
 

@@ -1,4 +1,4 @@
-"""Tests tools/refuse_bodies.py on a small crate: wrong bodies that are refused, an edit of each kind of fault, and
+"""Tests dev/refuse_bodies.py on a small crate: wrong bodies that are refused, an edit of each kind of fault, and
 neutral edits."""
 from __future__ import annotations
 
@@ -8,7 +8,7 @@ from pathlib import Path
 import pytest
 
 pytestmark = pytest.mark.needs("rt")
-TOOL = Path(__file__).resolve().parents[2] / "tools" / "refuse_bodies.py"
+TOOL = Path(__file__).resolve().parents[2] / "dev" / "refuse_bodies.py"
 Case = tuple[str, str, str | None]
 FILES = {
     "crates.txt": "sums:\n",

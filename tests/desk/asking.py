@@ -3,19 +3,20 @@ from __future__ import annotations
 
 from typing import Any
 
-from thesaurus_desk.mirror import View, read_mirror
-from thesaurus_desk.mirror.sealing import seals
-from thesaurus_desk.performing import Desk, Outcome
+from thesaurus_desk.store.difference import attached, differences
+from thesaurus_desk.store.digest import digest_of_rows
+from thesaurus_desk.store.model import View
+from thesaurus_desk.store.plan_execution import Desk, Outcome
 
 
 def number(desk: Desk, text: str) -> int:
     """The number of the live concept with a term."""
-    (found,) = desk.mirror.named(text, live=True)
+    (found,) = desk.replica.named(text, live=True)
     return found.number
 
 
 def view(desk: Desk, number: int | None) -> View:
-    found = desk.mirror.view(number or 0)
+    found = desk.replica.view(number or 0)
     assert found is not None
     return found
 
@@ -44,11 +45,11 @@ def post(key: str, concept: int | str, record: str = "Nyckelharpa 1710") -> dict
 
 
 def assert_as_store(desk: Desk) -> None:
-    """The mirror and the digests in the journal are as the store."""
+    """The replica, the digest of its rows and the counts in the journal are those of the store."""
     desk.program.stop()
-    fresh = read_mirror(desk.db)
-    assert fresh.resources == desk.mirror.resources
-    assert fresh.postings.all == desk.mirror.postings.all
-    now = seals(fresh, fresh.resources)
-    assert {it["number"]: it["digest"] for it in desk.journal.all("SELECT * FROM seal")} == now
-    assert desk.journal.counts() in ({}, fresh.counts())
+    rows = desk.journal.rows
+    with attached(rows, desk.db):
+        assert differences(rows) == []
+    assert desk.replica.digest() == f"{digest_of_rows(rows):032x}"
+    assert desk.journal.digest() in ("", desk.replica.digest())
+    assert desk.journal.counts() in ({}, desk.replica.counts())

@@ -112,7 +112,8 @@ class Browser:
         """Types into a field with suggestions, and takes the first of those for the whole text."""
         field.send_keys(text)
         self.suggested(text)
-        field.send_keys("\ue007")
+        # (the arrow down chooses it, and Enter takes it)
+        field.send_keys("\ue015\ue007")
 
     def use_scheme(self, scheme: str) -> None:
         """Has pages shown light or dark."""

@@ -3,22 +3,26 @@ from __future__ import annotations
 
 import html
 import re
-from collections.abc import Callable
+from collections.abc import Callable, Iterable
 from contextlib import nullcontext
 from dataclasses import dataclass, field
 from pathlib import Path
-from typing import Any
+from typing import Any, TypeVar
 
 import pytest
 from flask import Flask
-from thesaurus_desk.app import create_app
-from thesaurus_desk.entry.accounts import Accounts
-from thesaurus_desk.entry.roles import Role, role_named
-from thesaurus_desk.entry.ways import ByPassword, Entry
-from thesaurus_desk.performing import Desk
+from thesaurus_desk.auth.accounts import Accounts
+from thesaurus_desk.auth.authentication import ByPassword, Entry
+from thesaurus_desk.auth.roles import Role, role_named
+from thesaurus_desk.importing.uploads import unpacked
 from thesaurus_desk.settings import Settings
+from thesaurus_desk.store.changes import Change
+from thesaurus_desk.store.health import Health
+from thesaurus_desk.store.plan_execution import Desk
+from thesaurus_desk.web.app import create_app
 from werkzeug.test import TestResponse
 
+T = TypeVar("T")
 HOST = "localhost"
 ORIGIN = f"http://{HOST}"
 PASSWORD = "correct horse battery"
@@ -26,6 +30,14 @@ PASSWORD = "correct horse battery"
 USERS = {"anna": "head", "ben": "editor", "ina": "indexer", "rita": "reader"}
 # What is said of a form without a token; its text is on no other page.
 AGAIN = "Please send it again"
+
+
+def last_upload(site: Site, kind: type[T]) -> T:
+    """Returns what somebody has sent last, and looks at before it is performed."""
+    row = site.desk.journal.one("SELECT data FROM upload ORDER BY rowid DESC LIMIT 1")
+    found = unpacked(row["data"]) if row else None
+    assert isinstance(found, kind), found
+    return found
 
 
 @dataclass
@@ -76,7 +88,7 @@ class Site:
     settings: Settings = field(default_factory=lambda: Settings(frozenset({HOST})))
 
     def __post_init__(self) -> None:
-        self.app: Flask = create_app(self.desk, self.entry, self.settings)
+        self.app: Flask = create_app(self.desk, self.entry, self.settings, Health(self.desk, None))
 
     def client(self, name: str = "") -> Client:
         """Returns the browser of a user who has come in, or of a visitor."""
@@ -116,6 +128,12 @@ def hold_up_once(desk: Desk, monkeypatch: pytest.MonkeyPatch) -> None:
     """Has the first who waits for a desk's lock find that it isn't free in time, as during an import."""
     late, alone = iter([nullcontext(False)]), desk.alone
     monkeypatch.setattr(desk, "alone", lambda: next(late, None) or alone())
+
+
+def show_rows(desk: Desk, changes: Iterable[Change]) -> None:
+    """Has pages see changes of rows that the store doesn't have."""
+    with desk.journal.writing() as rows:
+        desk.upkeep.perform(rows, list(changes))
 
 
 SiteMaker = Callable[..., Site]

@@ -3,6 +3,7 @@ from __future__ import annotations
 
 import shutil
 import subprocess
+import tempfile
 from collections.abc import Callable, Iterator
 from pathlib import Path
 from typing import Any
@@ -12,10 +13,22 @@ from clients import Site, site_of, write_users
 from guide_museum import MUSEUM
 from processes import Running, running
 from reader import Reader, come_in
-from thesaurus_desk.performing import Desk
+from program import MEMORY
+from thesaurus_desk.auth import passwords
+from thesaurus_desk.store.plan_execution import Desk
 
 ROOT = Path(__file__).resolve().parents[2]
 BASE = "https://thesaurus.example/id/"
+
+
+@pytest.fixture(scope="session", autouse=True)
+def light_passwords() -> Iterator[None]:
+    """Passwords that are hashed in no time, as those of a test are nobody's. (test_passwords says what one costs.)"""
+    kept = passwords.ROUNDS, passwords.NOBODY
+    passwords.ROUNDS = 1 << 4
+    passwords.NOBODY = kept[1].replace(str(kept[0]), str(passwords.ROUNDS))
+    yield
+    passwords.ROUNDS, passwords.NOBODY = kept
 
 
 @pytest.fixture(scope="session")
@@ -97,11 +110,29 @@ def driver() -> Iterator[Any]:
     found.quit()
 
 
+@pytest.fixture(scope="module")
+def narrow_driver() -> Iterator[Any]:
+    """A browser as narrow as a telephone."""
+    from browsing import NARROW
+    from hands import start_browser
+
+    found = start_browser(NARROW)
+    yield found
+    found.quit()
+
+
 @pytest.fixture
 def guide_desk(program: str, tmp_path: Path) -> Iterator[Running]:
     """A desk over the guide's thesaurus, with one person."""
     store = make_store(program, tmp_path / "museum.db", MUSEUM.encode())
     with running("--db", store, "--alone", "anna", "--program", program) as found:
+        yield found
+
+
+@pytest.fixture
+def shared_desk(program: str, store: Path, users: Path) -> Iterator[Running]:
+    """A desk over the store of musical instruments, with a user for each role, as a process of its own."""
+    with running("--db", store, "--users", users, "--program", program) as found:
         yield found
 
 
@@ -117,3 +148,10 @@ def hand(request: pytest.FixtureRequest, driver: Any, guide_desk: Running) -> An
 def reader(desk: Desk) -> Reader:
     """Someone alone at a desk over the sample."""
     return come_in(desk)
+
+
+@pytest.fixture
+def room() -> Iterator[Path]:
+    """A folder in memory: nothing here waits for a disk."""
+    with tempfile.TemporaryDirectory(dir=MEMORY) as folder:
+        yield Path(folder)

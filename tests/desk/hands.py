@@ -4,10 +4,13 @@ from __future__ import annotations
 import time
 from abc import ABC, abstractmethod
 from collections.abc import Callable
+from datetime import date
 from pathlib import Path
 from typing import Any
 
 from browsing import WIDE, start_driver
+from clients import PASSWORD
+from looks import WIDTH
 from processes import Running
 from selenium.common.exceptions import StaleElementReferenceException, WebDriverException
 from selenium.webdriver.chrome.webdriver import WebDriver
@@ -15,7 +18,10 @@ from selenium.webdriver.common.action_chains import ActionChains
 from selenium.webdriver.common.keys import Keys
 from selenium.webdriver.remote.webelement import WebElement
 from selenium.webdriver.support.ui import Select
+from thesaurus_desk.words import Words
 
+# What the pages of a browser in English say.
+SAY = Words("en")
 PATIENCE = 120.0
 MOST_TABS = 300
 # Finds what can be worked with by its name: its label, or its text. An exact name goes before one that only begins so.
@@ -25,7 +31,9 @@ const plain = (text) => text.replace(/\\s+/g, " ").trim();
 const labels = (it) => [...(it.labels || [])].map((one) => one.textContent).join(" ");
 const nameOf = (it) => plain(it.getAttribute("aria-label") || labels(it) || it.textContent || "");
 const seen = [...document.querySelectorAll(kinds)].filter((it) => it.tabIndex >= 0 && it.checkVisibility());
-return seen.find((it) => nameOf(it) === wanted) || seen.find((it) => nameOf(it).startsWith(wanted)) || null;
+// (the menu names pages as buttons on them are named)
+const ordered = [...seen.filter((it) => it.closest("main")), ...seen.filter((it) => !it.closest("main"))];
+return ordered.find((it) => nameOf(it) === wanted) || seen.find((it) => nameOf(it).startsWith(wanted)) || null;
 """
 PRESSED = "a[href], button, summary"
 FIELDS = "input:not([type=hidden], [type=checkbox], [type=radio]), textarea, select"
@@ -38,9 +46,9 @@ return Boolean(list) && !list.hidden && list.dataset.query === field.value.trim(
 """
 
 
-def start_browser() -> WebDriver:
+def start_browser(size: tuple[int, int] = WIDE) -> WebDriver:
     """Returns a browser without a window, for several desks one after another."""
-    return start_driver(words=("--hide-scrollbars", "--force-color-profile=srgb"))
+    return start_driver(size, words=("--hide-scrollbars", "--force-color-profile=srgb"))
 
 
 class Hand(ABC):
@@ -48,6 +56,8 @@ class Hand(ABC):
 
     def __init__(self, driver: WebDriver, address: str):
         self.driver, self.address = driver, address
+        # How many times something was pressed, ticked or chosen.
+        self.clicks = 0
 
     # --- looking ---
 
@@ -118,6 +128,7 @@ class Hand(ABC):
     def take(self, text: str) -> None:
         """Takes the suggestion that begins with a text, once those for the whole of what was typed are shown."""
         self.wait(lambda: self.driver.execute_script(ARE_SHOWN), f"suggestions as {text}")
+        self.clicks += 1
         self.take_shown(text)
 
     @abstractmethod
@@ -132,6 +143,11 @@ class Hand(ABC):
         field.send_keys(Keys.DELETE)
         field.send_keys(text)
 
+    def fill_day(self, name: str, day: date) -> None:
+        """Writes a day into a field for one, part by part from its first, as an American browser has them."""
+        self.reach(self.find(name, "input[type=date]"))
+        self.type_keys(Keys.ARROW_LEFT, Keys.ARROW_LEFT, f"{day:%m%d%Y}")
+
     def send_file(self, field: str, path: Path) -> None:
         """Chooses a file, for the field with an id: the browser's own window can't be worked with."""
         self.wait(lambda: self.driver.find_element("id", field), field).send_keys(str(path))
@@ -143,6 +159,7 @@ class Hand(ABC):
     def choose(self, name: str, option: str) -> None:
         """Chooses among the options of a list by their beginning."""
         field = self.find(name, "select")
+        self.clicks += 1
         self.set_option(field, option)
         chosen = "return arguments[0].selectedOptions[0].textContent.trim()"
         assert str(self.driver.execute_script(chosen, field)).startswith(option)
@@ -170,9 +187,11 @@ class Mouse(Hand):
         it.click()
 
     def press(self, name: str) -> None:
+        self.clicks += 1
         self.reach_named(name, PRESSED)
 
     def tick(self, name: str) -> None:
+        self.clicks += 1
         self.reach_named(name, BOXES)
 
     def set_option(self, field: WebElement, option: str) -> None:
@@ -196,10 +215,12 @@ class Keyboard(Hand):
         raise AssertionError(f"the Tab key never comes to {it.get_attribute('outerHTML')}")
 
     def press(self, name: str) -> None:
+        self.clicks += 1
         self.reach_named(name, PRESSED)
         self.type_keys(Keys.ENTER)
 
     def tick(self, name: str) -> None:
+        self.clicks += 1
         it = self.find(name, BOXES)
         if it.get_attribute("type") != "radio":
             self.reach(it)
@@ -228,13 +249,42 @@ class Keyboard(Hand):
         raise AssertionError(f"no suggestion begins with {text}")
 
 
+class Narrow(Mouse):
+    """Works by touch, on pages that are as wide as a telephone."""
+
+    def press(self, name: str) -> None:
+        super().press(name)
+        assert self.driver.execute_script(WIDTH) == []
+
+    def sees(self, text: str) -> None:
+        super().sees(text)
+        assert self.driver.execute_script(WIDTH) == []
+
+
+def address_of(desk: Running) -> str:
+    """Returns the address of a desk."""
+    return f"http://127.0.0.1:{desk.port}"
+
+
 def come_in(kind: str, driver: WebDriver, desk: Running) -> Hand:
     """Returns someone at a desk, who has come in by the address that the desk printed."""
-    found = HANDS[kind](driver, f"http://127.0.0.1:{desk.port}")
+    found = HANDS[kind](driver, address_of(desk))
     driver.delete_all_cookies()
     found.open(desk.entrance)
     found.is_at("/")
     return found
+
+
+def come_in_as(hand: Hand, name: str) -> Hand:
+    """Has a user come in by a password, in place of whoever was there."""
+    hand.open("/login")
+    hand.driver.delete_all_cookies()
+    hand.open("/login")
+    hand.fill(SAY("people.name"), name)
+    hand.fill(SAY("people.password"), PASSWORD)
+    hand.press(SAY("people.come_in"))
+    hand.is_at("/")
+    return hand
 
 
 HANDS: dict[str, type[Hand]] = {"mouse": Mouse, "keyboard": Keyboard}

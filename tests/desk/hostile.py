@@ -23,7 +23,7 @@ ELEMENTS = set(
     "html head meta title link script body a header div nav span form input button main footer p label ul "
     "li h1 h2 dl h3 dt dd small details summary abbr b i br aside section select option textarea fieldset "
     "legend datalist table thead tbody tr th td time kbd code output figure img ol hr strong em caption "
-    "optgroup svg path".split()
+    "optgroup svg path bdi progress".split()
 )
 HANDLER = re.compile(r"on\w+")
 LEADS = ("/", "#", "?", "http://", "https://")

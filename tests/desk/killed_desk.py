@@ -1,8 +1,7 @@
-"""A desk that kills itself: `killed_desk.py STORE PROGRAM PLAN POINT NUMBER`. PLAN is JSON; without plans if NUMBER
-is above 1.
+"""A desk that kills itself: `killed_desk.py STORE PROGRAM PLAN POINT`. PLAN is JSON: the requests of a plan, or the
+text of a posting file.
 
-POINT is `before` or `after` (the NUMBER-th request that changes something), or `finish` (before the outcome is
-written)."""
+POINT is `before` or `after` (the first line that changes something), or `finish` (before the outcome is written)."""
 from __future__ import annotations
 
 import json
@@ -12,38 +11,36 @@ import sys
 from pathlib import Path
 from typing import Any
 
-from thesaurus_desk.performing import Desk
+from thesaurus_desk.store.plan_execution import Desk
+
+
+def kill(*words: object, **named: object) -> None:
+    """Ends this process as a power cut would."""
+    os.kill(os.getpid(), signal.SIGKILL)
 
 
 def main() -> None:
-    store, program, plan, point, wanted = sys.argv[1:]
-    desk = Desk(Path(store), program)
+    store, program, text, point = sys.argv[1:]
+    desk, plan = Desk(Path(store), program), json.loads(text)
     desk.start()
-    if int(wanted) > 1:
-        desk.program.has_plans = False
-    ask, sent = desk.program.ask, 0
+    ask = desk.program.ask
 
-    def kill() -> None:
-        os.kill(os.getpid(), signal.SIGKILL)
-
-    def kill_at_finish(*words: object, **named: object) -> None:
-        kill()
-
-    def counted(method: str, path: str, body: bytes | None = None) -> dict[str, Any]:
-        nonlocal sent
-        sent += method == "POST"
-        is_now = method == "POST" and sent == int(wanted)
-        if is_now and point == "before":
+    def killed_around(request: Any) -> dict[str, Any]:
+        is_change = "perform" in request or "each" in request
+        if point == "before" and is_change:
             kill()
-        answer = ask(method, path, body)
-        if is_now and point == "after":
+        answer = ask(request)
+        if point == "after" and is_change:
             kill()
         return answer
 
-    desk.program.ask = counted  # type: ignore[assignment]
+    desk.program.ask = killed_around  # type: ignore[assignment]
     if point == "finish":
-        desk.journal.finish = kill_at_finish  # type: ignore[assignment]
-    desk.perform("anna", "test", json.loads(plan))
+        desk.journal.finish = kill  # type: ignore[assignment]
+    if isinstance(plan, str):
+        desk.bring_in("anna", plan.encode(), "rows.csv")
+    else:
+        desk.perform("anna", "test", plan)
     desk.stop()
 
 

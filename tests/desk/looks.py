@@ -4,7 +4,7 @@
 STRUCTURE = """
 const bad = [], all = (selector) => [...document.querySelectorAll(selector)];
 const name = (it) => (it.getAttribute('aria-label') || it.textContent || it.title || '').trim();
-for (const it of all('input:not([type=hidden]), select, textarea'))
+for (const it of all('input:not([type=hidden]), select, textarea:not([hidden])'))
   if (!it.labels?.length && !it.ariaLabel) bad.push('no label: ' + it.outerHTML.slice(0, 80));
 for (const it of all('label')) if (!it.textContent.trim()) bad.push('empty label');
 for (const it of all('button, summary, a[href]')) if (!name(it)) bad.push('no name: ' + it.outerHTML.slice(0, 80));

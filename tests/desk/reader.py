@@ -8,10 +8,11 @@ from typing import Any
 
 from flask import Flask
 from flask.testing import FlaskClient
-from thesaurus_desk.app import create_app
-from thesaurus_desk.entry.ways import Alone
-from thesaurus_desk.performing import Desk
+from thesaurus_desk.auth.authentication import Alone
 from thesaurus_desk.settings import Settings
+from thesaurus_desk.store.health import Health
+from thesaurus_desk.store.plan_execution import Desk
+from thesaurus_desk.web.app import create_app
 
 
 BLOCKS = ("p", "li", "dt", "dd", "div", "h1", "h2", "section", "button", "label", "option", "summary", "br", "nav")
@@ -29,6 +30,8 @@ class Form:
     buttons: list[tuple[str, str]] = field(default_factory=list)
     invalid: set[str] = field(default_factory=set)
     text: str = ""
+    # Its id, by which fields elsewhere on the page are its own.
+    id: str = ""
 
     def value(self, name: str) -> str | None:
         """Returns what a field holds."""
@@ -63,15 +66,12 @@ class PageReader(HTMLParser):
             self.handle_data(" ")
         name = given.get("name", "")
         if tag == "form":
-            self.form = Form(given.get("action", ""), given.get("method", "get"))
+            self.form = Form(given.get("action", ""), given.get("method", "get"), id=given.get("id", ""))
             self.forms.append(self.form)
+        elif tag == "input" and name:
+            self.add_input(name, given)
         elif self.form is None:
             return
-        elif tag == "input" and name:
-            self.form.names.add(name)
-            is_box = given.get("type") in ("checkbox", "radio")
-            if not is_box or "checked" in given:
-                self.form.fields.append((name, given.get("value", "on" if is_box else "")))
         elif tag == "button":
             self.form.buttons.append((name, given.get("value", "")))
         elif tag == "textarea":
@@ -82,6 +82,16 @@ class PageReader(HTMLParser):
             self.options.append((given.get("value", ""), "selected" in given))
         if self.form is not None and given.get("aria-invalid") == "true":
             self.form.invalid.add(name)
+
+    def add_input(self, name: str, given: dict[str, str]) -> None:
+        """Adds a field to the form in which it is, or whose id it names."""
+        form = next(it for it in self.forms if it.id == given["form"]) if "form" in given else self.form
+        if form is None:
+            return
+        form.names.add(name)
+        is_box = given.get("type") in ("checkbox", "radio")
+        if not is_box or "checked" in given:
+            form.fields.append((name, given.get("value", "on" if is_box else "")))
 
     def handle_endtag(self, tag: str) -> None:
         if self.form is None:
@@ -201,7 +211,7 @@ class Reader:
 def come_in(desk: Desk) -> Reader:
     """Returns someone alone at a desk, who has come in."""
     entry = Alone("anna")
-    app = create_app(desk, entry, Settings(frozenset({"localhost"})))
+    app = create_app(desk, entry, Settings(frozenset({"localhost"})), Health(desk, None))
     app.testing = True
     found = Reader(app)
     found.get(f"/enter?key={entry.key}")

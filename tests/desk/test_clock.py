@@ -11,8 +11,8 @@ import pytest
 from clients import Client, Site, text_of
 from test_changes import label, number, perform
 from thesaurus_desk.clock import distance_now, span_of, time_element
-from thesaurus_desk.journal.settling import BY_OTHERS
 from thesaurus_desk.journal.entries import Draft
+from thesaurus_desk.journal.recovery import BY_OTHERS
 
 # Zones by their rules, which need no list of zones to be installed.
 VIENNA, DELHI, NEWFOUNDLAND = "CET-1CEST,M3.5.0,M10.5.0/3", "IST-5:30", "NST3:30"
@@ -90,6 +90,7 @@ def after_midnight(site: Site) -> None:
     plan = perform(site, label(site, "Fine violins"))
     with site.desk.journal.writing() as rows:
         rows.execute("UPDATE plan SET at = '2026-11-28T23:30:00.000Z' WHERE id = ?", (plan,))
+        rows.execute("UPDATE ended SET at = '2026-11-28T23:30:00.000Z' WHERE plan = ?", (plan,))
 
 
 @pytest.mark.parametrize(("zone", "day", "other"), [(VIENNA, 29, 28), ("UTC", 28, 29), (NEWFOUNDLAND, 28, 29)])

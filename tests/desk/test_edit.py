@@ -5,7 +5,7 @@ import pytest
 from asking import view
 from clients import Site
 from reader import Page, Reader, read_page
-from thesaurus_desk.performing import Desk
+from thesaurus_desk.store.plan_execution import Desk
 
 # Concepts of the sample.
 BOWED, VIOLINS, VIOLAS, MESSIAH, FIDDLES, HARPS = 4, 5, 6, 30, 31, 11
@@ -35,7 +35,7 @@ def test_terms_and_notes_are_added(reader: Reader, desk: Desk) -> None:
         ("pref", "it", "", "text", "The field is empty"),
         ("alt", "x1y2z3w4q5", "Fine violins", "tag", "isn’t a language tag"),
         ("alt", "english", "Fine violins", "tag", "“english” isn’t a language tag"),
-        ("alt", "de", "Violinen", "text", "already has “Violinen” (de) as alternative term"),
+        ("alt", "de", "Violinen", "text", "already has “Violinen” (de) as non-preferred term"),
         ("alt", "en", "x" * 257, "text", "is one character too long"),
     ],
 )
@@ -85,7 +85,7 @@ def test_a_preferred_term_is_renamed(reader: Reader, desk: Desk) -> None:
     assert form.value("keep") == "1"
     page = reader.send(form, text="Fine violins")
     assert ("en", "Fine violins") in view(desk, VIOLINS).pref and ("en", "Violins") in view(desk, VIOLINS).alt
-    kept = "“Violins” (en) renamed to “Fine violins” (en), and the old term kept as an alternative one"
+    kept = "“Violins” (en) renamed to “Fine violins” (en), and the old term kept as a non-preferred one"
     assert kept in page.text and kept in reader.get("/changes").text
     reader.send(page.form("change-pref-en-1"), text="Concert violins", keep=None)
     assert "Concert violins: “Fine violins” (en) renamed to “Concert violins” (en)" in reader.get("/changes").text
@@ -140,13 +140,13 @@ def test_a_term_is_removed(reader: Reader, desk: Desk) -> None:
 
 def test_the_last_preferred_term_stays(reader: Reader, desk: Desk) -> None:
     reader.send(reader.get("/new/collection").form("new"), tag="en", text="Room 12")
-    made = desk.mirror.numbers("collection")[-1]
+    made = desk.replica.numbers("collection")[-1]
     page = reader.send(reader.get(f"/c/{made}").form("remove-term"))
     assert page.status == 409 and "the only preferred term" in page.alerts
 
 
 def test_names_of_schemes_and_collections(reader: Reader, desk: Desk) -> None:
-    collection = desk.mirror.numbers("collection")[0]
+    collection = desk.replica.numbers("collection")[0]
     for number in (1, collection):
         add(reader.get(f"/c/{number}"), reader, "alt", "en", "Another name")
         assert ("en", "Another name") in view(desk, number).alt
@@ -157,7 +157,7 @@ def test_names_of_schemes_and_collections(reader: Reader, desk: Desk) -> None:
 
 def test_a_concept_is_taken_out_of_use(reader: Reader, desk: Desk) -> None:
     page = reader.send(reader.get(f"/c/{MESSIAH}").form("deprecate"))
-    assert "no longer in use" in page.text and not view(desk, MESSIAH).is_live
+    assert "deprecated" in page.text and not view(desk, MESSIAH).is_live
     assert not page.has_form("add-term") and not page.has_form("deprecate")
 
 
@@ -181,8 +181,8 @@ def test_a_conflict_shows_both_changes_and_asks_again(reader: Reader, desk: Desk
     assert desk.perform(user, "add_term", [label]).is_done
     page = reader.send(mine, kind="alt", tag="en", text="Fine violins")
     assert page.status == 409 and said in page.text and "hasn’t been made yet" in page.text
-    assert "alternative term “Fiddles too” (en)" in page.text and user in page.text
-    assert "Your change Violins: alternative term “Fine violins” (en) added" in " ".join(page.text.split())
+    assert "non-preferred term “Fiddles too” (en)" in page.text and user in page.text
+    assert "Your change Violins: non-preferred term “Fine violins” (en) added" in " ".join(page.text.split())
     assert ("en", "Fine violins") not in view(desk, VIOLINS).alt
     assert " autofocus" not in page.html and page.html.index(">Cancel</a>") < page.html.index(">Make my change")
     assert reader.send(page.form("add-term")).status == 200
@@ -199,7 +199,7 @@ def test_labels_and_links_dont_disturb_each_other(reader: Reader, desk: Desk) ->
 def test_the_next_page_says_what_was_done(reader: Reader, desk: Desk) -> None:
     page = add(reader.get(f"/c/{VIOLINS}"), reader, "alt", "en", "<b>Fine</b>")
     said = 'class="said" role="status"'
-    assert said in page.html and "Violins: alternative term “<b>Fine</b>” (en) added" in page.text
+    assert said in page.html and "Violins: non-preferred term “<b>Fine</b>” (en) added" in page.text
     assert said not in reader.get(f"/c/{VIOLINS}").html
     assert said not in reader.get(f"/c/{VIOLINS}?done=99999").html
 
@@ -224,10 +224,10 @@ def test_a_page_has_the_forms_of_the_readers_role(site: Site, name: str, forms: 
 
 def test_a_scheme_and_an_outside_concept_have_pages(reader: Reader, desk: Desk) -> None:
     page = reader.get("/c/1")
-    collection = desk.mirror.numbers("collection")[0]
+    collection = desk.replica.numbers("collection")[0]
     assert {f"/c/{collection}", "/print/1", "/tree?scheme=1"} <= set(page.links())
-    outside = desk.mirror.by_iri("http://www.wikidata.org/entity/Q8355")
+    outside = desk.replica.by_iri("http://www.wikidata.org/entity/Q8355")
     assert outside
     page = reader.get(f"/c/{outside}")
-    assert desk.mirror.iri(outside) in page.links() and f"/c/{VIOLINS}" in page.links()
+    assert desk.replica.iri(outside) in page.links() and f"/c/{VIOLINS}" in page.links()
     assert not page.has_form("add-term")

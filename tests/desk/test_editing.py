@@ -60,7 +60,7 @@ def test_a_refusal_has_the_focus_without_script(plain_hand: Hand) -> None:
 def test_the_top_of_a_form_leads_to_what_was_refused(plain_hand: Hand) -> None:
     plain_hand.open("/new")
     plain_hand.fill("Preferred term", "Violins")
-    plain_hand.press("Make it")
+    plain_hand.press("Create")
     plain_hand.sees("Use that concept, or add a qualifier")
     plain_hand.press("See what was refused")
     plain_hand.wait(lambda: plain_hand.focused().get_attribute("id") == "new-text", "the focus at the field")
@@ -74,11 +74,11 @@ def test_a_split_over_pages_without_script(plain_hand: Hand) -> None:
         "document.getElementById('postings-typed').value = arguments[0]", f"key,record,concept\n{rows}"
     )
     plain_hand.press("Import")
-    plain_hand.sees("120 postings are new.")
+    plain_hand.sees("120 indexings are new.")
     plain_hand.open("/c/5/split")
     plain_hand.fill("Preferred term of the new concept", "Pedal harps")
     plain_hand.tick("Harp 007")
-    plain_hand.press("further →")
+    plain_hand.press("next →")
     plain_hand.sees("1 of 120 ticked")
     plain_hand.press("Tick this page")
     plain_hand.sees("21 of 120 ticked")
@@ -86,7 +86,9 @@ def test_a_split_over_pages_without_script(plain_hand: Hand) -> None:
     plain_hand.sees("Harps: split, and 21 records given to the new concept Pedal harps")
 
 
-@pytest.mark.parametrize("sign", ["Change preferred term Violins (en)", "Another type for the link with String instru"])
+@pytest.mark.parametrize(
+    "sign", ["Change preferred term Violins (en)", "Another type for the relationship with String instru"]
+)
 def test_a_double_click_on_a_sign_changes_nothing(driver: WebDriver, guide_desk: Running, sign: str) -> None:
     hand = come_in("mouse", driver, guide_desk)
     hand.open("/c/3")
@@ -105,8 +107,8 @@ def test_a_double_click_on_a_sign_changes_nothing(driver: WebDriver, guide_desk:
     [
         ("Add a term or a note", "add-term-text"),
         ("Add a broader term", "add-broader-other"),
-        ("Add a match", "add-match-other"),
-        ("Take out of use…", ""),
+        ("Add a mapping", "add-match-other"),
+        ("Deprecate…", ""),
     ],
 )
 def test_a_form_that_opens_waits_for_its_text(

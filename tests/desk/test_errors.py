@@ -8,10 +8,10 @@ from typing import Any
 import pytest
 from clients import Site, site_of, text_of
 from test_routes import routes
-from thesaurus_desk.entry.guard import lowest_role
-from thesaurus_desk.entry.roles import Role
-from thesaurus_desk.mirror import Mirror
-from thesaurus_desk.program import Fault, NoAnswer
+from thesaurus_desk.auth.roles import Role
+from thesaurus_desk.auth.route_roles import lowest_role
+from thesaurus_desk.store.program import Fault, NoAnswer
+from thesaurus_desk.store.replica import Replica
 from thesaurus_tools.command_line import ToolError
 from werkzeug.routing import MapAdapter
 
@@ -50,7 +50,7 @@ def test_a_page_that_fails(
 
 def test_what_each_page_needs_may_fail(site: Site, monkeypatch: pytest.MonkeyPatch) -> None:
     anna = site.client("anna")
-    monkeypatch.setattr(Mirror, "numbers", failing(RuntimeError("secret inside")))
+    monkeypatch.setattr(Replica, "numbers", failing(RuntimeError("secret inside")))
     answer = anna.get("/keys")
     assert answer.status_code == 500 and answer.mimetype == "text/plain" and "secret" not in answer.text
     assert answer.headers["X-Content-Type-Options"] == "nosniff"

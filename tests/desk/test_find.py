@@ -9,8 +9,8 @@ from pathlib import Path
 
 import pytest
 from clients import Client, Site, site_of, text_of
-from thesaurus_desk.app import path_of_page
-from thesaurus_desk.performing import Desk
+from thesaurus_desk.store.plan_execution import Desk
+from thesaurus_desk.web.app import path_of_page
 from werkzeug.test import TestResponse
 
 VIOLINS, BOWED, STRINGS = 5, 4, 3
@@ -70,7 +70,7 @@ def test_dead_concepts_and_old_codes(site: Site, anna: Client) -> None:
     assert [it["number"] for it in suggested(anna, "mi-0815")] == [VIOLINS]
     assert "MI-0815" not in anna.get("/suggest?q=mi-0815").text, "a code is found, and its term is shown"
     assert anna.get("/search?q=MI-0815").headers["Location"] == f"/c/{VIOLINS}"
-    assert [it["note"] for it in suggested(anna, "messiah")][0] in ("out of use", "in Violins · out of use")
+    assert [it["note"] for it in suggested(anna, "messiah")][0] in ("deprecated", "in Violins · deprecated")
     assert anna.get("/suggest?q=messiah&live=1").json == []
 
 
@@ -159,14 +159,14 @@ def test_a_thesaurus_is_saved_as_skos(site: Site, anna: Client) -> None:
 
 
 def test_schemes_and_collections(anna: Client) -> None:
-    assert "30 concepts, 1 top term" in text_of(anna.get("/schemes"))
+    assert "30 concepts, 1 top concept" in text_of(anna.get("/schemes"))
     page = anna.get("/collections")
     assert "Instruments of the string quartet" in text_of(page) and "Cellos" in text_of(page)
 
 
 def numbers_of(client: Client, path: str) -> list[int]:
     """Returns the numbers in a table."""
-    return [int(it["number"]) for it in rows_of(client.get(path))]
+    return [int(it["identifier"]) for it in rows_of(client.get(path))]
 
 
 def test_work_lists(site: Site, anna: Client) -> None:
@@ -188,7 +188,7 @@ def test_work_lists(site: Site, anna: Client) -> None:
         assert page.status_code == 200 and f'href="/c/{VIOLINS if kind == "busiest" else lonely}"' in page.text, kind
         assert anna.get(f"/lists/{kind}?scheme=1&page=9").status_code == 200
     assert "2 groups" not in text_of(anna.get("/lists/alike")) and "1 group" in text_of(anna.get("/lists/alike"))
-    assert "Terms alike 1 " in " ".join(text_of(anna.get("/lists")).split())
+    assert "Similar terms 1 " in " ".join(text_of(anna.get("/lists")).split())
     assert anna.get("/lists").status_code == 200 and anna.get("/lists/other").status_code == 404
 
 
@@ -203,9 +203,9 @@ def test_lists_count_each_record_once(site: Site, anna: Client) -> None:
     ):
         site.desk.perform("ina", "post", [{"do": "post", "key": key, "record": record, "concept": concept}])
     rows = rows_of(anna.get("/lists/busiest?format=csv"))
-    assert [(int(it["number"]), it["records"]) for it in rows] == [(STRINGS, "2"), (VIOLINS, "1")]
+    assert [(int(it["identifier"]), it["records"]) for it in rows] == [(STRINGS, "2"), (VIOLINS, "1")]
     shown = " ".join(text_of(anna.get("/lists/busiest")).split())
-    assert "String instruments 2 Violins 1 " in shown and "1 record " in text_of(anna.get(f"/c/{VIOLINS}"))
+    assert "String instruments 2 Split Violins 1 Split " in shown and "1 record " in text_of(anna.get(f"/c/{VIOLINS}"))
 
 
 def test_a_list_is_translated_where_it_is(site: Site, anna: Client) -> None:
@@ -225,7 +225,7 @@ def test_a_list_is_translated_where_it_is(site: Site, anna: Client) -> None:
     assert answer.headers["Location"].startswith(f"{path}&done=")
     page = anna.get(answer.headers["Location"]).text
     assert "Altes" in page and page.count('aria-label="Preferred term of ') == page.count(" autofocus>") == 1
-    view = site.desk.mirror.view(made[0] or 0)
+    view = site.desk.replica.view(made[0] or 0)
     assert view and ("de", "Altes") in view.pref
     out = anna.post(f"/c/{made[1]}/terms/add", {**kept, "text": "Neues", "next": "https://evil.example/"})
     assert out.headers["Location"].startswith("/?done=")
@@ -280,9 +280,9 @@ def test_tables(site: Site, anna: Client) -> None:
         "/changed-since?since=2026&format=csv",
     ):
         assert rows_of(anna.get(path)), path
-    violins = next(it for it in rows_of(anna.get("/tree?format=csv")) if it["number"] == "5")
+    violins = next(it for it in rows_of(anna.get("/tree?format=csv")) if it["identifier"] == "5")
     assert violins["term"] == "Violins" and violins["broader terms"] == "Bowed instruments"
-    assert violins["address"] == "https://thesaurus.example/id/5" and violins["state"] == "in use"
+    assert violins["URI"] == "https://thesaurus.example/id/5" and violins["state"] == "in use"
     assert "'=1+1" in [it["term"] for it in rows_of(anna.get("/lists/orphans?format=csv"))], "no formula"
 
 

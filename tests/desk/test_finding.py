@@ -1,14 +1,21 @@
 """Finding by beginning, word, typing error, number, IRI, old code and record, beside a search without an index."""
 from __future__ import annotations
 
-from typing import Any
 
+import contextlib
+import sqlite3
 import pytest
 from dice import Dice
-from thesaurus_desk.mirror import Mirror
-from thesaurus_desk.mirror.changes import apply
-from thesaurus_desk.mirror.search import LONG, WORD, Index, fold
-from thesaurus_desk.performing import Desk
+from made_replica import MadeReplica
+from thesaurus_desk.store.plan_execution import Desk
+from thesaurus_desk.store.changes import Changes
+from thesaurus_desk.store.exported import OwnReplica
+from thesaurus_desk.store.replica import Replica
+from thesaurus_desk.store.search import Asked
+from thesaurus_tools.table_store import TABLES_VERSION
+from thesaurus_desk.store.search import LONG
+from thesaurus_desk.store.text_keys import WORD, fold
+from whole import resources
 
 BASE = "https://thesaurus.example/id/"
 LETTERS = "aeiolnrst"
@@ -53,13 +60,12 @@ def test_like_a_search_without_index(seed: int) -> None:
         return "".join(dice.pick(LETTERS) for _ in range(dice.between(2, 9)))
 
     labels = sorted({" ".join(word() for _ in range(dice.between(1, 3))).title() for _ in range(400)})
-    index = Index()
-    rows = [(number, "pref", "en", text) for number, text in enumerate(labels, 1)]
-    index.fill(rows[::2])
-    for row in rows[1::2]:
-        index.add(*row)
-    for row in rows[::3]:
-        index.remove(*row)
+    rows = [(number, 1, "en", text) for number, text in enumerate(labels, 2)]
+    owners: list[tuple[object, ...]] = [(1, 1, None, 1, None), *((number, 2, 1, 1, None) for number, *_ in rows)]
+    replica = OwnReplica({"meta": [(1, TABLES_VERSION, BASE)], "resource": owners, "label": [(*it,) for it in rows]})
+    with contextlib.closing(sqlite3.connect(replica.path, isolation_level=None)) as tables:
+        Changes(tables).make([["delete", "label", *row] for row in rows[::3]])
+    index = replica.index
     left = [row[3] for place, row in enumerate(rows) if place % 3]
     alike = 0
     for _ in range(400):
@@ -68,7 +74,7 @@ def test_like_a_search_without_index(seed: int) -> None:
         at = dice.below(len(text))
         changed = (text[:at] + text[at + 1 :], text[:at] + dice.pick(LETTERS) + text[at:])
         text = dice.pick((text, text.upper(), *changed, *changed))
-        hits = index.find(text, lambda entry: True, most=1000)
+        hits = index.find(text, Asked(), most=1000)
         assert {it.text for it in hits} == (found_without_index(left, text, True) if WORD.findall(text) else set())
         assert len({it.number for it in hits}) == len(hits)
         alike += any(it.is_alike for it in hits)
@@ -77,25 +83,23 @@ def test_like_a_search_without_index(seed: int) -> None:
 
 
 @pytest.fixture
-def mirror() -> Mirror:
-    """A mirror of a few concepts."""
-    made = Mirror(BASE)
-    requests: list[tuple[dict[str, Any], int]] = [
-        ({"do": "scheme", "tag": "en", "text": "Instruments"}, 1),
-        ({"do": "concept", "scheme": 1, "tag": "en", "text": "Violins"}, 2),
-        ({"do": "concept", "scheme": 1, "tag": "en", "text": "Violins, small"}, 3),
-        ({"do": "concept", "scheme": 1, "tag": "fr", "text": "Flûtes à bec"}, 4),
-        ({"do": "concept", "scheme": 1, "tag": "de", "text": "Straßenorgeln"}, 5),
-        ({"do": "collection", "scheme": 1, "tag": "en", "text": "Violin room"}, 6),
-        ({"do": "outside", "iri": "http://example.org/violin"}, 7),
-        ({"do": "concept", "scheme": 1, "tag": "en", "text": "Old violins"}, 8),
-    ]
-    for request, number in requests:
-        apply(made, request, {"ok": number})
-    for kind, tag, text in (("hidden", "en", "INV-0815"), ("alt", "de", "Geigen"), ("alt", "en", "Fiddles")):
-        apply(made, {"do": "addLabel", "owner": 2, "kind": kind, "tag": tag, "text": text}, {"done": True})
-    apply(made, {"do": "deprecate", "concept": 8}, {"done": True})
-    return made
+def mirror() -> Replica:
+    """A replica of a few concepts."""
+    return MadeReplica(
+        {"do": "scheme", "tag": "en", "text": "Instruments"},
+        {"do": "concept", "scheme": 1, "tag": "en", "text": "Violins"},
+        {"do": "concept", "scheme": 1, "tag": "en", "text": "Violins, small"},
+        {"do": "concept", "scheme": 1, "tag": "fr", "text": "Flûtes à bec"},
+        {"do": "concept", "scheme": 1, "tag": "de", "text": "Straßenorgeln"},
+        {"do": "collection", "scheme": 1, "tag": "en", "text": "Violin room"},
+        {"do": "outside", "iri": "http://example.org/violin"},
+        {"do": "concept", "scheme": 1, "tag": "en", "text": "Old violins"},
+        {"do": "addLabel", "owner": 2, "kind": "hidden", "tag": "en", "text": "INV-0815"},
+        {"do": "addLabel", "owner": 2, "kind": "alt", "tag": "de", "text": "Geigen"},
+        {"do": "addLabel", "owner": 2, "kind": "alt", "tag": "en", "text": "Fiddles"},
+        {"do": "deprecate", "concept": 8},
+        base=BASE,
+    )
 
 
 @pytest.mark.parametrize(
@@ -128,11 +132,11 @@ def mirror() -> Mirror:
         ("http://example.org/violin", []),
     ],
 )
-def test_concepts(mirror: Mirror, query: str, numbers: list[int]) -> None:
+def test_concepts(mirror: Replica, query: str, numbers: list[int]) -> None:
     assert [it.number for it in mirror.search(query)] == numbers
 
 
-def test_filters(mirror: Mirror) -> None:
+def test_filters(mirror: Replica) -> None:
     assert [it.number for it in mirror.search("viol", live=True)] == [2, 3]
     assert [it.number for it in mirror.search("viol", live=False)] == [8]
     assert [it.number for it in mirror.search("viol", kinds=("collection",))] == [6]
@@ -143,9 +147,9 @@ def test_filters(mirror: Mirror) -> None:
     assert mirror.search("viol", scheme=9) == [] and len(mirror.search("viol", most=1)) == 1
 
 
-def test_letters(mirror: Mirror) -> None:
+def test_letters(mirror: Replica) -> None:
     assert mirror.letters() == sorted(
-        {fold(text)[0] for it in mirror.resources.values() for kind, _, text in it.labels}
+        {fold(text)[0] for it in resources(mirror).values() for kind, _, text in it.labels}
     )
     assert [it.text for it in mirror.beginning("v", "en")] == ["Violins", "Violins, small"]
     assert [it.text for it in mirror.beginning("f", "en")] == ["Fiddles"]
@@ -155,7 +159,7 @@ def test_records(desk: Desk) -> None:
     names = ["Violin 1668", "violin 1700", "Case of a violin", "Über 3"]
     posts = [{"do": "post", "key": f"r{n}", "record": it, "concept": 5} for n, it in enumerate(names)]
     assert desk.perform("anna", "post", posts).is_done
-    find = desk.mirror.postings.records_like
+    find = desk.replica.postings.records_like
     assert find("VIOLIN") == ["Violin 1668", "violin 1700", "Case of a violin"]
     assert find("uber") == ["Über 3"] and find("violin", 1) == ["Violin 1668"] and find(" ") == []
     again = {"do": "post", "key": "r9", "record": "Violin 1699", "concept": 5}

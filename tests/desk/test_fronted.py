@@ -6,6 +6,7 @@ import json
 import re
 import subprocess
 from collections.abc import Iterator
+from concurrent.futures import ThreadPoolExecutor
 from dataclasses import dataclass
 from pathlib import Path
 from urllib.parse import urlencode
@@ -16,8 +17,8 @@ from clients import PASSWORD
 from fronted_desk import HOST, ROOT, Site, fronted_desk, secret_file
 from processes import DESK, Running, running
 from selenium.webdriver.common.keys import Keys
-from thesaurus_desk.entry.accounts import Accounts
-from thesaurus_desk.entry.roles import Role
+from thesaurus_desk.auth.accounts import Accounts
+from thesaurus_desk.auth.roles import Role
 
 pytestmark = [pytest.mark.needs("nginx", "openssl"), pytest.mark.timeout(900)]
 ORIGIN = f"https://{HOST}"
@@ -155,6 +156,14 @@ def test_many_attempts_to_come_in(fronted: Fronted) -> None:
     assert fronted.ask("GET", "/keys")[0] == 303
 
 
+def test_what_takes_long_is_bounded(fronted: Fronted, mine: str) -> None:
+    """Searches, displays and what other programs ask; other pages go on."""
+    with ThreadPoolExecutor(24) as threads:
+        statuses = set(threads.map(lambda _: fronted.ask("GET", "/print/1", Cookie=mine)[0], range(240)))
+    assert statuses == {200, 429}
+    assert fronted.ask("GET", "/az", Cookie=mine)[0] == 200
+
+
 def test_names_of_nginx(program: str, instruments_store: Path, tmp_path: Path) -> None:
     store, users = tmp_path / "museum.db", tmp_path / "users.json"
     store.write_bytes(instruments_store.read_bytes())
@@ -223,5 +232,5 @@ def test_the_unit_allows_what_the_desk_calls(program: str, store: Path, users: P
         traced.wait(120)
     called = set(re.findall(r"^\d+ +(\w+)\(", trace.read_text(encoding="utf-8", errors="replace"), re.M))
     assert {"bind", "listen", "execve"} <= called
-    # (execve is also systemd's own; SQLite calls fchown only for root, as which a test may run)
-    assert called - {"execve", "fchown"} - calls_allowed() == set()
+    # (execve is also systemd's own; fchown and lchown are called only for root, as which a test may run)
+    assert called - {"execve", "fchown", "lchown"} - calls_allowed() == set()

@@ -9,11 +9,13 @@ from urllib.parse import quote
 import pytest
 from clients import ORIGIN, PASSWORD, Site, site_of
 from hostile import TEXTS, faults_of
+from other_vocabulary import load
 from test_routes import changes, routes
-from thesaurus_desk.entry.accounts import Accounts
-from thesaurus_desk.entry.guard import MOST_OF_FORM
-from thesaurus_desk.entry.roles import Role
-from thesaurus_desk.performing import Desk
+from thesaurus_desk.auth.accounts import Accounts
+from thesaurus_desk.auth.roles import Role
+from thesaurus_desk.auth.route_roles import MOST_OF_FORM
+from thesaurus_desk.journal.history import to_csv
+from thesaurus_desk.store.plan_execution import Desk
 
 # A user with a hostile name; it has no signs that a name can't have.
 HOSTILE = "<b onclick=PWNED()>\"'&"
@@ -57,7 +59,11 @@ def fill(desk: Desk) -> list[int]:
 def hostile(desk: Desk, users: Path) -> tuple[Site, list[int]]:
     """A desk with hostile texts everywhere, whose head has a hostile name."""
     Accounts(users).add(HOSTILE, Role.HEAD, PASSWORD)
-    return site_of(desk, users), fill(desk)
+    numbers = fill(desk)
+    iris = ["javascript:PWNED()", *(f"https://evil.example/{it}?q='onclick=PWNED()" for it in range(len(TEXTS)))]
+    rows = [("iri", "label", "lang", "broader"), *((at, text, "en", iris[0]) for at, text in zip(iris, TEXTS))]
+    load(desk.db, "".join(map(to_csv, (*rows, (TEXTS[0], "")))), TEXTS[0][:60], "dump.csv")
+    return site_of(desk, users), numbers
 
 
 def pages_of(site: Site, numbers: list[int]) -> list[str]:
@@ -70,7 +76,14 @@ def pages_of(site: Site, numbers: list[int]) -> list[str]:
         asked = quote(text)
         found |= {
             f"{path}{asked}"
-            for path in ("/search?q=", "/search?all=1&q=", "/record?name=", "/new?text=", "/az?letter=")
+            for path in (
+                "/search?q=",
+                "/search?all=1&q=",
+                "/record?name=",
+                "/index?record=",
+                "/new?text=",
+                "/az?letter=",
+            )
         }
         found |= {
             f"{path}{asked}"
@@ -87,6 +100,7 @@ def pages_of(site: Site, numbers: list[int]) -> list[str]:
             )
         }
     found |= {f"/search?all=1&q={it}" for it in ("alt", "hidden", "de", "pwned", "right")}
+    found |= {f"/mapping/1/c/{it}?q={quote(TEXTS[0])}" for it in numbers}
     found |= {f"/tree?at={it}" for it in numbers} | {f"/lists/{it}" for it in ("alike", "orphans", "busiest", "unused")}
     return sorted(
         found

@@ -1,9 +1,12 @@
 """Tests what other programs ask: linked data, Skosmos' REST interface, and reconciliation, over an export."""
 from __future__ import annotations
 
+import contextlib
 import http.client
 import json
+import sqlite3
 import subprocess
+import threading
 import time
 from pathlib import Path
 from typing import Any
@@ -11,14 +14,16 @@ from typing import Any
 import pytest
 from flask import Flask
 from flask.testing import FlaskClient
-from thesaurus_desk.interfaces import Source, interfaces_of
+from thesaurus_desk.interfaces import Changes, Source, interfaces_of
 from thesaurus_desk.interfaces.skosmos_concepts import climb
-from thesaurus_desk.interfaces.skosmos_search import is_match
-from thesaurus_desk.mirror import Link, Mirror, Resource
-from thesaurus_desk.mirror.changes import apply
-from thesaurus_desk.mirror.exported import read_export
+from made_replica import BASE
+from thesaurus_desk.store.changes import Changes as RowChanges
+from thesaurus_desk.store.exported import OwnReplica, read_export
+from thesaurus_desk.store.replica import Replica
+from thesaurus_desk.store.search import has_parts
 from thesaurus_tools.ntriples import Triple, read_ntriples
 from thesaurus_tools.rdf_writing import write_ntriples
+from thesaurus_tools.table_store import TABLES_VERSION
 
 ROOT = Path(__file__).resolve().parents[2]
 SKOS = "http://www.w3.org/2004/02/skos/core#"
@@ -35,17 +40,16 @@ def export(program: str, instruments_store: Path, tmp_path_factory: pytest.TempP
 
 
 @pytest.fixture(scope="module")
-def mirror(export: Path) -> Mirror:
+def mirror(export: Path) -> Replica:
     return read_export(export)
 
 
 @pytest.fixture(scope="module")
-def source(mirror: Mirror) -> Source:
+def source(mirror: Replica) -> Source:
     dates = {5: ("2026-11-01T10:00:00Z", "2026-11-28T10:00:00Z")}
     changes = [(5, "2026-11-28T10:00:00Z")]
-    return Source(
-        lambda: mirror, lambda it: dates.get(it, (None, None)), lambda time: [it for it in changes if it[1] >= time]
-    )
+    since = Changes(lambda time: [it for it in changes if it[1] >= time])
+    return Source(lambda: mirror, lambda it: dates.get(it, (None, None)), since)
 
 
 @pytest.fixture(scope="module")
@@ -55,7 +59,7 @@ def client(source: Source) -> FlaskClient:
     return app.test_client()
 
 
-def number(mirror: Mirror, text: str) -> int:
+def number(mirror: Replica, text: str) -> int:
     """Returns the number of the concept with a preferred label in English."""
     (hit,) = [it for it in mirror.named(text) if it.kind == "pref" and it.tag == "en"]
     return hit.number
@@ -72,7 +76,7 @@ def get(client: FlaskClient, path: str, **query: Any) -> dict[str, Any]:
 # --- linked data ---
 
 
-def test_the_triples_of_all_resources_are_the_export(export: Path, mirror: Mirror) -> None:
+def test_the_triples_of_all_resources_are_the_export(export: Path, mirror: Replica) -> None:
     source = Source(lambda: mirror)
     numbers = [it for kind in ("scheme", "concept", "collection") for it in mirror.numbers(kind)]
     assert {triple for it in numbers for triple in source.triples(it)} == set(read_ntriples(export))
@@ -91,7 +95,7 @@ def test_the_whole_export(client: FlaskClient, export: Path) -> None:
 
 @pytest.mark.needs("rdflib")
 @pytest.mark.parametrize(("form", "name"), [("ttl", "turtle"), ("jsonld", "json-ld"), ("rdf", "xml"), ("nt", "nt")])
-def test_each_form_says_the_same(client: FlaskClient, source: Source, mirror: Mirror, form: str, name: str) -> None:
+def test_each_form_says_the_same(client: FlaskClient, source: Source, mirror: Replica, form: str, name: str) -> None:
     import rdflib
     from rdflib.compare import isomorphic
 
@@ -120,6 +124,8 @@ def test_the_export_in_turtle(client: FlaskClient) -> None:
         ("application/rdf+xml;q=0.8, text/turtle;q=0.5", "application/rdf+xml"),
         ("text/html, application/n-triples;q=0.1", "application/n-triples"),
         ("*/*", "text/turtle"),
+        ("text/turtle;charset=utf-8", "text/turtle"),
+        ('application/ld+json;profile="http://www.w3.org/ns/json-ld#compacted"', "application/ld+json"),
     ],
 )
 def test_content_negotiation(client: FlaskClient, accept: str, media: str) -> None:
@@ -130,7 +136,15 @@ def test_content_negotiation(client: FlaskClient, accept: str, media: str) -> No
     assert (again.status_code, again.data) == (304, b"")
 
 
-def test_a_reader_is_sent_to_the_page(mirror: Mirror) -> None:
+def test_when_it_was_modified(client: FlaskClient) -> None:
+    answer = client.get("/id/5?format=ttl")
+    assert answer.headers["Last-Modified"] == "Sat, 28 Nov 2026 10:00:00 GMT"
+    since = {"If-Modified-Since": answer.headers["Last-Modified"]}
+    assert client.get("/id/5?format=ttl", headers=since).status_code == 304
+    assert "Last-Modified" not in client.get("/id/6?format=ttl").headers, "it isn't known"
+
+
+def test_a_reader_is_sent_to_the_page(mirror: Replica) -> None:
     app = Flask("desk")
     app.register_blueprint(interfaces_of(Source(lambda: mirror, page=lambda number: f"/c/{number}")))
     answer = app.test_client().get("/id/5", headers={"Accept": "text/html,*/*;q=0.8"})
@@ -154,7 +168,7 @@ def test_dates(client: FlaskClient) -> None:
     assert client.get("/changed?since=yesterday").status_code == 400
 
 
-def test_a_dead_concept_is_gone_and_names_what_replaces_it(program: str, tmp_path: Path) -> None:
+def test_a_dead_concept_names_what_replaces_it(program: str, tmp_path: Path) -> None:
     script = (
         '{"do":"scheme","tag":"en","text":"S"}\n{"do":"concept","scheme":1,"tag":"en","text":"A"}\n'
         '{"do":"concept","scheme":1,"tag":"en","text":"B"}\n{"do":"merge","source":2,"target":3}\n'
@@ -166,7 +180,7 @@ def test_a_dead_concept_is_gone_and_names_what_replaces_it(program: str, tmp_pat
     app = Flask("publish")
     app.register_blueprint(interfaces_of(Source(lambda: mirror)))
     answer = app.test_client().get("/id/2?format=ttl")
-    assert answer.status_code == 410
+    assert answer.status_code == 200
     assert "dct:isReplacedBy id:3" in answer.text
     assert '<https://a.example/3>; rel="successor-version"' in answer.headers["Link"]
 
@@ -174,10 +188,10 @@ def test_a_dead_concept_is_gone_and_names_what_replaces_it(program: str, tmp_pat
 # --- Skosmos ---
 
 
-def test_vocabularies(client: FlaskClient, mirror: Mirror) -> None:
+def test_vocabularies(client: FlaskClient, mirror: Replica) -> None:
     (scheme,) = mirror.numbers("scheme")
     found = get(client, "/rest/v1/vocabularies", lang="en")
-    assert found["vocabularies"] == [{"uri": "", "id": str(scheme), "title": mirror.term(scheme, ["en"])[1]}]
+    assert found["vocabularies"] == [{"uri": str(scheme), "id": str(scheme), "title": mirror.term(scheme, ["en"])[1]}]
     assert {"uri", "type", "skos", "onki"} <= found["@context"].keys()
     about = get(client, f"/rest/v1/{scheme}/", lang="en")
     assert about["conceptschemes"][0]["uri"] == mirror.iri(scheme)
@@ -205,7 +219,7 @@ def test_search(client: FlaskClient, query: str, lang: str, terms: list[str] | N
     assert all({"uri", "type", "prefLabel", "lang", "vocab"} <= it.keys() for it in found)
 
 
-def test_search_below_a_concept_and_by_parts(client: FlaskClient, mirror: Mirror) -> None:
+def test_search_below_a_concept_and_by_parts(client: FlaskClient, mirror: Replica) -> None:
     parent = mirror.iri(number(mirror, "String instruments"))
     all_of_it = get(client, "/rest/v1/1/search", query="*s", lang="en", parent=parent)["results"]
     assert len(all_of_it) > 3 and parent not in [it["uri"] for it in all_of_it]
@@ -215,10 +229,10 @@ def test_search_below_a_concept_and_by_parts(client: FlaskClient, mirror: Mirror
     for text in ("x", "9" * 5000):
         assert client.get(f"/rest/v1/1/search?query=a&maxhits={text}").status_code == 400
     for name in ("²", "9" * 5000):
-        assert client.get(f"/rest/v1/{name}/").status_code == 200  # (there is one vocabulary)
+        assert client.get(f"/rest/v1/{name}/").status_code == 404
 
 
-def test_neighbours(client: FlaskClient, mirror: Mirror) -> None:
+def test_neighbours(client: FlaskClient, mirror: Replica) -> None:
     violins = number(mirror, "Violins")
     uri = mirror.iri(violins)
     view = mirror.view(violins)
@@ -236,7 +250,7 @@ def test_neighbours(client: FlaskClient, mirror: Mirror) -> None:
     assert uri in [it["uri"] for it in children] and "hasChildren" in children[0]
 
 
-def test_other_methods(client: FlaskClient, mirror: Mirror) -> None:
+def test_other_methods(client: FlaskClient, mirror: Replica) -> None:
     (scheme,) = mirror.numbers("scheme")
     uri = mirror.iri(number(mirror, "Violins"))
     assert get(client, "/rest/v1/1/label", uri=uri, lang="de")["prefLabel"] == "Geigen"
@@ -266,7 +280,7 @@ def reconcile(client: FlaskClient, **queries: Any) -> dict[str, Any]:
     return {name: it["result"] for name, it in (answer.json or {}).items()}
 
 
-def test_manifest(client: FlaskClient, mirror: Mirror) -> None:
+def test_manifest(client: FlaskClient, mirror: Replica) -> None:
     found = get(client, "/reconcile")
     assert "0.2" in found["versions"] and found["identifierSpace"] == mirror.base
     assert {"name", "schemaSpace", "defaultTypes", "view", "preview", "suggest", "extend"} <= found.keys()
@@ -300,7 +314,7 @@ def test_an_exact_preferred_term_is_above_an_alternative_one_above_a_near_one(cl
     assert exact["type"][0]["id"] == "1"
 
 
-def test_queries_with_types_and_properties(client: FlaskClient, mirror: Mirror) -> None:
+def test_queries_with_types_and_properties(client: FlaskClient, mirror: Replica) -> None:
     asked: dict[str, Any] = {
         "query": "Bows",
         "type": "1",
@@ -316,7 +330,7 @@ def test_queries_with_types_and_properties(client: FlaskClient, mirror: Mirror) 
     assert (found["iri"][0]["score"], len(found["right"])) == (100.0, 1)
 
 
-def test_suggestions_preview_and_extension(client: FlaskClient, mirror: Mirror) -> None:
+def test_suggestions_preview_and_extension(client: FlaskClient, mirror: Replica) -> None:
     of = str(number(mirror, "Violins"))
     assert of in [it["id"] for it in get(client, "/reconcile/suggest/entity", prefix="viol")["result"]]
     assert get(client, "/reconcile/suggest/property", prefix="bro")["result"][0]["id"] == "broader"
@@ -327,13 +341,15 @@ def test_suggestions_preview_and_extension(client: FlaskClient, mirror: Mirror) 
     assert answer["rows"][of]["iri"] == [{"str": mirror.iri(int(of))}] and answer["rows"]["99999"]["broader"] == []
 
 
-@pytest.mark.parametrize("given", ["{", "[]", '{"a": 1}', '{"a": {"query": 7}}', "[" * 10_000])
+@pytest.mark.parametrize(
+    "given", ["{", "[]", '{"a": 1}', '{"a": {"query": []}}', '{"a": {"query": true}}', "[" * 10_000]
+)
 def test_malformed_queries(client: FlaskClient, given: str) -> None:
     answer = client.post("/reconcile", data={"queries": given})
     assert answer.status_code == 400 and "error" in (answer.json or {})
 
 
-def test_hostile_labels_are_escaped(mirror: Mirror) -> None:
+def test_hostile_labels_are_escaped(mirror: Replica) -> None:
     """Each form takes each character that a label may have."""
     from thesaurus_tools.ntriples import Iri, Literal, parse_ntriples
 
@@ -344,6 +360,120 @@ def test_hostile_labels_are_escaped(mirror: Mirror) -> None:
 
 
 # --- many, and hostile ---
+
+
+def large(count: int) -> OwnReplica:
+    """Returns a replica with two schemes, and a number of concepts with two terms in the first."""
+    numbers = range(3, count + 3)
+    labels = [(number, 1, "en", text) for number, text in ((1, "One"), (2, "Two"))]
+    for it in numbers:
+        labels.append((it, 1, "en", f"bowed {it % 97} strings {it}"))
+        labels.append((it, 2, "de", f"gestrichene {it % 89} Saiten {it}"))
+    return OwnReplica(
+        {
+            "meta": [(1, TABLES_VERSION, BASE)],
+            "resource": [*((it, 1, None, 1, None) for it in (1, 2)), *((it, 2, 1, 1, None) for it in numbers)],
+            "label": [(*it,) for it in labels],
+            "hier": [(it, 3 + (it - 3) // 20, 0) for it in numbers if it > 3],
+        }
+    )
+
+
+@pytest.fixture(scope="module")
+def many() -> FlaskClient:
+    """Answers about 3,000 concepts."""
+    mirror = large(3000)
+    app = Flask("publish")
+    app.register_blueprint(interfaces_of(Source(lambda: mirror)))
+    return app.test_client()
+
+
+def seconds(client: FlaskClient, **data: Any) -> tuple[float, int]:
+    """Returns how long an answer to a form takes, and its status."""
+    start = time.process_time()
+    answer = client.post("/reconcile", data={name: json.dumps(it) for name, it in data.items()})
+    return time.process_time() - start, answer.status_code
+
+
+@pytest.mark.parametrize(
+    ("data", "status"),
+    [
+        ({"queries": {"a": {"query": "st", "type": ["1"] * 4000}}}, 200),
+        ({"queries": {"a": {"query": "st", "type": [f"{n}" for n in range(4000)]}}}, 400),
+        ({"queries": {f"{n}": {"query": "st", "type": ["1", "2"] * 4} for n in range(200)}}, 200),
+        ({"queries": {f"{n}": {"query": f"{n} b s st g sa sai", "limit": 50} for n in range(200)}}, 200),
+        ({"extend": {"ids": [f"{n}" for n in range(1000)], "properties": [{"id": "narrower"}] * 700}}, 200),
+        ({"extend": {"ids": [f"{n}" for n in range(1001)], "properties": [{"id": "narrower"}]}}, 400),
+        ({"extend": {"ids": ["3"], "properties": [{"id": []}]}}, 400),
+        ({"extend": {"ids": ["3"], "properties": [{"id": "colour"}]}}, 400),
+    ],
+)
+def test_no_request_for_reconciliation_takes_long(many: FlaskClient, data: dict[str, Any], status: int) -> None:
+    """What is repeated is looked up once, and many queries share what they may cost. (It took 6 to 24 s.)"""
+    took, found = seconds(many, **data)
+    assert found == status and took < 2
+
+
+def test_whole_answers_are_made_once(monkeypatch: pytest.MonkeyPatch) -> None:
+    mirror = large(50)
+    source = Source(lambda: mirror)
+    app = Flask("publish")
+    app.register_blueprint(interfaces_of(source))
+    client, triples = app.test_client(), Source.triples
+    asked: list[int] = []
+
+    def count(self: Source, number: int) -> list[Triple]:
+        asked.append(number)
+        return triples(self, number)
+
+    monkeypatch.setattr(Source, "triples", count)
+    first = client.get("/export.nt")
+    made = len(asked)
+    again = client.get("/export.nt")
+    assert (first.text, made) == (again.text, 52) and len(asked) == made, "made once for this state"
+    assert int(again.headers["Content-Length"]) == len(again.data)
+    fresh = client.get("/export.nt", headers={"If-None-Match": first.headers["ETag"]})
+    assert (fresh.status_code, fresh.data) == (304, b"")
+    below = "/rest/v1/1/narrowerTransitive?uri=https://thesaurus.example/id/3"
+    one, two = client.get(below), client.get(below)
+    assert one.headers["ETag"] == two.headers["ETag"] and len((one.json or {})["narrowerTransitive"]) == 50
+    with contextlib.closing(sqlite3.connect(mirror.path, isolation_level=None)) as rows:
+        RowChanges(rows).make([["insert", "label", 3, 2, "en", "new"]])
+    changed = client.get("/export.nt", headers={"If-None-Match": first.headers["ETag"]})
+    assert changed.status_code == 200 and '"new"@en' in changed.text
+
+
+def test_who_waits_for_a_whole_answer_holds_no_place(monkeypatch: pytest.MonkeyPatch) -> None:
+    """While one is made, two may wait for it; others are told to come again."""
+    from thesaurus_desk.interfaces import whole_thesaurus
+
+    monkeypatch.setattr(whole_thesaurus, "PATIENCE", 60.0)
+    mirror = large(5)
+    app = Flask("publish")
+    app.register_blueprint(interfaces_of(Source(lambda: mirror)))
+    begun, may_end, answered = threading.Event(), threading.Event(), threading.Semaphore(0)
+    triples = Source.triples
+
+    def slow(self: Source, number: int) -> Any:
+        begun.set()
+        may_end.wait(60)
+        return triples(self, number)
+
+    monkeypatch.setattr(Source, "triples", slow)
+    statuses: list[int] = []
+
+    def ask() -> None:
+        statuses.append(app.test_client().get("/export.nt").status_code)
+        answered.release()
+
+    threads = [threading.Thread(target=ask) for _ in range(5)]
+    for it in threads:
+        it.start()
+    refused = [answered.acquire(timeout=30) for _ in range(2)]
+    may_end.set()
+    for it in threads:
+        it.join()
+    assert all(refused) and sorted(statuses) == [200, 200, 200, 503, 503]
 
 
 @pytest.mark.parametrize(
@@ -361,25 +491,27 @@ def test_hostile_labels_are_escaped(mirror: Mirror) -> None:
     ],
 )
 def test_queries_with_stars(query: str, text: str, is_found: bool) -> None:
-    assert is_match(query.split("*"), text) is is_found
+    assert has_parts(query.split("*"), text) is is_found
 
 
 def test_a_query_of_many_stars_takes_no_time() -> None:
     """A search holds the mirror, and so all pages."""
     start = time.process_time()
-    assert not is_match((f"{'*a' * 100}*b").split("*"), "a" * 256)
+    assert not has_parts((f"{'*a' * 100}*b").split("*"), "a" * 256)
     assert time.process_time() - start < 10
 
 
 def test_a_large_hierarchy_takes_no_time() -> None:
     """What is above or below a concept is found in a time that grows with its number alone."""
-    mirror = Mirror("https://thesaurus.example/id/")
-    apply(mirror, {"do": "scheme", "tag": "en", "text": "One"}, {"ok": 1})
     count = 20_000
-    for it in range(2, count + 2):
-        mirror.add_resource(Resource(it, "concept", 1))
-        if it > 2:
-            mirror.add_link(Link("broader", it, it - 1 if it % 3 else 2))
+    numbers = range(2, count + 2)
+    mirror = OwnReplica(
+        {
+            "meta": [(1, TABLES_VERSION, BASE)],
+            "resource": [(1, 1, None, 1, None), *((it, 2, 1, 1, None) for it in numbers)],
+            "hier": [(it, it - 1 if it % 3 else 2, 0) for it in numbers if it > 2],
+        }
+    )
     start = time.process_time()
     assert len(climb(mirror, 2, up=False)) == count
     assert time.process_time() - start < 5

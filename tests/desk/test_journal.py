@@ -13,19 +13,36 @@ from pathlib import Path
 from typing import Any
 
 import pytest
+from asking import assert_as_store, label, link, new
 from ports import free_port
-from thesaurus_desk.journal import Draft, Journal, Step, journal_of
-from thesaurus_desk.journal.checking import check
+from thesaurus_desk.journal import Accepted, Draft, Journal, Step, journal_of
+from thesaurus_desk.journal.consistency import check
 from thesaurus_desk.journal.history import Filter, History
-from thesaurus_desk.journal.tables import now
-from thesaurus_desk.mirror import read_mirror
-from thesaurus_desk.mirror.changes import apply
-from thesaurus_desk.performing import Desk
+from thesaurus_desk.journal.schema import now
+from thesaurus_desk.store.plan_execution import Desk, Outcome
 from thesaurus_tools.command_line import ToolError
+from thesaurus_tools.table_store import open_tables
+from whole import resources
 
 
 def note(owner: int, text: str) -> dict[str, Any]:
     return {"do": "addLabel", "owner": owner, "kind": "scope", "tag": "en", "text": text}
+
+
+def test_a_line_of_the_history_reads_its_own_steps(desk: Desk) -> None:
+    """What is shown of a resource's plans is what all their steps would show."""
+    made = desk.perform("anna", "test", [new(f"Concept {it}") for it in range(90)])
+    assert made.made is not None
+    first = made.made
+    edits = [label("addLabel", it, "alt", f"Number {first + 1} of {it}") for it in range(first, first + 60)]
+    links = [link("link", "related", first, first + 1), link("link", "broader", first + 1, 4)]
+    for requests in (edits, links, [{"do": "merge", "source": first, "target": first + 1}]):
+        assert desk.perform("anna", "test", requests).is_done
+    for number in (first, first + 1, first + 89, 4):
+        wanted = [[it for it in plan.steps if number in it.numbers] for plan in desk.history.recent(number=number)]
+        found = desk.journal.plans_about(number, 50)
+        assert [it.steps for it in found] == wanted and all(wanted)
+    assert [len(it.steps) for it in desk.journal.plans_about(first + 1, 50)] == [1, 2, 1, 1]
 
 
 def test_history(desk: Desk) -> None:
@@ -86,7 +103,6 @@ def test_all_that_was_changed_since(desk: Desk) -> None:
     with desk.journal.writing() as rows:
         rows.executemany("INSERT INTO concern VALUES (?, ?, 1)", [(number, plan) for number in range(1000, 3000)])
     assert len(desk.history.changed_since("2026")) == 2001
-    assert len(desk.history.changed_since("2026", 10)) == 10
 
 
 def lengthen(journal: Journal, count: int) -> None:
@@ -164,9 +180,8 @@ def test_a_form_made_during_a_plan(desk: Desk) -> None:
     step = Step(note(5, "Bowed."))
     plan = desk.journal.begin(Draft("ben", "note", [step]))
     mark = desk.seen.mark(5, "notes")
-    apply(desk.mirror, step.request, {"done": True})
     step.state = "done"
-    desk.journal.finish(plan, "done", [step], changed=[5])
+    desk.write(Outcome("done", [step], plan), set(), [["insert", "label", 5, 4, "en", "Bowed."]])
     conflict = desk.seen.conflict(mark)
     assert conflict and [(it.id, it.user) for it in conflict.plans] == [(plan, "ben")]
 
@@ -179,15 +194,15 @@ def test_csv(desk: Desk) -> None:
 
 
 def test_proposals(desk: Desk) -> None:
-    request = {"do": "relabel", "owner": 5, "tag": "en", "text": "Fiddles", "keep": True}
+    request = {"do": "relabel", "owner": 5, "tag": "en", "text": "Fiddles of old", "keep": True}
     number = desk.proposals.propose("ines", "rename", [request], "They say so.", 5)
     other = desk.proposals.propose("rudi", "in words", [], "A term for lutes is missing.")
     assert [it.id for it in desk.proposals.find(state="open")] == [other, number] and desk.proposals.count_open() == 2
     assert [it.id for it in desk.proposals.find(concept=5)] == [number]
     proposal = desk.proposals.get(number)
     assert proposal is not None and proposal.requests == [request]
-    outcome = desk.perform("anna", proposal.action, proposal.requests, proposer=proposal.user)
-    assert desk.proposals.decide(number, "accepted", "anna", "Thank you.", outcome.plan)
+    accepted = Accepted(number, proposal.user, "Thank you.")
+    outcome = desk.perform("anna", proposal.action, proposal.requests, accepted=accepted)
     assert not desk.proposals.decide(number, "declined", "ben")
     plan = desk.journal.plan(outcome.plan or 0)
     assert plan is not None and (plan.user, plan.proposer) == ("anna", "ines")
@@ -243,7 +258,7 @@ def test_check_finds_what_differs(desk: Desk) -> None:
         "posting 1 isn't withdrawn",
         f"number {made} is nothing, and no concept",
         "concept 6 was changed by other means",
-        f"resource {made} isn't there any more",
+        f"concept {made} isn't there any more",
         "was it restored from a backup?",
     ):
         assert what in found
@@ -285,7 +300,9 @@ def test_store_that_is_none(tmp_path: Path, open_desk: Callable[[Path], Desk]) -
     with pytest.raises(ToolError, match="text.db: not the store of a thesaurus"):
         open_desk(tmp_path / "text.db")
     desk = open_desk(tmp_path / "new.db")
-    assert desk.mirror.resources == {} and desk.perform("a", "x", [{"do": "scheme", "tag": "en", "text": "S"}]).is_done
+    assert (
+        resources(desk.replica) == {} and desk.perform("a", "x", [{"do": "scheme", "tag": "en", "text": "S"}]).is_done
+    )
 
 
 @pytest.mark.parametrize(
@@ -327,14 +344,14 @@ def test_full_disk(desk: Desk, monkeypatch: pytest.MonkeyPatch) -> None:
     limit = resource.getrlimit(resource.RLIMIT_FSIZE)
     # (the child was started before, so the limit is the desk's alone)
     desk.perform("anna", "note", [note(5, "Bowed.")])
-    before = desk.mirror.view(5)
+    before = desk.replica.view(5)
     resource.setrlimit(resource.RLIMIT_FSIZE, (4096, limit[1]))
     try:
         outcome = desk.perform("anna", "note", [note(5, "High.")])
     finally:
         resource.setrlimit(resource.RLIMIT_FSIZE, limit)
     assert (outcome.state, outcome.answer) == ("fault", {"fault": "Journal"})
-    assert desk.mirror.view(5) == before
+    assert desk.replica.view(5) == before
     finish = desk.journal.finish
 
     def full(*_: Any, **__: Any) -> None:
@@ -348,9 +365,9 @@ def test_full_disk(desk: Desk, monkeypatch: pytest.MonkeyPatch) -> None:
     assert desk.perform("anna", "note", [note(5, "Highest.")]).is_done
     plan = desk.journal.plan(outcome.plan or 0)
     assert plan is not None and plan.state == "done"
-    mirror = desk.mirror
+    assert_as_store(desk)
     desk.stop()
-    assert read_mirror(desk.db).resources == mirror.resources and check(desk.db) == []
+    assert check(desk.db) == []
 
 
 def test_full_disk_at_the_start(store: Path, open_desk: Callable[[Path], Desk]) -> None:
@@ -380,12 +397,12 @@ def test_full_disk_of_the_program(store: Path, program: str, open_desk: Callable
                 break
         assert outcomes[-1].state in ("fault", "lost")
         done = sum(it.is_done for it in outcomes)
-        view = desk.mirror.view(5)
+        view = desk.replica.view(5)
         assert view is not None and len(view.scope) == done
     finally:
         desk.stop()
-    fresh = read_mirror(store).view(5)
-    assert fresh is not None and len(fresh.scope) == done
+    with open_tables(store) as tables:
+        assert tables.execute("SELECT count(*) FROM label WHERE owner = 5 AND kind = 4").fetchone() == (done,)
     assert check(store) == []
 
 

@@ -18,17 +18,18 @@ import pytest
 from program import ROOT
 from test_lost_answers import PLANS
 from thesaurus_desk.journal import journal_of
-from thesaurus_desk.journal.checking import check
-from thesaurus_desk.journal.settling import BY_OTHERS
-from thesaurus_desk.performing import Desk
+from thesaurus_desk.journal.consistency import check
+from thesaurus_desk.journal.recovery import BY_OTHERS
+from thesaurus_desk.store.plan_execution import Desk
 from thesaurus_tools.program import is_in_use
+from whole import postings, resources
 
 CHANGE_NOTHING = ("posted before", "changes nothing", "refused")
 
 
-def run_killed(store: Path, program: str, plan: list[dict[str, Any]], point: str, number: int) -> None:
+def run_killed(store: Path, program: str, plan: list[dict[str, Any]] | str, point: str) -> None:
     """Runs a desk that is killed at a point, and waits until its program has ended, too."""
-    words = [str(ROOT / "tests/desk/killed_desk.py"), str(store), program, json.dumps(plan), point, str(number)]
+    words = [str(ROOT / "tests/desk/killed_desk.py"), str(store), program, json.dumps(plan), point]
     paths = os.pathsep.join(str(ROOT / it) for it in ("desk", "tools"))
     ran = subprocess.run([sys.executable, *words], env={**os.environ, "PYTHONPATH": paths}, check=False, timeout=300)
     assert ran.returncode == -signal.SIGKILL
@@ -38,17 +39,21 @@ def run_killed(store: Path, program: str, plan: list[dict[str, Any]], point: str
         time.sleep(0.01)
 
 
-@pytest.mark.parametrize("point", ["before", "after", "finish"])
-@pytest.mark.parametrize("name", PLANS)
+POINTS = ("before", "after", "finish")
+
+
+# (what is refused isn't sent)
+@pytest.mark.parametrize(
+    "name,point", [(name, point) for name in PLANS for point in POINTS if name != "refused" or point == "finish"]
+)
 def test_killed_in_a_plan(name: str, point: str, store: Path, program: str, open_desk: Callable[[Path], Desk]) -> None:
     desk = open_desk(store)
     assert desk.perform("anna", "test", [{"do": "post", "key": "k-1", "record": "Violin 1700", "concept": 5}]).is_done
-    assert desk.program.has_plans
-    counts = desk.mirror.counts()
-    before = {it: desk.mirror.view(it) for it in desk.mirror.resources}
+    counts = desk.replica.counts()
+    before = {it: desk.replica.view(it) for it in resources(desk.replica)}
     desk.stop()
     plan = PLANS[name]
-    run_killed(store, program, plan, point, 1)
+    run_killed(store, program, plan, point)
     again = open_desk(store)
     (settled,) = again.found.settled
     is_done = point != "before" and name not in CHANGE_NOTHING
@@ -57,8 +62,8 @@ def test_killed_in_a_plan(name: str, point: str, store: Path, program: str, open
     kept = again.journal.plan(settled.id)
     assert kept is not None and (kept.state, kept.note) == (settled.state, "settled by looking at the store")
     assert again.found.changed == () and again.found.restored is None
-    views = {it: again.mirror.view(it) for it in again.mirror.resources}
-    assert ((again.mirror.counts(), views) == (counts, before)) == (not is_done)
+    views = {it: again.replica.view(it) for it in resources(again.replica)}
+    assert ((again.replica.counts(), views) == (counts, before)) == (not is_done)
     if is_done:
         back = again.take_back(kept)
         assert not back.requests or again.perform_take_back("ben", back).is_done
@@ -69,52 +74,26 @@ def test_killed_in_a_plan(name: str, point: str, store: Path, program: str, open
     assert open_desk(store).found.settled == ()
 
 
-@pytest.mark.parametrize("point", ["before", "after"])
-@pytest.mark.parametrize("number", [2, 3])
-def test_killed_between_two_requests(
-    number: int, point: str, store: Path, program: str, open_desk: Callable[[Path], Desk]
-) -> None:
-    """Without plans those requests that were performed are taken back at the next start, and the journal says so."""
-    run_killed(store, program, PLANS["new concept"], point, number)
-    desk = open_desk(store)
-    (settled,) = desk.found.settled
-    done = number - (point == "before")
-    kept = desk.journal.plan(settled.id)
-    assert kept is not None and [it.state for it in kept.steps] == [it.state for it in settled.steps]
-    assert kept.state == settled.state == ("lost" if done < 3 else "done")
-    made = kept.steps[0].answer
-    assert made is not None and desk.mirror.is_live(made["ok"]) == (done == 3)
-    if done < 3:
-        assert [it.state for it in kept.steps] == ["undone"] * done + ["lost"] * (3 - done)
-        assert kept.taken_back_by is not None
-    assert desk.journal.open_plans() == []
-    desk.stop()
-    assert check(store) == []
-
-
-def do_nothing(*words: object, **named: object) -> None:
-    """What a killed desk does at the end of a plan."""
-
-
-def test_killed_in_an_import(
-    store: Path, program: str, open_desk: Callable[[Path], Desk], monkeypatch: pytest.MonkeyPatch
-) -> None:
-    """Only its own postings are known as the import's, also if it is the first that a journal has."""
+@pytest.mark.parametrize("point", ["before", "after", "finish"])
+def test_killed_in_an_import(point: str, store: Path, program: str, open_desk: Callable[[Path], Desk]) -> None:
+    """It is sent again at the next start: each row is posted once, and only its own postings are known as the import's,
+    also if it is the first that a journal has."""
     before = b'{"do":"post","key":"old","record":"Old","concept":5}\n'
     subprocess.run([program, "--db", str(store), "script"], input=before, stdout=subprocess.DEVNULL, check=True)
+    rows = "key,record,concept\n" + "k5,Record 5,5\nk6,Record 6,6\nno row\n"
+    run_killed(store, program, rows, point)
     desk = open_desk(store)
-    rows = b"key,record,concept\n" + b"".join(b"k%d,Record %d,5\n" % (it, it) for it in range(3))
-    with monkeypatch.context() as patch:
-        patch.setattr(desk.journal, "finish", do_nothing)
-        desk.bring_in("anna", rows, "rows.csv")
-    desk.program.stop()
-    desk.journal.close()
-    again = open_desk(store)
-    (settled,) = again.found.settled
-    assert settled.state == "done" and settled.steps[0].answer == {"outcomes": {}, "first": 2, "last": 4}
-    assert again.found.changed == ()
-    assert again.perform_take_back("ben", again.take_back(settled)).is_done
-    assert [it.key for it in again.mirror.postings.page_at(5)] == ["old"]
+    assert [it.key for it in postings(desk.replica)] == ["old", "k5", "k6"]
+    (plan,) = desk.history.recent()
+    assert plan.state == "done" and plan.steps[0].kept == {"places": [5, 6]} and desk.found.changed == ()
+    assert plan.steps[0].answer is not None
+    outcomes = {"BadShape": 1, "new" if point == "before" else "again": 2}
+    assert plan.steps[0].answer == {"outcomes": outcomes, "first": 2, "last": 3}
+    assert desk.journal.cut_imports() == desk.journal.open_plans() == []
+    assert desk.perform_take_back("ben", desk.take_back(plan)).is_done
+    assert [it.key for it in desk.replica.postings.page_at(5)] == ["old"]
+    desk.stop()
+    assert check(store) == []
 
 
 def test_changes_by_other_means(store: Path, program: str, open_desk: Callable[[Path], Desk]) -> None:

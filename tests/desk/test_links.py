@@ -4,7 +4,7 @@ from __future__ import annotations
 import pytest
 from asking import view
 from reader import Page, Reader
-from thesaurus_desk.performing import Desk
+from thesaurus_desk.store.plan_execution import Desk
 
 # Concepts of the sample.
 BOWED, VIOLINS, CELLOS, BOWS, HARPS = 4, 5, 7, 29, 11
@@ -40,13 +40,13 @@ def test_related_concepts_matches_and_collections_are_added(reader: Reader, desk
     link(reader, HARPS, "add-member", "Instruments of the string quartet")
     it = view(desk, HARPS)
     assert it.related == (CELLOS,)
-    matches = {kind: desk.mirror.iri(other) for kind, other in it.mappings}
+    matches = {kind: desk.replica.iri(other) for kind, other in it.mappings}
     assert matches["close"].endswith("Q47369") and matches["relMatch"].endswith("Q8355")
-    assert it.collections == tuple(desk.mirror.numbers("collection")[:1])
+    assert it.collections == tuple(desk.replica.numbers("collection")[:1])
 
 
 def test_members_of_a_collection(reader: Reader, desk: Desk) -> None:
-    collection = desk.mirror.numbers("collection")[0]
+    collection = desk.replica.numbers("collection")[0]
     link(reader, collection, "add-member", "Harps")
     assert HARPS in view(desk, collection).members
     reader.send(reader.get(f"/c/{collection}").form("remove-link", b=str(HARPS)))
@@ -64,8 +64,8 @@ def test_members_of_a_collection(reader: Reader, desk: Desk) -> None:
         (VIOLINS, "add-related", "Cello", "Did you mean one of these?", []),
         (VIOLINS, "add-related", "", "The field is empty", []),
         (VIOLINS, "add-match", "Cellos", "both belong to the thesaurus", [VIOLINS, CELLOS, 1]),
-        (VIOLINS, "add-match", "https:x y", "an address begins with https:// or http://", []),
-        (VIOLINS, "add-match", "www.wikidata.org/entity/Q8355", "an address begins with https:// or http://", []),
+        (VIOLINS, "add-match", "https:x y", "a URI begins with https:// or http://", []),
+        (VIOLINS, "add-match", "www.wikidata.org/entity/Q8355", "a URI begins with https:// or http://", []),
         (VIOLINS, "add-match", "Cello", "Did you mean one of these?", []),
     ],
 )
@@ -104,9 +104,9 @@ def test_a_link_gets_another_type(reader: Reader, desk: Desk) -> None:
 def test_an_untyped_link_beside_a_typed_one_is_shown_and_removed(reader: Reader, desk: Desk) -> None:
     link(reader, VIOLINS, "add-broader", "Bowed instruments", kind="broader")
     page = reader.get(f"/c/{VIOLINS}")
-    assert desk.mirror.link_types(VIOLINS, BOWED) == ("broader", "broaderGeneric") and "no type" in page.text
+    assert desk.replica.link_types(VIOLINS, BOWED) == ("broader", "broaderGeneric") and "no type" in page.text
     reader.send(page.form("remove-link", kind="broader", a=str(VIOLINS), b=str(BOWED)))
-    assert desk.mirror.link_types(VIOLINS, BOWED) == ("broaderGeneric",)
+    assert desk.replica.link_types(VIOLINS, BOWED) == ("broaderGeneric",)
 
 
 @pytest.mark.parametrize("kind", ["broaderGeneric", "related", "exact", "member", "broaderInstantial"])

@@ -12,10 +12,15 @@ import pytest
 from browsing import NARROW, Browser, browsing
 from clients import USERS, PASSWORD
 from looks import CONTRAST, STRUCTURE, TARGETS, WIDTH
+from other_vocabulary import broader, load, pref
 from processes import Running, running
 from selenium.webdriver.common.keys import Keys
+from thesaurus_desk.words import LANGUAGES
 
 pytestmark = [pytest.mark.needs("chromium", "chromedriver", "selenium"), pytest.mark.timeout(900)]
+# What another vocabulary has: concepts with the same labels below a common broader term, and two for one of ours.
+DUMP = "".join(pref(it, it.title()) + broader(it, "bowed") for it in ("violins", "cellos", "violas"))
+DUMP += pref("bowed", "Bowed instruments") + pref("octet", "violin") + "no line\n"
 POSTINGS = (("Violin, Jacob Stainer, Absam 1668", 5), ("W" * 120, 5), ("Lute", 12))
 # The pages that are looked at; those of forms are opened, too.
 PAGES = (
@@ -35,6 +40,9 @@ PAGES = (
         "/print/1?form=alphabetical&notes=1",
         "/print/4",
         "/keys",
+        "/help",
+        "/help/merge",
+        "/about",
         "/me",
         "/users",
         "/languages",
@@ -55,9 +63,17 @@ PAGES = (
         "/new?parent=5",
         "/record",
         "/record?name=Lute",
+        "/index",
+        "/index?record=Lute",
+        "/index/quality",
     ),
     *("/changes", "/changes/1/back", "/changed-since", "/proposals", "/propose", "/propose?concept=5", "/bring-in"),
-    *("/posting/1", "/c/5/records"),
+    "/as-table?of=/tree?format=csv",
+    *("/posting/1", "/c/5/records", "/fields", "/c/5?change=work", "/lists/work/candidates"),
+    *("/lists/field/definition", "/lists/ended-values", "/c/5?add=definition"),
+    *("/lists/undefined", "/lists/related_siblings", "/lists/single_child", "/quality", "/rights", "/for-me"),
+    "/propose?concept=5&kind=value-definition",
+    *("/mapping", "/mapping/1", "/mapping/1/c/5", "/mapping/1/same", "/mapping/1/changed"),
 )
 
 
@@ -70,6 +86,7 @@ def served(
     store, users = room / "museum.db", room / "users.json"
     store.write_bytes(instruments_store.read_bytes())
     users.write_bytes(users_file.read_bytes())
+    load(store, DUMP)
     with pytest.MonkeyPatch.context() as patch:
         patch.setenv("TZ", "CET-1CEST,M3.5.0,M10.5.0/3")
         with running("--db", store, "--users", users, "--program", program) as desk:
@@ -133,7 +150,7 @@ def test_the_page_on_which_one_comes_in(served: Running) -> None:
         for scheme in ("light", "dark"):
             browser.use_scheme(scheme)
             browser.go("/az")
-            assert browser.text("h1") == "Come in" and browser.run(STRUCTURE) == [] and browser.run(CONTRAST) == []
+            assert browser.text("h1") == "Sign in" and browser.run(STRUCTURE) == [] and browser.run(CONTRAST) == []
         browser.find("#login-name").send_keys("ben")
         browser.find("#login-password").send_keys("wrong")
         browser.sends(lambda: browser.press(Keys.ENTER))
@@ -144,9 +161,11 @@ def test_the_page_on_which_one_comes_in(served: Running) -> None:
         assert browser.driver.current_url.endswith("/az"), "one gets to the page that one asked for"
 
 
-def test_360_pixels(served: Running) -> None:
+@pytest.mark.parametrize("language", LANGUAGES)
+def test_360_pixels(served: Running, language: str) -> None:
     with browsing(root_of(served), NARROW) as browser:
         come_in(browser)
+        browser.go(f"/language?pages={language}&next=/")
         for path in PAGES:
             browser.go(path)
             assert browser.run(WIDTH) == [], path
@@ -179,7 +198,7 @@ def test_the_box_for_searches_stays_where_it_is(anna: Browser) -> None:
         "const it = document.getElementById('q').getBoundingClientRect(); return `${it.left} ${it.top} ${it.width}`"
     )
     places = {}
-    for path in ("/", "/tree", "/az", "/c/5", "/keys", "/changes", "/bring-in", "/users", "/lists", "/search?q=x"):
+    for path in ("/tree", "/az", "/c/5", "/keys", "/changes", "/bring-in", "/users", "/lists", "/search?q=x"):
         anna.go(path)
         places[path] = anna.run(script)
     assert len(set(places.values())) == 1, places
@@ -203,7 +222,7 @@ def test_without_script(served: Running) -> None:
         assert "results for" in browser.text("h1")
         browser.go("/me")
         browser.sends(browser.find("form[action='/logout'] button").click)
-        assert browser.text("h1") == "Come in"
+        assert browser.text("h1") == "Sign in"
 
 
 def test_suggestions_by_keyboard(anna: Browser) -> None:
@@ -270,7 +289,7 @@ def test_keys(anna: Browser) -> None:
     anna.sends(lambda: anna.press_letter("t"))
     assert anna.driver.current_url.endswith("/tree?at=5")
     anna.sends(lambda: anna.press_letter("?"))
-    assert anna.text("h1") == "Keys"
+    assert anna.driver.current_url.endswith("/help/tree") and anna.text("h1") == "Tree"
     anna.press(Keys.TAB)
     assert anna.focused().get_attribute("class") == "skip", "the first key leads to the link to the content"
     anna.press(Keys.ENTER)
@@ -318,3 +337,35 @@ def test_the_scripts_find_what_they_look_for(anna: Browser) -> None:
         assert anna.run(script) != [], markup
         anna.go("/keys")
     assert USERS["anna"] == "head"
+
+
+def test_a_candidate_without_script_on_a_narrow_page(served: Running) -> None:
+    with browsing(root_of(served), NARROW, is_scripted=False) as browser:
+        come_in(browser)
+        browser.go("/c/12")
+        browser.sends(browser.find("a#at-work").click)
+        form = browser.find("form[action='/c/12/work']")
+        form.find_element("css selector", "option[value=candidate]").click()
+        form.find_element("name", "task").send_keys("Look at its " + "very " * 20 + "long strings")
+        browser.sends(form.find_element("css selector", "button.main").click)
+        assert "Status: candidate" in browser.text(".work") and "The public" in browser.text(".work")
+        for path in (
+            "/c/12",
+            "/c/12?change=work",
+            "/tree?at=12",
+            "/lists/work/candidates",
+            "/c/11",
+            "/print/4?candidates=1",
+        ):
+            browser.go(path)
+            assert browser.run(WIDTH) == [] and browser.run(CONTRAST) == [], path
+            assert "candidate" in browser.text(), path
+        with browsing(root_of(served)) as other:
+            other.go("/c/12")
+            assert "Status" not in other.text()
+        browser.go("/c/12?change=work")
+        form = browser.find("form[action='/c/12/work']")
+        form.find_element("css selector", "option[value=approved]").click()
+        form.find_element("name", "task").clear()
+        browser.sends(form.find_element("css selector", "button.main").click)
+        assert "Status: approved" in browser.text(".work")

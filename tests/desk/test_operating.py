@@ -11,7 +11,7 @@ import sys
 from pathlib import Path
 
 import pytest
-from clients import PASSWORD
+from clients import PASSWORD, Site
 from processes import DESK, run_desk, running
 
 ROOT = Path(__file__).resolve().parents[2]
@@ -32,6 +32,29 @@ def test_what_the_documents_have() -> None:
         ["--db", "museum.db"],
     ]
     assert [it[:2] for it in commands_of("README.md")] == [["--db", "sample.db"]]
+
+
+@pytest.mark.parametrize("path", ["/reconcile", "/rest/v1/1/data", "/export.nt", "/export.ttl", "/search", "/print/4"])
+def test_nginx_bounds_what_takes_long(path: str) -> None:
+    """How often, and how many at a time."""
+    text = (ROOT / "share/nginx-desk.conf").read_text(encoding="utf-8")
+    places = re.findall(r"^    location ~ (\S+) \{\n(.*?)^    \}", text, re.M | re.S)
+    (found,) = (rules for pattern, rules in places if re.match(pattern, path))
+    assert "limit_req " in found and "limit_conn " in found
+
+
+def test_the_unit_bounds_memory() -> None:
+    assert re.search(r"^MemoryMax=\d+", (ROOT / "share/thesaurus-desk@.service").read_text(encoding="utf-8"), re.M)
+
+
+def test_sign_ins_are_logged(site: Site, caplog: pytest.LogCaptureFixture) -> None:
+    """The page's command finds wrong passwords, and nothing else; no password is logged."""
+    (pattern,) = re.findall("--grep '(.*)'", (ROOT / "docs/OPERATING.md").read_text(encoding="utf-8"))
+    for password in (PASSWORD, "another password"):
+        site.client().post("/login", {"name": "anna", "password": password})
+    said = [it.getMessage() for it in caplog.records]
+    assert [re.sub("from .*", "from", it) for it in said] == ["sign-in: in: 'anna' from", "sign-in: wrong: 'anna' from"]
+    assert [it for it in said if re.search(pattern, it)] == said[1:]
 
 
 def test_no_password_at_a_terminal(tmp_path: Path) -> None:

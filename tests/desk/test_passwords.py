@@ -1,18 +1,25 @@
 """Passwords and the users' file: wrong ones are slowed down, nobody locks a colleague out, the file is private."""
 from __future__ import annotations
 
+import hashlib
 import json
 import re
 import threading
 from pathlib import Path
+from typing import Any
 
 import pytest
 from clients import PASSWORD, USERS, Client, Site, text_of
-from thesaurus_desk.entry import limits
-from thesaurus_desk.entry.accounts import AccountError, Accounts, fault_of_name
-from thesaurus_desk.entry.passwords import fault_of, hash_password, is_right
-from thesaurus_desk.entry.roles import Role
+from thesaurus_desk.auth import limits, passwords
+from thesaurus_desk.auth.accounts import AccountError, Accounts, fault_of_name
+from thesaurus_desk.auth.passwords import fault_of, hash_password, is_right
+from thesaurus_desk.auth.roles import Role
 from thesaurus_tools.command_line import ToolError
+
+# What a password costs, as it is without the tests' own fixture.
+COST = passwords.ROUNDS, passwords.BLOCK, passwords.LANES
+# The seconds after which something that should come never came, also on a machine that has other things to do.
+PATIENCE = 60.0
 
 
 class Clock:
@@ -20,7 +27,7 @@ class Clock:
 
     now = 1000.0
 
-    def monotonic(self) -> float:
+    def time(self) -> float:
         return self.now
 
 
@@ -39,11 +46,23 @@ def try_password(client: Client, name: str, password: str = "wrong", address: st
 
 
 def test_hashes() -> None:
+    assert COST == (32768, 8, 3), "as OWASP's cheat sheet on password storage has it"
     hashed = hash_password("a long one")
-    assert hashed.startswith("scrypt$32768$") and hashed != hash_password("a long one") and "a long one" not in hashed
+    assert (
+        hashed.startswith(f"scrypt${passwords.ROUNDS}$3$")
+        and hashed != hash_password("a long one")
+        and "a long one" not in hashed
+    )
     assert is_right("a long one", hashed) and not is_right("a long one ", hashed) and not is_right("", hashed)
     for broken in ("", "x", "scrypt$1$2$3", "scrypt$32768$zz$00", "$$$"):
         assert not is_right("a long one", broken)
+
+
+def test_hashes_of_an_earlier_version() -> None:
+    """They have one lane, and no number of lanes."""
+    salt = b"s" * 16
+    old = f"scrypt$16${salt.hex()}${hashlib.scrypt(b'a long one', salt=salt, n=16, r=8, p=1, dklen=32).hex()}"
+    assert is_right("a long one", old) and not is_right("another one", old)
 
 
 @pytest.mark.parametrize("password", ["short", "x" * 1025, "aaaaaaaaaaaaa", "somebody here"])
@@ -61,11 +80,80 @@ def test_wrong_passwords_are_slowed_down(site: Site, clock: Clock) -> None:
     assert try_password(client, "ben") == 403
     waits = []
     for _ in range(12):
-        waits.append(site.entry.limits.wait("192.0.2.1", "x"))
-        site.entry.limits.note("192.0.2.1", "x")
+        waits.append(site.entry.limits.try_one("192.0.2.1", "x"))
+        if waits[-1]:
+            clock.now += waits[-1]
+            assert site.entry.limits.try_one("192.0.2.1", "x") == 0
     assert waits == [0, 0, 0, 0, 1, 2, 4, 8, 16, 32, 60, 60]
     clock.now += limits.MEMORY + 1
-    assert site.entry.limits.wait("192.0.2.1", "x") == 0
+    assert site.entry.limits.try_one("192.0.2.1", "x") == 0
+
+
+def test_guesses_at_once_are_slowed_down(site: Site, monkeypatch: pytest.MonkeyPatch) -> None:
+    """Each is counted before it is compared, so it doesn't matter that none has an answer yet."""
+    may_end, answered = threading.Event(), threading.Semaphore(0)
+
+    def compare(name: str, password: str) -> None:
+        may_end.wait(PATIENCE)
+
+    monkeypatch.setattr(site.entry.accounts, "check", compare)
+    statuses: list[int] = []
+
+    def guess(client: Client, token: str) -> None:
+        client.http.environ_base["REMOTE_ADDR"] = "192.0.2.1"
+        statuses.append(client.post("/login", {"name": "ben", "password": "wrong"}, token=token).status_code)
+        answered.release()
+
+    clients = [site.client() for _ in range(limits.FREE_FOR_NAME + 3)]
+    threads = [threading.Thread(target=guess, args=(it, it.token())) for it in clients]
+    for it in threads:
+        it.start()
+    refused = [answered.acquire(timeout=PATIENCE / 10) for _ in range(3)]
+    may_end.set()
+    for it in threads:
+        it.join()
+    assert all(refused) and sorted(statuses) == [403] * limits.FREE_FOR_NAME + [429] * 3
+
+
+def test_guesses_from_one_network_of_ipv6(site: Site) -> None:
+    """Who has an address of IPv6 usually has all that begin so."""
+    found = [try_password(site.client(), "ben", address=f"2001:db8:1:2::{n:x}") for n in range(1, 7)]
+    assert found == [403] * limits.FREE_FOR_NAME + [429] * 2
+    assert try_password(site.client(), "ben", address="2001:db8:1:3::1") == 403
+    mapped = [try_password(site.client(), "ina", address=it) for it in ("::ffff:192.0.2.7", "192.0.2.7")]
+    assert mapped == [403, 403] and site.entry.limits.failures[("192.0.2.7", "ina")].count == 2
+
+
+def test_a_full_gate_holds_up_nobody(site: Site, monkeypatch: pytest.MonkeyPatch) -> None:
+    """As many passwords are hashed as may be at once: the next are refused at once, and not counted as wrong."""
+    monkeypatch.setattr(passwords, "GATE", threading.Semaphore(0))
+    client, ben, anna = site.client(), site.client("ben"), site.client("anna")
+    new = {"old": PASSWORD, "new": "another one, long", "again": "another one, long"}
+    answers: list[Any] = []
+
+    def send() -> None:
+        for _ in range(limits.FREE_FOR_NAME + 2):
+            answers.append(client.post("/login", {"name": "ben", "password": PASSWORD}))
+        answers.append(anna.post("/users", {"do": "password", "name": "ina", "password": "another one, long"}))
+
+    thread = threading.Thread(target=send, daemon=True)
+    thread.start()
+    thread.join(PATIENCE)
+    assert not thread.is_alive(), "it waits"
+    assert {(it.status_code, it.headers.get("Retry-After")) for it in answers} == {(429, "1")}
+    assert ben.post("/me/password", new).status_code == 422
+    monkeypatch.undo()
+    assert try_password(client, "ben", PASSWORD) == 303
+
+
+def test_the_lock_of_the_users_file_is_no_link(users: Path) -> None:
+    """Root, who adds a user, would make and open what it leads to."""
+    elsewhere = users.parent / "elsewhere"
+    users.with_name(f"{users.name}.lock").unlink(missing_ok=True)
+    users.with_name(f"{users.name}.lock").symlink_to(elsewhere)
+    with pytest.raises(ToolError, match="symbolic link"):
+        Accounts(users).end_sessions("ben")
+    assert not elsewhere.exists()
 
 
 def test_nobody_locks_a_colleague_out(site: Site) -> None:
@@ -114,7 +202,7 @@ def test_failures_take_bounded_memory(monkeypatch: pytest.MonkeyPatch) -> None:
     monkeypatch.setattr(limits, "MOST_KEPT", 50)
     kept = limits.Limits()
     for number in range(500):
-        kept.note(f"address {number}", "name")
+        kept.try_one(f"address {number}", "name")
     assert len(kept.failures) <= 52
 
 
@@ -130,7 +218,7 @@ def test_the_head_sees_who_came_in(site: Site) -> None:
     try_password(site.client(), "<b>nobody</b>")
     try_password(site.client(), "ben", PASSWORD)
     page = site.client("anna").get("/users")
-    assert "&lt;b&gt;nobody" in page.text and "wrong password" in page.text and "came in" in page.text
+    assert "&lt;b&gt;nobody" in page.text and "wrong password" in page.text and "signed in" in page.text
 
 
 # --- the file ---
@@ -219,7 +307,7 @@ def test_the_page_of_users(site: Site) -> None:
     new = {"do": "add", "name": "zoë o'neil", "role": "indexer", "password": "a secret that is long"}
     answer = anna.post("/users", new)
     assert answer.status_code == 303
-    assert "zoë o'neil may come in now, as: indexer." in text_of(anna.get(answer.headers["Location"]))
+    assert "zoë o'neil may sign in now, as: indexer." in text_of(anna.get(answer.headers["Location"]))
     assert site.client().post("/login", {"name": "zoë o'neil", "password": new["password"]}).status_code == 303
     zoe = site.client("zoë o'neil")
     for sent, said in (
@@ -238,8 +326,8 @@ def test_refusals_on_the_page_of_users(site: Site) -> None:
     for sent, said in (
         ({"do": "add", "name": "ben", "role": "reader", "password": PASSWORD}, "There is a user ben already."),
         ({"do": "add", "name": "new", "role": "reader", "password": "short"}, "at least 10 characters"),
-        ({"do": "remove", "name": "anna"}, "No head would be left"),
-        ({"do": "role", "name": "anna", "role": "reader"}, "No head would be left"),
+        ({"do": "remove", "name": "anna"}, "No administrator would be left"),
+        ({"do": "role", "name": "anna", "role": "reader"}, "No administrator would be left"),
     ):
         answer = anna.post("/users", sent)
         assert answer.status_code == 422 and said in text_of(answer), sent

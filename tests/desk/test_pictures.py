@@ -31,7 +31,7 @@ def take_pictures(hand: Hand, out: Path) -> None:
     hand.press("Or type or paste records")
     hand.fill("Rows of records", POSTINGS)
     hand.press("Import")
-    hand.sees("12 postings are new.")
+    hand.sees("12 indexings are new.")
     hand.open("/c/5")
     hand.press("Add a related term")
     hand.fill("Term", "str")

@@ -7,13 +7,13 @@ import re
 import pytest
 from asking import label, link, view
 from reader import Form, Page, Reader, strip
-from thesaurus_desk.performing import Desk
+from thesaurus_desk.store.plan_execution import Desk
 
 STRINGS, BOWED, VIOLINS, VIOLAS, CELLOS, PLUCKED, HARPS, BOWS, FIDDLES = 3, 4, 5, 6, 7, 9, 11, 29, 31
 
 
 def number_of(desk: Desk, term: str) -> int:
-    return desk.mirror.named(term, ("concept", "collection", "scheme"), True)[0].number
+    return desk.replica.named(term, ("concept", "collection", "scheme"), True)[0].number
 
 
 # --- new ---
@@ -54,7 +54,7 @@ def test_a_new_concept_that_is_alike(reader: Reader, desk: Desk) -> None:
     assert page.status == 409 and form.invalid == {"text"} and form.value("text") == "VIOLÍNS"
     assert f"/c/{VIOLINS}" in page.links() and "differs in case or accents alone" in form.text
     assert reader.send(form, ("then", "see"), sure="1").status == 200
-    assert len(desk.mirror.named("violins")) == 2
+    assert len(desk.replica.named("violins")) == 2
 
 
 @pytest.mark.parametrize(
@@ -72,12 +72,12 @@ def test_a_new_concept_that_is_alike(reader: Reader, desk: Desk) -> None:
 def test_a_new_concept_that_is_refused(
     reader: Reader, desk: Desk, fields: dict[str, str], field: str, part: str
 ) -> None:
-    before = len(desk.mirror.numbers("concept"))
+    before = len(desk.replica.numbers("concept"))
     page = reader.send(reader.get("/new").form("new"), ("then", "see"), **fields)
     form = page.form("new")
     assert page.status == 409 and part in form.text and form.invalid == {field}
     assert all(form.value(name) == text for name, text in fields.items())
-    assert len(desk.mirror.numbers("concept", live=True)) == before
+    assert len(desk.replica.numbers("concept", live=True)) == before
 
 
 @pytest.mark.parametrize(
@@ -108,7 +108,7 @@ def test_new_collections_and_schemes(reader: Reader, desk: Desk) -> None:
     reader.send(reader.get("/new/collection").form("new"), text="On show in room 12")
     reader.send(reader.get("/new/scheme").form("new"), text="Places")
     scheme = number_of(desk, "Places")
-    assert desk.mirror.kind(scheme) == "scheme"
+    assert desk.replica.kind(scheme) == "scheme"
     assert view(desk, number_of(desk, "On show in room 12")).scheme == 1
     reader.send(reader.get("/new").form("new"), ("then", "see"), scheme=str(scheme), text="Paris")
     assert view(desk, number_of(desk, "Paris")).scheme == scheme
@@ -116,14 +116,15 @@ def test_new_collections_and_schemes(reader: Reader, desk: Desk) -> None:
 
 @pytest.mark.parametrize("what", ["collection", "scheme"])
 def test_a_form_for_a_new_one_sent_twice(reader: Reader, desk: Desk, what: str) -> None:
-    """A second one of the same name is made only if it is meant."""
+    """It is led to what it made; another form makes a second one of the same name only if that is meant."""
     form = reader.get(f"/new/{what}").form("new")
-    before = len(desk.mirror.numbers(what))
-    for status, count in ((200, 1), (409, 1)):
-        page = reader.send(form, text="Places")
-        assert page.status == status and len(desk.mirror.numbers(what)) == before + count
+    before = len(desk.replica.numbers(what))
+    first, again = (reader.send(form, text="Places") for _ in range(2))
+    assert (again.status, again.path) == (200, first.path) and len(desk.replica.numbers(what)) == before + 1
+    page = reader.send(reader.get(f"/new/{what}").form("new"), text="Places")
+    assert page.status == 409 and len(desk.replica.numbers(what)) == before + 1
     assert "There is one of this name already" in page.text
-    assert reader.send(page.form("new"), sure="1").status == 200 and len(desk.mirror.numbers(what)) == before + 2
+    assert reader.send(page.form("new"), sure="1").status == 200 and len(desk.replica.numbers(what)) == before + 2
 
 
 def test_a_concept_of_another_thesaurus_is_only_a_match(reader: Reader, desk: Desk) -> None:
@@ -132,7 +133,7 @@ def test_a_concept_of_another_thesaurus_is_only_a_match(reader: Reader, desk: De
     reader.send(reader.get("/new").form("new"), ("then", "see"), scheme=scheme, text="Paris")
     paris = number_of(desk, "Paris")
     page = reader.send(reader.get(f"/c/{HARPS}").form("add-related"), other="Paris", other_number=str(paris))
-    assert page.status == 409 and "Between two thesauri there are only matches" in page.form("add-related").text
+    assert page.status == 409 and "Between two thesauri there are only mappings" in page.form("add-related").text
     reader.send(reader.get(f"/c/{HARPS}").form("add-match"), other="Paris", kind="close")
     assert ("close", paris) in view(desk, HARPS).mappings and ("close", HARPS) in view(desk, paris).mappings
     reader.send(reader.get(f"/c/{paris}").form("remove-link", kind="close"))
@@ -162,7 +163,7 @@ def test_a_move_counts_what_moves_with_it(reader: Reader) -> None:
 def test_a_concept_gets_one_more_place(reader: Reader, desk: Desk) -> None:
     move(reader, VIOLINS, other="Plucked instruments", **{"from": "", "kind": "broaderPartitive"})
     assert view(desk, VIOLINS).broader == (BOWED, PLUCKED)
-    assert desk.mirror.link_types(VIOLINS, PLUCKED) == ("broaderPartitive",)
+    assert desk.replica.link_types(VIOLINS, PLUCKED) == ("broaderPartitive",)
 
 
 def test_several_concepts_are_moved_as_one(reader: Reader, desk: Desk) -> None:
@@ -281,9 +282,9 @@ def compare(reader: Reader, source: int, other: str) -> Page:
 def test_a_merge_shows_what_will_happen_and_does_it(reader: Reader, desk: Desk) -> None:
     reader.send(reader.get(f"/c/{FIDDLES}").form("post"), record="Fiddle 1800")
     page = compare(reader, FIDDLES, "Violins")
-    assert "1 record moves to Violins." in page.text and "“Fiedeln” (de) becomes an alternative term" in page.text
+    assert "1 record moves to Violins." in page.text and "“Fiedeln” (de) becomes a non-preferred term" in page.text
     assert "broader term (generic) Bowed instruments is there already" in page.text
-    assert "related term Violins is dropped: it is the link between the two" in page.text
+    assert "related term Violins is dropped: it is the relationship between the two" in page.text
     other = compare(reader, VIOLINS, "Fiddles").text
     assert "collection Instruments of the string quartet moves" in other and "member Instruments" not in other
     form = page.form("merge")
@@ -302,9 +303,9 @@ def test_a_merge_shows_what_becomes_of_the_terms_of_each_language(reader: Reader
     page = compare(reader, FIDDLES, "Violins")
     plan = page.form("merge").text
     assert (
-        "Nederlands nl “Vedels” (nl) becomes an alternative term Violins has no preferred term in Nederlands." in plan
+        "Nederlands nl “Vedels” (nl) becomes a non-preferred term Violins has no preferred term in Nederlands." in plan
     )
-    assert "français fr “Vielles” (fr) becomes an alternative term" in plan
+    assert "français fr “Vielles” (fr) becomes a non-preferred term" in plan
     assert plan.count("has no preferred term") == 1
     assert plan.index("English") < min(map(plan.index, ("Deutsch", "français", "Nederlands")))
     page = reader.send(page.form("merge"), sure="1")
@@ -358,7 +359,7 @@ def test_a_split_with_ticks_on_several_pages(reader: Reader, desk: Desk) -> None
     page = reader.send(page.form("split"), posting=["7"])
     it = view(desk, number_of(desk, "Nordic fiddles"))
     assert it.postings == 101 and view(desk, VIOLINS).postings == 149 and it.typed == (("broaderGeneric", VIOLINS),)
-    assert 7 in desk.mirror.postings.numbers_at(it.number) and 3 not in desk.mirror.postings.numbers_at(it.number)
+    assert 7 in desk.replica.postings.numbers_at(it.number) and 3 not in desk.replica.postings.numbers_at(it.number)
 
 
 def test_a_split_by_a_filter(reader: Reader, desk: Desk) -> None:
@@ -366,7 +367,7 @@ def test_a_split_by_a_filter(reader: Reader, desk: Desk) -> None:
     form = reader.get(f"/c/{VIOLINS}/split").form("split")
     page = reader.send(form, filter="violin 001")
     assert (
-        desk.mirror.postings.count_at(VIOLINS) == 120 and "Violin 0019" in page.text and "Violin 0020" not in page.text
+        desk.replica.postings.count_at(VIOLINS) == 120 and "Violin 0019" in page.text and "Violin 0020" not in page.text
     )
     page = reader.send(page.form("split"), ("tick", "all"))
     page = reader.send(page.form("split"), text="Early ones", place="beside", related="1")
@@ -392,7 +393,7 @@ def test_a_split_that_is_refused_keeps_its_ticks(reader: Reader, desk: Desk) -> 
     page = reader.send(reader.get(f"/c/{VIOLINS}/split").form("split"), text="Fiddles", posting=["2"])
     form = page.form("split")
     assert page.status == 409 and form.invalid == {"text"} and form.values("posting") == ["2"]
-    assert "Fiddles has the preferred term" in form.text and desk.mirror.postings.count_at(VIOLINS) == 3
+    assert "Fiddles has the preferred term" in form.text and desk.replica.postings.count_at(VIOLINS) == 3
 
 
 def test_an_empty_split_has_no_place(reader: Reader, desk: Desk) -> None:

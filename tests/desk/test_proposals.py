@@ -4,14 +4,17 @@ from __future__ import annotations
 import re
 import sqlite3
 import time
+from collections.abc import Callable
 from concurrent.futures import ThreadPoolExecutor
+from pathlib import Path
 from typing import Any
 
 import pytest
-from clients import Client, Site, hold_up_once, text_of
+from clients import Client, Site, hold_up_once, site_of, text_of
 from reader import read_page
 from test_changes import number, perform
-from thesaurus_desk.performing import Outcome
+from thesaurus_desk.store.plan_execution import Desk, Outcome
+from thesaurus_tools.values import set_request
 
 
 @pytest.fixture
@@ -46,7 +49,7 @@ def test_an_accepted_term_is_there_under_both_names(site: Site, rita: Client) ->
     assert "Folk violins" in text_of(ben.get("/proposals")) and "Visitors say so." in text_of(ben.get("/proposals"))
     assert rita.post(f"/proposals/{made}/accept", {"form": "accept"}).status_code == 403
     assert ben.post(f"/proposals/{made}/accept", {"form": "accept", "word": "Thanks"}).status_code == 303
-    view = site.desk.mirror.view(violins)
+    view = site.desk.replica.view(violins)
     assert view and ("en", "Folk violins") in view.alt
     page = text_of(ben.get("/changes"))
     assert "proposed by rita" in page and "ben" in page
@@ -58,7 +61,7 @@ def test_a_preferred_term_keeps_the_old_one(site: Site, rita: Client) -> None:
     violins = number(site, "Violins")
     made = propose(rita, concept=str(violins), kind="pref", text="Violins and others")
     site.client("anna").post(f"/proposals/{made}/accept", {"form": "accept"})
-    view = site.desk.mirror.view(violins)
+    view = site.desk.replica.view(violins)
     assert view and ("en", "Violins and others") in view.pref and ("en", "Violins") in view.alt
     page = re.sub(r"<[^>]*>", "", rita.get(f"/proposals/{made}").text)
     assert "“Violins” (en) renamed to “Violins and others” (en)" in page
@@ -68,7 +71,7 @@ def test_a_new_concept_below(site: Site, rita: Client) -> None:
     violins = number(site, "Violins")
     made = propose(rita, concept=str(violins), kind="concept", text="Baroque violins")
     site.client("anna").post(f"/proposals/{made}/accept", {"form": "accept"})
-    view = site.desk.mirror.view(number(site, "Baroque violins"))
+    view = site.desk.replica.view(number(site, "Baroque violins"))
     assert view and view.broader == (violins,)
 
 
@@ -78,7 +81,7 @@ def test_a_new_top_concept_and_a_link(site: Site, rita: Client) -> None:
     lyres, harps = number(site, "Lyres"), number(site, "Harps")
     made = propose(rita, concept=str(lyres), kind="related", other="Harps", other_number=str(harps))
     assert site.client("anna").post(f"/proposals/{made}/accept", {"form": "accept"}).status_code == 303
-    view = site.desk.mirror.view(lyres)
+    view = site.desk.replica.view(lyres)
     assert view and view.is_top and view.related == (harps,)
 
 
@@ -100,14 +103,51 @@ def test_an_editor_changes_the_text(site: Site, rita: Client) -> None:
     assert 'name="text" value="Volk violins"' in ben.get(f"/proposals/{made}").text
     sent = {"form": "accept", "text": " Folk  violins "}
     assert ben.post(f"/proposals/{made}/accept", sent).status_code == 303
-    view = site.desk.mirror.view(violins)
+    view = site.desk.replica.view(violins)
     assert view and ("en", "Folk violins") in view.alt and ("en", "Volk violins") not in view.alt
     page = text_of(rita.get(f"/proposals/{made}"))
     assert "Folk violins" in page and "Proposed was “Volk violins”." in page
     below = propose(rita, concept=str(violins), kind="concept", text="Hardanger fiddle")
     ben.post(f"/proposals/{below}/accept", {"form": "accept", "text": "Hardanger fiddles"})
-    made_one = site.desk.mirror.view(number(site, "Hardanger fiddles"))
+    made_one = site.desk.replica.view(number(site, "Hardanger fiddles"))
     assert made_one and made_one.broader == (violins,)
+
+
+def test_a_definition_is_proposed_and_accepted_with_changes(site: Site, rita: Client) -> None:
+    """With its line breaks and its source; another one in its place, too."""
+    violins, ben = number(site, "Violins"), site.client("ben")
+    assert f"/propose?concept={violins}&amp;kind=value-definition" in rita.get(f"/c/{violins}").text
+    sent = {"concept": str(violins), "kind": "value-definition", "source": "Grove"}
+    made = propose(rita, **sent, text="A bowed\r\ninstrumnt. ")
+    page = ben.get(f"/proposals/{made}").text
+    assert '<p class="note lines" dir="auto">A bowed\ninstrumnt.</p>' in page
+    ben.post(f"/proposals/{made}/accept", {"form": "accept", "text": "A bowed\r\ninstrument."})
+    (value,) = site.desk.values.held(violins, "definition")
+    assert (value.tag, value.text, value.source) == ("en", "A bowed\ninstrument.", "Grove")
+    assert "proposed by rita" in text_of(ben.get("/changes"))
+    again = f"/propose?concept={violins}&amp;kind=value-definition&amp;value={value.id}"
+    assert again in rita.get(f"/c/{violins}").text
+    form = rita.get(again.replace("&amp;", "&")).text
+    assert ">A bowed\ninstrument.</textarea>" in form and 'value="Grove"' in form
+    made = propose(rita, **sent, text="Smallest of its family.", value=str(value.id))
+    assert "changed from" in text_of(ben.get(f"/proposals/{made}"))
+    ben.post(f"/proposals/{made}/accept", {"form": "accept"})
+    assert [it.text for it in site.desk.values.held(violins, "definition")] == ["Smallest of its family."]
+
+
+def test_what_would_be_refused_of_a_value(site: Site, rita: Client) -> None:
+    violins, violas = number(site, "Violins"), number(site, "Violas")
+    assert site.desk.perform("anna", "x", [set_request(violas, "notation", "", new="321")]).is_done
+    about = {"form": "propose", "reason": "So it is.", "concept": str(violins), "tag": "en"}
+    for more, said in (
+        ({"kind": "value-notation", "text": "321"}, "already has the notation"),
+        ({"kind": "value-definition", "text": " "}, "Write what you propose."),
+        ({"kind": "value-definition", "text": "x", "value": "999"}, "was changed meanwhile"),
+        ({"kind": "alt", "text": "x", "source": "Grove"}, "has no source of its own"),
+    ):
+        answer = rita.post("/propose", {**about, **more})
+        assert answer.status_code == 409 and said in " ".join(text_of(answer).split()), more
+    assert rita.post("/propose", {**about, "kind": "value-colour", "text": "x"}).status_code == 400
 
 
 def test_a_decision_has_the_name_of_who_decided(site: Site, rita: Client) -> None:
@@ -195,7 +235,8 @@ def test_what_a_proposal_has_no_use_for_is_kept(site: Site, rita: Client, kind: 
     asked = {"form": "propose", "concept": str(number(site, "Harps")), "kind": kind, "reason": "r", "tag": "en", **sent}
     answer = rita.post("/propose", asked)
     assert answer.status_code == 409 and f'id="propose-{field}-why"' in answer.text
-    assert f'name="{field}"' in answer.text and 'value="Drums"' in answer.text
+    is_kept = 'value="Drums"' in answer.text or ">Drums</textarea>" in answer.text
+    assert f'name="{field}"' in answer.text and is_kept
     assert site.desk.proposals.count_open() == 0
 
 
@@ -269,7 +310,10 @@ def test_a_proposal_about_a_concept_that_has_ended(site: Site, rita: Client) -> 
     fiddles = number(site, "Fiddles")
     perform(site, {"do": "merge", "source": fiddles, "target": number(site, "Violins")})
     asked = {"form": "propose", "reason": "They say so.", "concept": str(fiddles), "kind": "alt", "tag": "en"}
-    for concept, part in ((str(fiddles), "Fiddles was merged into Violins"), ("999", "No concept has the number 999")):
+    for concept, part in (
+        (str(fiddles), "Fiddles was merged into Violins"),
+        ("999", "No concept has the identifier 999"),
+    ):
         answer = rita.post("/propose", {**asked, "concept": concept, "text": "Folk fiddles"})
         (form,) = [it for it in read_page(answer.text).forms if it.name == "propose"]
         assert answer.status_code == 409 and part in form.text
@@ -385,3 +429,65 @@ def test_editors_see_what_waits(site: Site, rita: Client) -> None:
     assert "waits for an answer" not in text_of(rita.get("/"))
     page = site.client("ben").get("/proposals")
     assert "Is this right?" in page.text and 'href="/c/5#comments"' in page.text
+
+
+def test_a_proposal_that_was_performed_but_not_closed(
+    site: Site, rita: Client, open_desk: Callable[[Path], Desk], users: Path, monkeypatch: pytest.MonkeyPatch
+) -> None:
+    """The next start closes it, and its author is told: the desk was killed after the program had answered."""
+    desk, violins = site.desk, number(site, "Violins")
+    made = propose(rita, concept=str(violins), kind="alt", text="Folk violins")
+
+    def die(*given: Any, **named: Any) -> None:
+        raise SystemExit("killed")
+
+    monkeypatch.setattr(desk.journal, "finish", die)
+    with pytest.raises(SystemExit):
+        site.client("ben").post(f"/proposals/{made}/accept", {"form": "accept", "word": "Thanks"})
+    monkeypatch.undo()
+    found = desk.proposals.get(made)
+    assert found and found.state == "open"
+    desk.stop()
+    again = site_of(open_desk(desk.db), users)
+    assert ("en", "Folk violins") in again.desk.replica.view(violins).alt  # type: ignore[union-attr]
+    found = again.desk.proposals.get(made)
+    assert found and (found.state, found.decided_by, found.word) == ("accepted", "ben", "Thanks") and found.plan
+    assert [it.id for it in again.desk.proposals.unread("rita")] == [made]
+    assert "Thanks" in text_of(again.client("rita").get("/proposals"))
+
+
+def test_a_proposal_that_was_performed_while_the_journal_could_not_be_written(
+    site: Site, rita: Client, monkeypatch: pytest.MonkeyPatch
+) -> None:
+    """It isn't performed again: it is closed as soon as the disk has room."""
+    made, finish = propose(rita, concept=str(number(site, "Violins")), kind="alt", text="Folk violins"), []
+    its, ben = site.desk.journal.finish, site.client("ben")
+
+    def full(*given: Any, **named: Any) -> None:
+        finish.append(given)
+        if len(finish) == 1:
+            raise sqlite3.OperationalError("database or disk is full")
+        its(*given, **named)
+
+    monkeypatch.setattr(site.desk.journal, "finish", full)
+    assert ben.post(f"/proposals/{made}/accept", {"form": "accept"}).status_code == 303
+    assert ben.post(f"/proposals/{made}/accept", {"form": "accept"}).status_code == 303
+    found = site.desk.proposals.get(made)
+    assert found and found.state == "accepted" and len(site.desk.history.recent()) == 1
+
+
+def test_what_was_changed_since_a_proposal_was_looked_at(site: Site, rita: Client) -> None:
+    """The editor sees it before the proposal is performed over it."""
+    violins, ben = number(site, "Violins"), site.client("ben")
+    made = propose(rita, concept=str(violins), kind="pref", text="Violins and others")
+    renamed = {"do": "relabel", "owner": violins, "tag": "en", "text": "Violins of all kinds", "keep": False}
+    last = perform(site, renamed, user="anna")
+    perform(site, {"do": "addLabel", "owner": violins, "kind": "scope", "tag": "en", "text": "Bowed."}, user="anna")
+    answer = ben.post(f"/proposals/{made}/accept", {"form": "accept"})
+    page = text_of(answer)
+    assert answer.status_code == 409 and "changed again after what you have seen" in page
+    assert "Changed since it was proposed" in page and "Violins of all kinds" in page and "Bowed." not in page
+    assert f'name="last" value="{last}"' in answer.text
+    assert ben.post(f"/proposals/{made}/accept", {"form": "accept", "last": str(last)}).status_code == 303
+    view = site.desk.replica.view(violins)
+    assert view and ("en", "Violins and others") in view.pref

@@ -4,11 +4,12 @@ from __future__ import annotations
 from pathlib import Path
 
 import pytest
+from flask import Request
 from clients import PASSWORD, Client, Site
-from thesaurus_desk.entry.accounts import Accounts
-from thesaurus_desk.entry.roles import Role
-from thesaurus_desk.entry.ways import ByPassword, ByProxy, Proxy
-from thesaurus_desk.performing import Desk
+from thesaurus_desk.auth.accounts import Accounts
+from thesaurus_desk.auth.authentication import ByPassword, ByProxy, Proxy
+from thesaurus_desk.auth.roles import Role
+from thesaurus_desk.store.plan_execution import Desk
 
 SECRET = "a secret of the server in front"
 
@@ -45,6 +46,30 @@ def test_without_the_secret(named: Site, secret: str) -> None:
     for path in ("/", "/az", "/login", "/static/desk.css", "/users", "/nothing"):
         assert Sender(named, "anna", secret).get(path)[0] == 421, path
     assert Sender(named, "anna", secret).post("/users", {"do": "remove", "name": "ben"}) == 421
+
+
+def test_groups(desk: Desk, users: Path) -> None:
+    """They count for those alone whom the users' file doesn't have, and the highest one does."""
+    site = Site(desk, ByProxy(Accounts(users), Proxy(SECRET), {"Redaktion": Role.EDITOR, "all": Role.READER}))
+    cases = {
+        ("zoe", "all, Redaktion"): ("zoe", Role.EDITOR),
+        ("zoe", "all,other"): ("zoe", Role.READER),
+        ("rita", "Redaktion"): ("rita", Role.READER),
+        ("zoe", "other,redaktion,all2"): ("", Role.VISITOR),
+        ("", "all"): ("", Role.VISITOR),
+        ("#1", "all"): ("", Role.VISITOR),
+    }
+    for (name, groups), wanted in cases.items():
+        fields = {"X-Remote-User": name, "X-Remote-Groups": groups}
+        environment = {f"HTTP_{it.upper().replace('-', '_')}": value for it, value in fields.items()}
+        found = site.entry.person(Request(environment), None)
+        assert (found.name, found.role) == wanted, (name, groups)
+    assert Sender(site, "zoe").get("/me", X_Remote_Groups="all")[0] == 200
+    assert Sender(site, "zoe", "x").get("/me", X_Remote_Groups="all")[0] == 421
+
+
+def test_groups_mean_nothing_otherwise(named: Site) -> None:
+    assert Sender(named, "zoe").get("/me", X_Remote_Groups="all")[0] == 303
 
 
 def test_names_and_roles(named: Site) -> None:
@@ -93,13 +118,13 @@ def test_addresses_by_the_server_in_front(desk: Desk, users: Path) -> None:
         sender = Sender(site)
         token = sender.get("/login")[1].partition('name="token" value="')[2][:32]
         sender.client.post("/login", {"name": "ben", "password": "x"}, token=token, **sender.fields)
-    assert site.entry.limits.wait("203.0.113.9", "ben") > 0
-    assert site.entry.limits.wait("127.0.0.1", "ben") == 0
+    assert site.entry.limits.try_one("203.0.113.9", "ben") > 0
+    assert site.entry.limits.try_one("127.0.0.1", "ben") == 0
 
 
 def test_nobody_sends_an_address_or_a_name_without_it(site: Site) -> None:
     for number in range(9):
         fields = {"X-Real-IP": f"203.0.113.{number}", "X-Forwarded-For": f"203.0.113.{number}"}
         site.client().post("/login", {"name": "ben", "password": "x"}, **fields)
-    assert site.entry.limits.wait("127.0.0.1", "ben") > 0
+    assert site.entry.limits.try_one("127.0.0.1", "ben") > 0
     assert site.client().get("/me", X_Remote_User="anna").status_code == 303

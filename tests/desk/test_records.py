@@ -1,10 +1,13 @@
 """Records: indexed, re-indexed and withdrawn, at a concept, at the record, and many at once."""
 from __future__ import annotations
 
+import re
+
 import pytest
-from reader import Reader
-from thesaurus_desk.mirror import Posting
-from thesaurus_desk.performing import Desk
+from clients import Site, text_of
+from reader import Reader, read_page
+from thesaurus_desk.store.model import Posting
+from thesaurus_desk.store.plan_execution import Desk
 
 BOWED, VIOLINS, VIOLAS, FIDDLES = 4, 5, 6, 31
 STAINER = "Violin, Jacob Stainer, Absam 1668"
@@ -16,7 +19,7 @@ def post_many(desk: Desk, count: int, concept: int = VIOLINS) -> None:
 
 
 def standing(desk: Desk, record: str) -> list[Posting]:
-    return [it for it in desk.mirror.postings.of_record(record) if not it.is_withdrawn]
+    return [it for it in desk.replica.postings.of_record(record) if not it.is_withdrawn]
 
 
 def test_a_record_is_indexed_at_a_concept(reader: Reader, desk: Desk) -> None:
@@ -24,10 +27,10 @@ def test_a_record_is_indexed_at_a_concept(reader: Reader, desk: Desk) -> None:
     assert "not the inventory number" in form.text
     page = reader.send(form, record=STAINER)
     assert STAINER in page.text and "1 record" in page.text
-    assert "Posting 1" in page.text and form.value("key") not in page.text
+    assert "Indexing 1" in page.text and form.value("key") not in page.text
     assert reader.get(f"/search?q={form.value('key')}").path == "/posting/1"
     assert standing(desk, STAINER)[0].key == form.value("key")
-    page = reader.send(form, record=STAINER)
+    page = reader.send(reader.get(f"/c/{VIOLINS}").form("post"), record=STAINER)
     assert page.status == 409 and "is already indexed with Violins" in page.form("post").text
     assert page.form("post").invalid == {"record"}
 
@@ -46,7 +49,7 @@ def test_a_record_that_is_refused(reader: Reader, desk: Desk, fields: dict[str, 
     page = reader.send(reader.get(f"/c/{VIOLINS}").form("post"), **fields)
     form = page.form("post")
     assert page.status == 409 and part in form.text and form.invalid == {field}
-    assert form.value("record") == fields["record"] and desk.mirror.postings.count_at(VIOLINS) == 0
+    assert form.value("record") == fields["record"] and desk.replica.postings.count_at(VIOLINS) == 0
 
 
 def test_a_key_that_no_field_shows(reader: Reader, desk: Desk) -> None:
@@ -62,9 +65,9 @@ def test_a_key_that_no_field_shows(reader: Reader, desk: Desk) -> None:
 def test_a_record_is_withdrawn_at_a_concept(reader: Reader, desk: Desk) -> None:
     post_many(desk, 2)
     page = reader.send(reader.get(f"/c/{VIOLINS}").form("withdraw", posting="1"))
-    assert "Violin 0001" in page.text and desk.mirror.postings.count_at(VIOLINS) == 1
-    stale = page.form("withdraw", posting="2")
-    reader.send(stale)
+    assert "Violin 0001" in page.text and desk.replica.postings.count_at(VIOLINS) == 1
+    stale = reader.get(f"/c/{VIOLINS}").form("withdraw", posting="2")
+    reader.send(page.form("withdraw", posting="2"))
     page = reader.send(stale)
     assert page.status == 409 and "has been withdrawn" in page.alerts
 
@@ -103,7 +106,7 @@ def test_records_in_pages_with_those_below(reader: Reader, desk: Desk) -> None:
     assert f"/c/{BOWED}?with=below&amp;page=2#records" in page.links()
     for path, count in ((f"/c/{VIOLINS}/records.csv", 250), (f"/c/{BOWED}/records.csv?with=below", 250)):
         heading, *rows = reader.get(path).html.splitlines()
-        assert heading == "\ufeffKey,record,number,term" and len(rows) == count
+        assert heading == "\ufeffKey,record,identifier,term" and len(rows) == count
         assert rows[0] == f"k-0,Violin 0000,{VIOLINS},Violins"
     assert reader.get("/c/1/records.csv").status == 404
 
@@ -165,7 +168,7 @@ def test_ticked_records_are_re_indexed_as_one(reader: Reader, desk: Desk) -> Non
     assert "Move records to another concept…" in reader.get(f"/c/{VIOLINS}").text
     page = reader.send(reader.get(f"/c/{VIOLINS}/records").form("reindex"), ("go", "1"), posting=["5"])
     page = reader.send(page.form("reindex"), ("do", "ticked"), posting=["120"], other="Violas")
-    assert desk.mirror.postings.count_at(VIOLINS) == 148 and desk.mirror.postings.count_at(VIOLAS) == 2
+    assert desk.replica.postings.count_at(VIOLINS) == 148 and desk.replica.postings.count_at(VIOLAS) == 2
     assert [it.place for it in standing(desk, "Violin 0004")] == [VIOLAS]
     assert len(desk.history.recent()[0].steps) == 4 and page.path == f"/c/{VIOLINS}/records"
 
@@ -174,14 +177,14 @@ def test_all_records_are_re_indexed(reader: Reader, desk: Desk) -> None:
     post_many(desk, 150)
     reader.send(reader.get("/record?name=Violin 0007").form("add"), other="Violas")
     page = reader.send(reader.get(f"/c/{VIOLINS}/records").form("reindex"), ("do", "all"), other="Violas")
-    assert page.path == f"/c/{VIOLINS}" and desk.mirror.postings.count_at(VIOLINS) == 0
-    assert desk.mirror.postings.count_at(VIOLAS) == 150 and len(standing(desk, "Violin 0007")) == 1
+    assert page.path == f"/c/{VIOLINS}" and desk.replica.postings.count_at(VIOLINS) == 0
+    assert desk.replica.postings.count_at(VIOLAS) == 150 and len(standing(desk, "Violin 0007")) == 1
 
 
 def test_ticked_records_are_withdrawn(reader: Reader, desk: Desk) -> None:
     post_many(desk, 3)
     reader.send(reader.get(f"/c/{VIOLINS}/records").form("reindex"), ("do", "withdraw"), posting=["1", "3"])
-    assert desk.mirror.postings.numbers_at(VIOLINS) == [2]
+    assert desk.replica.postings.numbers_at(VIOLINS) == [2]
 
 
 @pytest.mark.parametrize(
@@ -199,5 +202,38 @@ def test_what_is_refused_for_many(
     post_many(desk, 2)
     page = reader.send(reader.get(f"/c/{VIOLINS}/records").form("reindex"), ("do", do), **fields)
     form = page.form("reindex")
-    assert page.status == 409 and part in form.text and desk.mirror.postings.count_at(VIOLINS) == 2
+    assert page.status == 409 and part in form.text and desk.replica.postings.count_at(VIOLINS) == 2
     assert form.values("posting") == fields.get("posting", [])
+
+
+def test_an_unknown_term_is_proposed(site: Site) -> None:
+    """An indexer who types one sees those that are spelled alike, and proposes it with the record as the reason."""
+    ina = site.client("ina")
+    answer = ina.post("/record/add", {"form": "add", "record": "Harp 7", "other": "Violnis", "key": "k-1"})
+    page = text_of(answer)
+    assert answer.status_code == 409 and "Did you mean one of these" in page
+    assert re.search(r'name="chosen" value="5"', answer.text) and "If none fits, propose" in page
+    (path,) = re.findall(r'href="(/propose\?[^"]*)"', answer.text)
+    (form,) = [it for it in read_page(ina.get(path.replace("&amp;", "&")).text).forms if it.name == "propose"]
+    assert [form.value(it) for it in ("kind", "text")] == ["concept", "Violnis"]
+    assert form.value("reason") == "for the record Harp 7"
+    assert ina.post("/propose", dict(form.fields), token=None).status_code == 303
+    assert [it.user for it in site.desk.proposals.find(state="open")] == ["ina"]
+    known = ina.post("/record/add", {"form": "add", "record": "Harp 7", "other": "", "key": "k-1"})
+    assert known.status_code == 409 and "/propose?" not in known.text
+
+
+def test_the_members_of_a_collection_are_removed_at_once(site: Site) -> None:
+    """The collection itself stays, and its page says so."""
+    desk, ben = site.desk, site.client("ben")
+    (collection,) = desk.replica.numbers("collection")
+    members = desk.replica.view(collection).members  # type: ignore[union-attr]
+    page = ben.get(f"/c/{collection}")
+    assert len(members) > 1 and "nothing removes it" in text_of(page)
+    (form,) = [it for it in read_page(page.text).forms if it.name == "remove-members"]
+    answer = ben.post(form.action, dict(form.fields))
+    assert answer.status_code == 303 and not desk.replica.view(collection).members  # type: ignore[union-attr]
+    plan = desk.journal.last_plan()
+    assert ben.post(f"/changes/{plan}/back", {}).status_code == 303
+    assert desk.replica.view(collection).members == members  # type: ignore[union-attr]
+    assert "remove-members" not in site.client("ina").get(f"/c/{collection}").text

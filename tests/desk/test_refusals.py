@@ -7,18 +7,18 @@ from typing import Any
 import pytest
 from markupsafe import Markup
 from program import ROOT
-from thesaurus_desk.mirror import Mirror
-from thesaurus_desk.mirror.changes import apply
-from thesaurus_desk.refusals import EXPLAIN, explain
-from thesaurus_desk.refusals.forms import HTTP_NAMES
-from thesaurus_desk.sentences import WRITERS, sentence_of
+from made_replica import MadeReplica
+from thesaurus_desk.store.replica import Replica
+from thesaurus_desk.web.refusals import EXPLAIN, explain, values
+from thesaurus_desk.web.refusals.forms import HTTP_NAMES
+from thesaurus_desk.web.request_text import WRITERS, sentence_of
 from thesaurus_desk.words import LANGUAGES, Words, texts_of
 
 # Names that plans over HTTP and scripts have, and texts that no name of the program needs.
 OF_PLANS = {"BadReference"}
 OF_SCRIPTS = {"TooLong"}
 # Faults of the desk itself.
-OF_DESK = {"Journal", "Busy"}
+OF_DESK = {"Journal", "JournalReplaced", "Busy", "Closed", "Replaced", "StoreReplaced", *values.EXPLAIN}
 OWN = {"Http", "Other", "Lost", "Unknown", "Step", "Choice", "Row"}
 REQUESTS: list[tuple[dict[str, Any], dict[str, Any]]] = [
     ({"do": "scheme", "tag": "en", "text": "Instruments"}, {"ok": 1}),
@@ -43,7 +43,7 @@ REQUESTS: list[tuple[dict[str, Any], dict[str, Any]]] = [
 class PlainLinks:
     """Links as the name and the number of a resource."""
 
-    def __init__(self, mirror: Mirror):
+    def __init__(self, mirror: Replica):
         self.mirror = mirror
 
     def term(self, number: int) -> str:
@@ -55,17 +55,23 @@ class PlainLinks:
     def new(self, reference: str) -> Markup:
         return Markup()
 
+    def elsewhere(self, iri: str) -> str:
+        return iri
+
+    def field(self, name: str) -> str:
+        return name
+
+    def candidate_above(self, number: int) -> int | None:
+        return None
+
     def returned(self, number: int) -> int | None:
         return None
 
 
 @pytest.fixture(scope="module")
-def mirror() -> Mirror:
-    """A small mirror."""
-    made = Mirror("https://thesaurus.example/id/")
-    for request, answer in REQUESTS:
-        apply(made, request, answer)
-    return made
+def mirror() -> Replica:
+    """A small replica."""
+    return MadeReplica(*(request for request, _ in REQUESTS))
 
 
 def documented_names() -> set[str]:
@@ -97,16 +103,21 @@ def test_each_text_of_refusals_has_a_name() -> None:
 
 # A request, the name with which it is refused, what is said of it, and the resources to which it leads.
 CASES: list[tuple[dict[str, Any], str, str, list[int]]] = [
-    ({"do": "addLabel", "owner": 99, "kind": "alt", "tag": "en", "text": "x"}, "UnknownResource", "the number 99", []),
+    (
+        {"do": "addLabel", "owner": 99, "kind": "alt", "tag": "en", "text": "x"},
+        "UnknownResource",
+        "the identifier 99",
+        [],
+    ),
     ({"do": "link", "kind": "related", "a": 3, "b": 1}, "WrongKind", "is a thesaurus, and a concept is needed", [1]),
     ({"do": "outside", "iri": "https://thesaurus.example/id/3"}, "WrongKind", "Choose the concept itself", [3]),
-    ({"do": "addLabel", "owner": 7, "kind": "alt", "tag": "en", "text": "x"}, "WrongKind", "outside concept", [7]),
+    ({"do": "addLabel", "owner": 7, "kind": "alt", "tag": "en", "text": "x"}, "WrongKind", "external concept", [7]),
     ({"do": "link", "kind": "related", "a": 4, "b": 2}, "NotLive", "was merged into", [4, 3]),
     ({"do": "link", "kind": "related", "a": 9, "b": 2}, "NotLive", "nothing replaces it", [9]),
     ({"do": "link", "kind": "related", "a": 3, "b": 3}, "SameResource", "linked with itself", [3]),
     ({"do": "merge", "source": 3, "target": 3}, "SameResource", "merged into itself", [3]),
-    ({"do": "link", "kind": "related", "a": 3, "b": 6}, "OtherScheme", "there are only matches", [3, 1, 6, 5]),
-    ({"do": "link", "kind": "exact", "a": 3, "b": 2}, "OtherScheme", "A match leads to another thesaurus", [3, 2, 1]),
+    ({"do": "link", "kind": "related", "a": 3, "b": 6}, "OtherScheme", "there are only mappings", [3, 1, 6, 5]),
+    ({"do": "link", "kind": "exact", "a": 3, "b": 2}, "OtherScheme", "A mapping leads to another thesaurus", [3, 2, 1]),
     ({"do": "link", "kind": "member", "a": 8, "b": 6}, "OtherScheme", "Choose a collection of", [8, 1, 6, 5]),
     ({"do": "addLabel", "owner": 3, "kind": "alt", "tag": "en", "text": "Geigen"}, "LabelThere", "already has", [3]),
     ({"do": "dropLabel", "owner": 3, "kind": "alt", "tag": "en", "text": "x"}, "NoSuchLabel", "no longer has", [3]),
@@ -117,14 +128,19 @@ CASES: list[tuple[dict[str, Any], str, str, list[int]]] = [
         "Rename it",
         [3],
     ),
-    ({"do": "addLabel", "owner": 3, "kind": "pref", "tag": "en", "text": "Geigen"}, "S13", "alternative term of", [3]),
+    (
+        {"do": "addLabel", "owner": 3, "kind": "pref", "tag": "en", "text": "Geigen"},
+        "S13",
+        "non-preferred term of",
+        [3],
+    ),
     ({"do": "addLabel", "owner": 3, "kind": "alt", "tag": "en", "text": "Violins"}, "S13", "preferred term of", [3]),
     ({"do": "addLabel", "owner": 3, "kind": "pref", "tag": "en", "text": "x"}, "S14", "Violins", [3]),
     ({"do": "concept", "scheme": 1, "tag": "EN", "text": "Violins"}, "PreferredTaken", "Use that concept", [3]),
     ({"do": "link", "kind": "broaderGeneric", "a": 3, "b": 2}, "LinkThere", "already linked", [2, 3]),
     ({"do": "unlink", "kind": "related", "a": 3, "b": 2}, "NoSuchLink", "no longer linked", [2, 3]),
     ({"do": "deprecate", "concept": 3}, "HasPostings", "1 record is indexed with", [3]),
-    ({"do": "withdraw", "posting": 12}, "UnknownPosting", "the number 12", []),
+    ({"do": "withdraw", "posting": 12}, "UnknownPosting", "the identifier 12", []),
     ({"do": "withdraw", "posting": 2}, "Withdrawn", "Violin 1700", []),
     ({"do": "split", "source": 2, "tag": "en", "text": "x", "postings": [1]}, "NotAtSource", "Violin 1668", [2, 3]),
     ({"do": "split", "source": 3, "tag": "en", "text": "x", "postings": [1, 1]}, "ListedTwice", "listed twice", []),
@@ -134,7 +150,7 @@ CASES: list[tuple[dict[str, Any], str, str, list[int]]] = [
     ({"do": "addLabel", "owner": 3, "kind": "alt", "tag": "en", "text": ""}, "BadText", "The field is empty", []),
     ({"do": "addLabel", "owner": 3, "kind": "alt", "tag": "en", "text": "é" * 129}, "BadText", "one character too", []),
     ({"do": "addLabel", "owner": 3, "kind": "scope", "tag": "en", "text": "é" * 1003}, "BadText", "is 3 char", []),
-    ({"do": "outside", "iri": "x"}, "BadIri", "“x” isn’t an address", []),
+    ({"do": "outside", "iri": "x"}, "BadIri", "“x” isn’t a URI", []),
     ({"do": "outside", "iri": "http://www.wikidata.org/entity/Q8355"}, "OutsideKnown", "is known already", [7]),
     ({"do": "post", "key": "a b", "record": "x", "concept": 3}, "BadKey", "“a b” can’t be a key", []),
     ({"do": "post", "key": "k", "record": "", "concept": 3}, "BadRecord", "Write the name", []),
@@ -145,7 +161,7 @@ CASES: list[tuple[dict[str, Any], str, str, list[int]]] = [
 
 @pytest.mark.parametrize(("request_", "name", "part", "linked"), CASES, ids=[f"{it[1]}-{it[0]['do']}" for it in CASES])
 def test_refusal_says_what_is_so_and_with_whom(
-    mirror: Mirror, request_: dict[str, Any], name: str, part: str, linked: list[int]
+    mirror: Replica, request_: dict[str, Any], name: str, part: str, linked: list[int]
 ) -> None:
     answer = {"bad" if name.startswith("Bad") else "no": name, "number": 7}
     said = str(explain(answer, request_, mirror, Words("en"), PlainLinks(mirror)))
@@ -155,7 +171,7 @@ def test_refusal_says_what_is_so_and_with_whom(
 
 
 @pytest.mark.parametrize("language", LANGUAGES)
-def test_hostile_texts_are_only_texts(mirror: Mirror, language: str) -> None:
+def test_hostile_texts_are_only_texts(mirror: Replica, language: str) -> None:
     evil = '<script>alert("1")</script>{0}'
     request = {"do": "concept", "scheme": 1, "tag": "en", "text": evil}
     said = str(explain({"no": "PreferredTaken"}, request, mirror, Words(language), PlainLinks(mirror)))
@@ -165,13 +181,16 @@ def test_hostile_texts_are_only_texts(mirror: Mirror, language: str) -> None:
 
 
 @pytest.mark.parametrize("language", LANGUAGES)
-def test_each_request_is_a_sentence(mirror: Mirror, language: str) -> None:
+def test_each_request_is_a_sentence(mirror: Replica, language: str) -> None:
     extra: list[tuple[dict[str, Any], dict[str, Any]]] = [
         ({"do": "split", "source": 3, "tag": "en", "text": "x", "postings": [1]}, {"ok": 99, "moved": 1}),
         ({"do": "relabel", "owner": 3, "tag": "en", "text": "x", "keep": True}, {"done": True}),
         ({"do": "dropLabel", "owner": 3, "kind": "alt", "tag": "en", "text": "x"}, {"done": True}),
         ({"do": "unlink", "kind": "member", "a": 8, "b": 3}, {"done": True}),
         ({"do": "import", "name": "x.csv", "rows": 3}, {"outcomes": {"new": 2, "KeyReused": 1}, "first": 1, "last": 2}),
+        ({"do": "set", "owner": 3, "field": "definition", "tag": "en", "old": None, "new": "A lute"}, {"done": True}),
+        ({"do": "set", "owner": 3, "field": "notation", "tag": "", "old": "1", "new": "2"}, {"done": True}),
+        ({"do": "set", "owner": 3, "field": "notation", "tag": "", "old": "2", "new": None}, {"done": True}),
     ]
     seen = set()
     for request, answer in REQUESTS + extra:
@@ -182,12 +201,12 @@ def test_each_request_is_a_sentence(mirror: Mirror, language: str) -> None:
     assert seen == set(WRITERS)
 
 
-def test_sentences_name_what_was_done(mirror: Mirror) -> None:
+def test_sentences_name_what_was_done(mirror: Replica) -> None:
     def said(request: dict[str, Any], answer: dict[str, Any]) -> str:
         return Markup(sentence_of(request, answer, mirror, Words("en"), PlainLinks(mirror))).striptags()
 
     alt = {"do": "addLabel", "owner": 3, "kind": "alt", "tag": "en", "text": "Geigen"}
-    assert said(alt, {"done": True}) == "Violins: alternative term “Geigen” (en) added"
+    assert said(alt, {"done": True}) == "Violins: non-preferred term “Geigen” (en) added"
     assert (
         said({"do": "merge", "source": 4, "target": 3}, {"moved": 1})
         == "Fiddles: merged into Violins, and 1 record moved"
@@ -198,9 +217,9 @@ def test_sentences_name_what_was_done(mirror: Mirror) -> None:
     assert said(twice, {"ok": 77, "moved": 2}).endswith("and 1 record given to the new concept “Nordic” (en)")
     brought = {"do": "import", "name": "x.csv", "sha256": "0", "rows": 4}
     came = {"outcomes": {"new": 1, "KeyReused": 1, "BadKey": 2}, "first": 7, "last": 7}
-    assert said(brought, came) == "posting file x.csv: 1 indexed, 3 refused"
-    assert said(brought, {"outcomes": {}}) == "posting file x.csv: 4 rows"
-    assert said(brought, {"outcomes": {}, "first": 7, "last": 9}) == "posting file x.csv: 3 indexed"
+    assert said(brought, came) == "indexing file x.csv: 1 indexed, 3 refused"
+    assert said(brought, {"outcomes": {}}) == "indexing file x.csv: 4 rows"
+    assert said(brought, {"outcomes": {}, "first": 7, "last": 9}) == "indexing file x.csv: 3 indexed"
     reference = {"do": "link", "kind": "broader", "a": "$1", "b": 3}
     assert said(reference, {"done": True}) == "the new concept: broader term Violins added"
 
@@ -219,14 +238,13 @@ MERGES: list[tuple[list[tuple[str, int, int]], tuple[int, int], str, str, list[i
 def test_a_refused_merge_names_those_concerned(
     links: list[tuple[str, int, int]], ends: tuple[int, int], name: str, part: str, linked: list[int]
 ) -> None:
-    made = Mirror("https://thesaurus.example/id/")
-    apply(made, {"do": "scheme", "tag": "en", "text": "One"}, {"ok": 1})
-    for number, text in enumerate("ABC", 2):
-        apply(made, {"do": "concept", "scheme": 1, "tag": "en", "text": text}, {"ok": number})
-    apply(made, {"do": "scheme", "tag": "en", "text": "Other"}, {"ok": 5})
-    apply(made, {"do": "concept", "scheme": 5, "tag": "en", "text": "X"}, {"ok": 6})
-    for kind, a, b in links:
-        apply(made, {"do": "link", "kind": kind, "a": a, "b": b}, {"done": True})
+    made = MadeReplica(
+        {"do": "scheme", "tag": "en", "text": "One"},
+        *({"do": "concept", "scheme": 1, "tag": "en", "text": it} for it in "ABC"),
+        {"do": "scheme", "tag": "en", "text": "Other"},
+        {"do": "concept", "scheme": 5, "tag": "en", "text": "X"},
+        *({"do": "link", "kind": kind, "a": a, "b": b} for kind, a, b in links),
+    )
     request = {"do": "merge", "source": ends[0], "target": ends[1]}
     said = str(explain({"no": name}, request, made, Words("en"), PlainLinks(made)))
     assert part in Markup(said).striptags()

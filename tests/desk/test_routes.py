@@ -7,27 +7,36 @@ from typing import Any
 
 import pytest
 from clients import AGAIN, ORIGIN, USERS, Client, Site, SiteMaker, site_of, users_below
-from thesaurus_desk.entry.guard import MOST_OF_FORM, READING, DeskApp, lowest_role, role
-from thesaurus_desk.entry.roles import Role, role_named
+from thesaurus_desk.auth.roles import Role, role_named
+from thesaurus_desk.auth.route_roles import MOST_OF_FORM, READING, DeskApp, lowest_role, role
 
 # Routes for programs that take a POST and change nothing: the only ones that need no token.
-READING_POSTS = {"interfaces.reconcile"}
+READING_POSTS = {"interfaces.reconcile", "interfaces.oai"}
 # Answers for other programs may be read by pages of other sites, and the preview may be shown in their frames.
-FOR_PROGRAMS = ("/id/", "/rest/", "/reconcile", "/changed", "/export.")
+FOR_PROGRAMS = ("/id", "/rest/", "/reconcile", "/changed", "/export.", "/oai")
 # Forms that a visitor may send.
-OF_VISITORS = {"coming_in.log_in", "coming_in.log_out"}
+OF_VISITORS = {"coming_in.log_in", "coming_in.log_out", "visitors.propose_as_visitor"}
 # What each role may send, and no lower one. A new form is written down here.
 ROLES = {
-    "visitor": "coming_in.log_in coming_in.log_out",
-    "reader": "coming_in.change_password proposals.comment proposals.propose proposals.remove_comment"
+    "visitor": "coming_in.log_in coming_in.log_out visitors.propose_as_visitor",
+    "reader": "coming_in.change_password for_me.note_read for_me.renew_address for_me.watch"
+    " proposals.comment proposals.propose proposals.remove_comment"
     " proposals.withdraw",
     "indexer": "bring_in.bring_postings records.add_concept records.add_record records.reindex records.withdraw"
-    " records.withdraw_record reindex.reindex_many",
-    "editor": "bring_in.perform_table bring_in.preview_table changes.close changes.take_back edit.add_link"
-    " edit.add_term"
-    " edit.change_term edit.prefer_term edit.remove_link edit.remove_term edit.retype_link move.move"
-    " new.new_collection new.new_concept new.new_scheme proposals.accept proposals.decline",
-    "head": "bring_in.perform_skos bring_in.preview_skos edit.deprecate merge.merge people.change_users split.split",
+    " records.withdraw_record reindex.reindex_many indexing.index_record"
+    " indexing.suggest_more queue.bring_records queue.open_next changes.take_back",
+    "editor": "arrays.change_place arrays.link_members arrays.new_array arrays.order bulk_changes.preview_bulk"
+    " bring_in.choose_columns bring_in.go_on bring_in.perform_table bring_in.preview_table changes.close"
+    " edit.add_link edit.add_term edit.change_term edit.prefer_term"
+    " edit.remove_link edit.remove_members edit.remove_term"
+    " bring_in.perform_skos bring_in.preview_skos edit.deprecate merge.merge own_fields.change_field"
+    " own_fields.make_field split.split"
+    " edit.retype_link mapping.decide mapping.mend mapping.same_table move.move"
+    " new.new_collection new.new_concept new.new_scheme proposals.accept proposals.decline"
+    " replacement.preview_replacement"
+    " values.change_value values.copy_values visitors.discard visitors.take_up work.change_work",
+    "head": "mapping.load people.change_users queue.settle_indexing releases.new_release rights.settle_rights"
+    " state.back_up values.settle_taken",
 }
 VALUES = {
     "number": "5",
@@ -41,8 +50,9 @@ VALUES = {
 
 
 def path_of(rule: Any) -> str:
-    """Returns an address of a route."""
-    return re.sub(r"<(?:[^:<>]+:)?(\w+)>", lambda found: VALUES.get(found[1], "1"), rule.rule)
+    """Returns an address of a route: of parts that are one of some words, with the first of them."""
+    path = re.sub(r"<any\((\w+)[^()]*\):\w+>", r"\1", rule.rule)
+    return re.sub(r"<(?:[^:<>]+:)?(\w+)>", lambda found: VALUES.get(found[1], "1"), path)
 
 
 def routes(site: Site, changing: bool) -> Iterator[tuple[str, str, Any]]:
@@ -55,7 +65,8 @@ def routes(site: Site, changing: bool) -> Iterator[tuple[str, str, Any]]:
 
 def changes(site: Site) -> list[tuple[str, str, Any]]:
     """Returns the routes whose forms need a token."""
-    return [it for it in routes(site, True) if not getattr(it[2], "is_interface", False)]
+    no_forms = ("is_interface", "takes_token")
+    return [it for it in routes(site, True) if not any(getattr(it[2], name, False) for name in no_forms)]
 
 
 @pytest.fixture

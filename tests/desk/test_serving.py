@@ -15,8 +15,7 @@ from pathlib import Path
 import pytest
 from clients import PASSWORD, USERS
 from processes import DESK, Running, run_desk, running
-from thesaurus_desk import program as program_module
-from thesaurus_desk.performing import Desk
+from thesaurus_desk.store.plan_execution import Desk
 
 BASE = "https://thesaurus.example/id/"
 # Debian's user with the fewest rights.
@@ -63,6 +62,7 @@ def test_help_teaches() -> None:
         (["--db", "x.db", "--alone", "anna", "--host", "https://desk.example/"], "no name of a host"),
         (["--db", "x.db", "--alone", "anna", "--max-postings", "many"], "not a number"),
         (["user", "add", "anna", "--users", "u.json"], "--role"),
+        (["--db", "x.db", "--alone", "anna", "--backup-at", "noon"], "no hour"),
         (["check"], "--db"),
     ],
 )
@@ -184,22 +184,30 @@ def test_the_program_ends_with_the_desk(program: str, store: Path, how: signal.S
 
 
 def test_a_killed_program_is_started_again(program: str, store: Path) -> None:
+    """Soon, and not only with the next change; pages are made of the mirror meanwhile."""
     with running(*alone(program, store)) as desk:
-        os.kill(children_of(desk.process)[0], signal.SIGKILL)
-        assert desk.ask("GET", "/az", Cookie=cookie_of(desk))[0] == 200, "pages are made of the mirror"
+        (killed,) = children_of(desk.process)
+        os.kill(killed, signal.SIGKILL)
+        assert desk.ask("GET", "/az", Cookie=cookie_of(desk))[0] == 200
+        end = time.monotonic() + 120
+        while children_of(desk.process) in ([], [killed]):
+            assert time.monotonic() < end
+            time.sleep(0.05)
 
 
-def test_a_port_that_is_taken_meanwhile(program: str, store: Path, monkeypatch: pytest.MonkeyPatch) -> None:
-    with socket.create_server(("127.0.0.1", 0)) as other:
-        taken, ports = other.getsockname()[1], iter([0, 0])
-        find = program_module.free_port
-        monkeypatch.setattr(program_module, "free_port", lambda: taken if next(ports, None) is not None else find())
-        serve = program_module.Program(program, store)
-        try:
-            serve.start()
-            assert serve.port not in (0, taken)
-        finally:
-            serve.stop()
+def ports_of(pid: int) -> set[int]:
+    """Returns the ports of this machine on which a process listens."""
+    ran = subprocess.run(["ss", "-Hltnp"], capture_output=True, text=True, check=True)
+    return {int(it.split()[3].rpartition(":")[2]) for it in ran.stdout.splitlines() if f"pid={pid}," in it}
+
+
+@pytest.mark.needs("ss")
+def test_the_program_has_no_port(program: str, store: Path) -> None:
+    """No other program of this machine, nor a page in a browser, can talk with it."""
+    with running(*alone(program, store)) as desk:
+        (child,) = children_of(desk.process)
+        assert ports_of(desk.process.pid) == {desk.port} and ports_of(child) == set()
+        assert desk.ask("GET", "/", Cookie=cookie_of(desk))[0] == 200
 
 
 def test_a_new_store(program: str, tmp_path: Path) -> None:
@@ -211,6 +219,19 @@ def test_a_new_store(program: str, tmp_path: Path) -> None:
     assert not list(tmp_path.glob("new.db-desk*"))
     with running(*alone(program, store)):
         pass
+
+
+def test_a_new_store_whose_making_was_cut_short(program: str, tmp_path: Path) -> None:
+    """It is made with the base that the desk is given, and not with the program's own."""
+    path, base = tmp_path / "cut.db", "https://museum.example/id/"
+    words = [program, "--db", str(path), "import", str(tmp_path / "absent.csv")]
+    subprocess.run(words, capture_output=True, check=False)
+    assert path.with_name("cut.db-making").exists()
+    desk = Desk(path, program, base=base)
+    desk.start()
+    desk.stop()
+    with contextlib.closing(sqlite3.connect(path)) as it:
+        assert it.execute("SELECT base FROM meta").fetchone() == (base,)
 
 
 def test_check(program: str, store: Path, tmp_path: Path) -> None:
@@ -260,7 +281,8 @@ def test_without_flask(tmp_path: Path) -> None:
 
     assert run_bare("--help").returncode == 0
     ran = run_bare("--db", tmp_path / "x.db", "--alone", "anna")
-    assert ran.returncode == 2 and "apt-get install python3-flask" in ran.stderr and "Traceback" not in ran.stderr
+    assert ran.returncode == 2 and "Traceback" not in ran.stderr
+    assert "apt-get install" in ran.stderr and "python3-flask" in ran.stderr
 
 
 @pytest.mark.skipif(Path(sys.executable).resolve() != Path("/usr/bin/python3").resolve(), reason="another Python")

@@ -8,12 +8,12 @@ from pathlib import Path
 
 import pytest
 from clients import AGAIN, HOST, PASSWORD, Client, Site, site_of
-from thesaurus_desk.entry.accounts import Account, Accounts
-from thesaurus_desk.entry.roles import Role
-from thesaurus_desk.entry.sessions import IDLE, RENEWAL, WHOLE, Sessions
-from thesaurus_desk.entry.ways import Alone
-from thesaurus_desk.performing import Desk
+from thesaurus_desk.auth.accounts import Account, Accounts
+from thesaurus_desk.auth.authentication import Alone
+from thesaurus_desk.auth.roles import Role
+from thesaurus_desk.auth.sessions import IDLE, RENEWAL, WHOLE, Sessions
 from thesaurus_desk.settings import Settings
+from thesaurus_desk.store.plan_execution import Desk
 
 
 def is_in(client: Client) -> bool:

@@ -9,9 +9,9 @@ from pathlib import Path
 import pytest
 import thesaurus_desk
 from clients import Site
-from thesaurus_desk.static_files import addresses_of
+from thesaurus_desk.web.static_files import addresses_of
 
-FOLDER = Path(thesaurus_desk.__file__).parent / "static"
+FOLDER = Path(thesaurus_desk.__file__).parent / "web" / "static"
 ADDRESS = re.compile(r'(?:src|href)="(/static/[^"]*)"')
 
 

@@ -6,8 +6,8 @@ from typing import Any
 
 import pytest
 from asking import assert_as_store, done, label, link, new, number, post, view
-from thesaurus_desk.mirror.sealing import seals
-from thesaurus_desk.performing import LONGEST_PLAN, Desk
+from thesaurus_desk.store.plan_execution import Desk, LONGEST_PLAN
+from whole import postings
 
 Requests = list[dict[str, Any]]
 
@@ -24,29 +24,29 @@ PLANS: dict[str, Callable[[Desk], Requests]] = {
     "link": lambda desk: [link("link", "related", 5, 11)],
     "typed link beside a plain one": lambda desk: [link("link", "broader", 5, 4)],
     "move": lambda desk: [link("link", "broader", 5, 9), link("unlink", "broaderGeneric", 5, 4)],
-    "member": lambda desk: [link("link", "member", desk.mirror.numbers("collection")[0], 11)],
+    "member": lambda desk: [link("link", "member", desk.replica.numbers("collection")[0], 11)],
 }
 
 
 @pytest.mark.parametrize("name", PLANS)
 def test_taken_back_wholly(desk: Desk, name: str) -> None:
     """After a plan and its take-back the store is as before; after the take-back of that, as after the plan."""
-    before = seals(desk.mirror, desk.mirror.resources)
+    before = desk.replica.digest()
     first = done(desk, *PLANS[name](desk))
-    after = seals(desk.mirror, desk.mirror.resources)
+    after = desk.replica.digest()
     assert before != after
     plan = desk.journal.plan(first.plan or 0)
     assert plan is not None
     back = desk.take_back(plan)
     assert not back.remarks and not back.later and back.requests
     second = desk.perform_take_back("ben", back)
-    assert second.is_done and seals(desk.mirror, desk.mirror.resources) == before
+    assert second.is_done and desk.replica.digest() == before
     plan = desk.journal.plan(first.plan or 0)
     assert plan is not None and plan.taken_back_by == second.plan
     again = desk.journal.plan(second.plan or 0)
     assert again is not None and again.takes_back == first.plan
     assert desk.perform_take_back("anna", desk.take_back(again)).is_done
-    assert seals(desk.mirror, desk.mirror.resources) == after
+    assert desk.replica.digest() == after
     assert_as_store(desk)
 
 
@@ -79,8 +79,8 @@ def test_postings_are_taken_back(desk: Desk) -> None:
     plan = desk.journal.plan(second.plan or 0)
     assert plan is not None
     third = desk.perform_take_back("ben", desk.take_back(plan))
-    assert third.is_done and {it.record for it in desk.mirror.postings.page_at(5)} == {"Nyckelharpa 1710", "Other"}
-    assert {it.key for it in desk.mirror.postings.page_at(5)} == {"p-1~2", "p-2~2"}
+    assert third.is_done and {it.record for it in desk.replica.postings.page_at(5)} == {"Nyckelharpa 1710", "Other"}
+    assert {it.key for it in desk.replica.postings.page_at(5)} == {"p-1~2", "p-2~2"}
     assert_as_store(desk)
 
 
@@ -107,7 +107,7 @@ def test_merge_is_taken_back(desk: Desk) -> None:
     done(desk, post("a", violas, "A"), post("b", violas, "B"), post("c", violas, "C"), post("d", violins, "D"))
     source, target = view(desk, violas), view(desk, violins)
     merged = done(desk, {"do": "merge", "source": violas, "target": violins})
-    first = len(desk.mirror.postings.all) - 3
+    first = len(postings(desk.replica)) - 3
     done(desk, {"do": "withdraw", "posting": first})
     done(desk, {"do": "split", "source": violins, "tag": "en", "text": "Elsewhere", "postings": [first + 1]})
     plan = desk.journal.plan(merged.plan or 0)
@@ -127,8 +127,8 @@ def test_merge_is_taken_back(desk: Desk) -> None:
     now = view(desk, violins)
     assert (now.pref, now.alt, now.hidden, now.typed) == (target.pref, target.alt, target.hidden, target.typed)
     assert set(now.related) == {*target.related, again.number} - {violas}
-    assert [it.record for it in desk.mirror.postings.page_at(again.number)] == ["C"]
-    assert [it.record for it in desk.mirror.postings.page_at(violins)] == ["D"]
+    assert [it.record for it in desk.replica.postings.page_at(again.number)] == ["C"]
+    assert [it.record for it in desk.replica.postings.page_at(violins)] == ["D"]
     assert_as_store(desk)
 
 

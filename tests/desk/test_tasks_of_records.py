@@ -30,6 +30,7 @@ def test_6_bring_in_a_spreadsheet(hand: Hand, tmp_path: Path) -> None:
     hand.sees("What came of new.csv")
     hand.open("/c/2")
     hand.press("Lutes")
+    hand.press("Theorbos")
     hand.sees("Theorben")
 
 
@@ -40,7 +41,7 @@ def test_7_bring_in_a_thesaurus_from_skos(hand: Hand, tmp_path: Path) -> None:
     hand.send_file("skos-file", path)
     hand.press("Try it on a copy")
     hand.sees("The copy has taken all of it.")
-    hand.press("Bring it in")
+    hand.press("Import it")
     hand.open("/")
     hand.sees("Places")
     hand.press("Cities")
@@ -75,12 +76,12 @@ def test_9_index_records(hand: Hand) -> None:
     hand.pick("Index it with", "strin", "String instruments")
     hand.press("Index")
     hand.sees("Pedal harp, Paris 1785: indexed with String instruments")
-    hand.press("Bring in")
+    hand.press("Import")
     hand.press("Or type or paste records")
     hand.fill("Rows of records", "key,record,concept\nh-1,Harp 1600,5\nh-2,Harp 1700,99\n")
     hand.press("Import")
-    hand.sees("1 posting is new.")
-    hand.sees("No concept has the number 99.")
+    hand.sees("1 indexing is new.")
+    hand.sees("No concept has the identifier 99.")
 
 
 def test_13_correct_a_posting_and_a_merge(hand: Hand) -> None:
@@ -98,9 +99,9 @@ def test_13_correct_a_posting_and_a_merge(hand: Hand) -> None:
     hand.press("Merge Fiddles into Violins")
     hand.sees("3 records")
     hand.press("Changes")
-    hand.press("Take back")
+    hand.press("Undo")
     hand.sees("What will happen")
-    hand.press("Take back")
+    hand.press("Undo")
     hand.sees("Fiddles")
 
 
@@ -120,7 +121,7 @@ def test_15_work_with_others_and_check(kind: str, driver: WebDriver, guide_desk:
     hand.fill("Text", "Fine violins")
     hand.press("Add")
     hand.press("Changes")
-    hand.sees("Violins: alternative term “Fine violins” (en) added")
+    hand.sees("Violins: non-preferred term “Fine violins” (en) added")
     hand.press("As a table (CSV)")
     guide_desk.process.terminate()
     guide_desk.process.wait(300)

@@ -9,7 +9,8 @@ import pytest
 import thesaurus_desk
 import thesaurus_tools
 from markupsafe import Markup
-from thesaurus_desk.words import FOLDER, LANGUAGES, PLURAL, Words, best_language, texts_of
+from thesaurus_desk.words import LANGUAGES, Words, best_language, texts_of
+from thesaurus_desk.words.catalogues import forms_of, path_of, written_catalogue
 from thesaurus_tools.sentences import ROWS, TABLES
 
 PACKAGE = Path(thesaurus_desk.__file__).parent
@@ -18,9 +19,11 @@ CALLS = re.compile(r"""(?:\b_|\bsay|g\.words)\(\s*["']([a-z_]+(?:\.\w+)+)["']\s*
 OTHERS = [it for it in LANGUAGES if it != "en"]
 # Words for what has another name: the desk, the store, the journal, kinds of terms, and what is done.
 OTHER_WORDS = {
-    "en": "data ?base|keyword|descriptor",
-    "de": "Schreibtisch|Pult\\b|indexiert|andere Benennung|zusammenführ|Datenbank",
-    "fr": "bureau|préféré|alternatif|reprendre|apporter|base de données",
+    "en": "data ?base|keyword|descriptor|take (it |this )?back|taken back|come in\\b|bring (it )?in|out of use|top term"
+    "|alternative term|hidden term|outside concept|kind of link",
+    "de": "Schreibtisch|Pult\\b|indexiert|andere Benennung|zusammenführ|Datenbank|einbring|eingebracht|außer Gebrauch"
+    "|zurücknehm|Nebenbenennung|fremder Begriff|Zuordnung",
+    "fr": "bureau|préféré|alternatif|reprendre|apporter|base de données|hors d’usage|terme caché|terme de tête",
 }
 
 
@@ -29,42 +32,42 @@ def placeholders(text: str) -> set[str]:
     return {name for _, name, _, _ in string.Formatter().parse(text) if name is not None}
 
 
-def forms_of(text: str | dict[str, str]) -> dict[str, str]:
-    """Returns the forms of a text: one, or singular and plural."""
-    return text if isinstance(text, dict) else {"": text}
-
-
 @pytest.mark.parametrize("language", OTHERS)
 def test_the_same_keys(language: str) -> None:
     english, other = texts_of("en"), texts_of(language)
     assert english and {*english} ^ {*other} == set()
-    assert {it.name for it in (FOLDER / "en").iterdir()} == {it.name for it in (FOLDER / language).iterdir()}
+
+
+@pytest.mark.parametrize("language", LANGUAGES)
+def test_catalogue_is_ordered_and_has_the_english_texts_beside(language: str, request: pytest.FixtureRequest) -> None:
+    ordered = written_catalogue(language, texts_of(language))
+    if request.config.getoption("--write"):
+        path_of(language).write_bytes(ordered)
+    assert path_of(language).read_bytes() == ordered, "tests/run --write words writes it"
 
 
 @pytest.mark.parametrize("language", LANGUAGES)
 def test_the_same_placeholders(language: str) -> None:
     for key, text in texts_of("en").items():
         mine, theirs = forms_of(text), forms_of(texts_of(language)[key])
-        assert mine.keys() == theirs.keys(), key
-        for form, words in theirs.items():
-            assert bool(words) == bool(mine[form]) and placeholders(words) <= placeholders(mine[form]) | {"n"}, key
-            if form != "one":
-                assert placeholders(words) == placeholders(mine[form]), key
+        assert len(mine) == len(theirs), key
+        for ours, words in zip(mine, theirs):
+            assert bool(words) == bool(ours) and placeholders(words) <= placeholders(ours) | {"n"}, key
+        assert placeholders(theirs[-1]) == placeholders(mine[-1]), key
 
 
 @pytest.mark.parametrize("language", LANGUAGES)
 def test_texts_are_whole(language: str) -> None:
     for key, text in texts_of(language).items():
-        if isinstance(text, dict):
-            assert set(text) == PLURAL and "{n}" in text["other"], key
-        for words in forms_of(text).values():
+        assert isinstance(text, str) or "{n}" in text[-1], key
+        for words in forms_of(text):
             assert "<" not in words and "  " not in words.replace("  ( / )", "") and words == words.strip(), key
             assert "'" not in words, f"{key}: a typewriter's apostrophe"
 
 
 @pytest.mark.parametrize(("language", "others"), OTHER_WORDS.items())
 def test_one_word_for_one_thing(language: str, others: str) -> None:
-    found = [(key, it) for key, text in texts_of(language).items() for it in forms_of(text).values()]
+    found = [(key, it) for key, text in texts_of(language).items() for it in forms_of(text)]
     assert [(key, it) for key, it in found if re.search(others, it, re.IGNORECASE)] == []
 
 
@@ -81,6 +84,7 @@ def test_why_a_file_is_no_table() -> None:
     assert its.keys() == {"row", *TABLES}
     assert placeholders(its.pop("row")) == {"name", "row"}
     unsaid = {"no_text": {"advice"}, "csv": {"error"}, "damaged": {"error", "form"}, "no_sheet": {"sheet", "sheets"}}
+    unsaid["costly"] = {"seconds", "megabytes"}
     given = {key: placeholders(it) - unsaid.get(key, set()) for key, it in TABLES.items()}
     assert {key: placeholders(it) for key, it in its.items()} == {key: it | {"where"} for key, it in given.items()}
     tools = Path(thesaurus_tools.__file__).parent
@@ -124,7 +128,7 @@ def test_values_are_escaped() -> None:
     assert words("find.new", query="<b>") == "New concept “<b>”"
     assert not hasattr(words("find.new", query="<b>"), "__html__")
     marked = words("people.added", name="<b>", role=Markup("<i>head</i>"))
-    assert str(marked) == "&lt;b&gt; may come in now, as: <i>head</i>." and hasattr(marked, "__html__")
+    assert str(marked) == "&lt;b&gt; may sign in now, as: <i>head</i>." and hasattr(marked, "__html__")
     assert words("find.new", query="{0.__class__}") == "New concept “{0.__class__}”"
     assert words("no.such.key") == "no.such.key" and not words.has("no.such.key") and words.has("find.new")
 

@@ -145,6 +145,7 @@ def cases() -> Iterator[Case]:
     yield "load", ["empty", "--db", "folder/missing/new.db", *program], FAULT, "fault Store"
     yield "load", ["empty", "--db", "new.db", "--base", "no base", *program], None, "BadIri"
     yield "load", ["empty"], USAGE, "one of --db and --http"
+    yield "from-table", ["a.csv", "--desk", "new.db", "--perform"], USAGE, "on its own page"
     yield "load", ["empty", "--db", "new.db", "--program", "missing"], USAGE, "can't be run"
     yield "load", ["empty", "--http", "http://127.0.0.1:1"], FAULT, "no answer"
     yield "install", ["a.csv", *program], FAULT, "a.csv"

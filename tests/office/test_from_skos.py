@@ -4,6 +4,7 @@ and left out with --drop."""
 from __future__ import annotations
 
 import csv
+import gzip
 import io
 import json
 import os
@@ -29,6 +30,7 @@ PREFIXES = """
 @prefix skos: <http://www.w3.org/2004/02/skos/core#> .
 @prefix owl: <http://www.w3.org/2002/07/owl#> .
 @prefix dct: <http://purl.org/dc/terms/> .
+@prefix rdf: <http://www.w3.org/1999/02/22-rdf-syntax-ns#> .
 @prefix iso: <http://purl.org/iso25964/skos-thes#> .
 """
 needs_rdflib = pytest.mark.needs("rdflib")
@@ -114,7 +116,7 @@ LOSSY: dict[str, tuple[str, str, str]] = {
     ),
     ':a skos:scopeNote [ <http://x.example/value> "x" ] .': ("lost", "a", "scopeNote _:"),
     '[] a skos:Concept ; skos:prefLabel "Nameless"@en .': ("lost", "_:", "the concept is a blank node"),
-    ':a dct:created "2001" .': ("lost", "a", "created '2001'"),
+    ':a dct:created "2001" .': ("lost", "a", "http://purl.org/dc/terms/created '2001'"),
     ':b skos:topConceptOf :s ; skos:broader :z . :z a skos:Concept ; skos:inScheme :s ; skos:prefLabel "Z"@en .': (
         "lost",
         "b",
@@ -136,6 +138,13 @@ LOSSY: dict[str, tuple[str, str, str]] = {
     ),
     ":d skos:narrowMatch :b .": ("Cycle", "d", "narrow http://old.example/b"),
     ":c a skos:Collection .": ("S37", "c", "a concept stays"),
+    ":b skos:narrower :k .": (
+        "lost",
+        "b",
+        "narrower http://old.example/k: a collection isn't above or below a concept",
+    ),
+    ':x a skos:Concept ; skos:prefLabel "Bass (fish)"@en . :a skos:exactMatch :x .': ("lost", "x", "prefLabel 'Bass"),
+    ':a skos:scopeNote [ rdf:value "A fish."@en ; dct:created "2001" ] .': ("lost", "a", "/created '2001'"),
     ":t a skos:Concept ; skos:inScheme :s .": ("S9", "t", "a concept stays"),
     ':a skos:hiddenLabel "Low"@en .': ("S13", "a", "hidden label 'Low'@en"),
     ':a skos:altLabel "Bass"@EN .': ("S13", "a", "alt label 'Bass'@EN"),
@@ -162,7 +171,7 @@ LOSSY: dict[str, tuple[str, str, str]] = {
 
 def finding(line: str) -> tuple[str, str, str]:
     """The rule, the resource and the text of a line of the report."""
-    found = re.fullmatch(r"from-skos: (\w+): (\S+): (.*)", line)
+    found = re.fullmatch(r"from-skos: (\w+): (\S+)(?: \(.*?\))?: (.*)", line)
     assert found, line
     return found[1], found[2], found[3]
 
@@ -240,7 +249,8 @@ def test_labels_of_skos_xl_are_read(room: Path) -> None:
 @needs_rdflib
 def test_what_else_is_said_of_a_label_of_skos_xl_is_lost(room: Path) -> None:
     file = write_turtle(room / "xl.ttl", IN_XL + ':la dct:created "2001" .')
-    assert "from-skos: lost: http://old.example/la: created '2001'" in from_skos(file)[2]
+    (line, _) = from_skos(file)[2]
+    assert line == "from-skos: lost: http://old.example/la (Bass): http://purl.org/dc/terms/created '2001'"
 
 
 @needs_rdflib
@@ -276,6 +286,135 @@ def test_types_of_broader_terms_come_back(name: str, room: Path) -> None:
     mapped = re.sub(rf"<({re.escape(BASE)}\d+)>", lambda it: f"<{OTHER}{numbers[it[1]]}>", text)
     assert set(tool("to-rdf", "--db", back, *words).out.decode().splitlines()) == set(mapped.splitlines())
     assert "skos-thes#broaderGeneric" in text
+
+
+# --- concepts of other vocabularies, collections below concepts, second preferred labels ---
+
+STUBS = """
+:s a skos:ConceptScheme ; skos:prefLabel "Scheme"@en .
+:a a skos:Concept ; skos:inScheme :s ; skos:prefLabel "Bass"@en ; skos:exactMatch <http://id.loc.gov/x2> .
+:b a skos:Concept ; skos:inScheme :s ; skos:prefLabel "Fish"@en ; skos:narrower :k ; skos:closeMatch :aat .
+<http://id.loc.gov/x2> a skos:Concept .
+:aat a skos:Concept ; skos:prefLabel "fish (animals)"@en ; skos:inScheme :getty .
+<http://d-nb.info/1> a skos:Concept ; skos:broadMatch :a .
+:k a skos:Collection ; skos:prefLabel "fish by size"@en ; skos:member :a .
+"""
+
+
+@needs_rdflib
+def test_stubs_of_other_vocabularies_are_outside_concepts(room: Path) -> None:
+    """Also those with a label, which is reported as lost; and a collection below a concept keeps its members."""
+    status, script, report = from_skos("--drop", write_turtle(room / "stubs.ttl", STUBS))
+    assert status == 0
+    assert links_of(script) == {"a exact x2", "b close aat", "a narrow 1", "k member a"}
+    made = [(it["do"], it.get("iri", it.get("text"))) for it in map(json.loads, script.splitlines()) if "as" in it]
+    outside = ["http://id.loc.gov/x2", "http://old.example/aat", "http://d-nb.info/1"]
+    assert sorted(it for kind, it in made if kind == "outside") == sorted(outside)
+    assert [it for it in made if it[0] in ("scheme", "collection")] == [
+        ("scheme", "Scheme"),
+        ("collection", "fish by size"),
+    ]
+    assert [finding(it)[1:] for it in report[:-1]] == [
+        ("http://old.example/b", finding(report[0])[2]),
+        ("http://old.example/aat", "inScheme http://old.example/getty"),
+        ("http://old.example/aat", "prefLabel 'fish (animals)'@en"),
+    ]
+    load(room / "stubs.db", script)
+
+
+UNLABELLED = """
+:s a skos:ConceptScheme ; skos:prefLabel "Scheme"@en .
+:a a skos:Concept ; skos:inScheme :s ; skos:prefLabel "Bass"@en ; skos:exactMatch :sh1 .
+:lc a skos:ConceptScheme ; skos:prefLabel "LCSH"@en .
+:sh1 a skos:Concept ; skos:inScheme :lc .
+"""
+
+
+@needs_rdflib
+def test_a_stub_without_a_label_is_an_outside_concept_also_if_its_scheme_is_described(room: Path) -> None:
+    """That scheme, which has nothing else, is reported as lost; one that has a concept of its own stays."""
+    status, script, report = from_skos("--drop", write_turtle(room / "stub.ttl", UNLABELLED))
+    assert not status and links_of(script) == {"a exact sh1"}
+    made = [(it["do"], it.get("iri", it.get("text"))) for it in map(json.loads, script.splitlines()) if "as" in it]
+    assert made == [("scheme", "Scheme"), ("concept", "Bass"), ("outside", "http://old.example/sh1")]
+    assert [finding(it)[1:] for it in report[:-1]] == [
+        ("http://old.example/lc", "prefLabel 'LCSH'@en"),
+        ("http://old.example/sh1", "inScheme http://old.example/lc"),
+    ]
+    own = UNLABELLED + ':sh2 a skos:Concept ; skos:inScheme :lc ; skos:prefLabel "Fishes"@en .'
+    status, script, report = from_skos("--drop", write_turtle(room / "own.ttl", own))
+    assert not status and links_of(script) == {"a exact sh1"}
+    assert [finding(it)[1:] for it in report[:-1]] == [("http://old.example/sh1", "inScheme http://old.example/lc")]
+
+
+@needs_rdflib
+def test_a_second_preferred_label_becomes_an_alternative_one(room: Path) -> None:
+    file = write_turtle(room / "second.ttl", SOUND + ':a skos:prefLabel "Basses"@en .')
+    assert from_skos("--drop", file)[2][-1].endswith("options that keep more: --second alt (S14)")
+    status, script, report = from_skos("--second", "alt", file)
+    assert (status, report) == (0, [])
+    added = [it for it in map(json.loads, script.splitlines()) if it["do"] == "addLabel" and it["text"] == "Basses"]
+    assert [(it["owner"], it["kind"], it["tag"]) for it in added] == [("$http://old.example/a", "alt", "en")]
+
+
+@needs_rdflib
+def test_the_hint_for_a_scheme_without_a_label(room: Path) -> None:
+    file = write_turtle(room / "unlabelled.ttl", ':a a skos:Concept ; skos:prefLabel "A"@en ; skos:inScheme :s .')
+    report = from_skos(file)[2]
+    assert "from-skos: NoLabel: http://old.example/s: the scheme has no preferred label; --scheme gives one" in report
+    assert report[-1].endswith("options that keep more: --scheme TEXT (NoLabel of a scheme)")
+    assert from_skos("--scheme", "All", "--lang", "en", file)[0] == 0
+
+
+@needs_rdflib
+def test_the_report_has_all_findings_with_terms(room: Path) -> None:
+    notations = "".join(f':a skos:notation "{n}" . ' for n in range(20))
+    file = write_turtle(room / "many.ttl", SOUND + notations + ":b skos:broader :a .")
+    status, _, printed = from_skos("--report", room / "report.csv", file)
+    rows = list(csv.reader(io.StringIO((room / "report.csv").read_text(encoding="utf-8-sig"))))
+    assert status == 1 and rows[0] == ["rule", "address", "term", "what is left out"]
+    assert sorted(it[3] for it in rows if it[0] == "lost") == sorted(f"notation '{n}'" for n in range(20))
+    assert {(it[1], it[2]) for it in rows if it[0] == "lost"} == {("http://old.example/a", "Bass")}
+    ring = "broader http://old.example/a (Bass), which closes the ring"
+    assert [it[:3] for it in rows if it[3].startswith(ring)] == [["Cycle", "http://old.example/b", "Fish"]]
+    assert "from-skos: Cycle: http://old.example/b (Fish): broader" in "\n".join(printed)
+
+
+@needs_rdflib
+def test_no_cell_of_the_report_is_a_formula(room: Path) -> None:
+    formula = '=HYPERLINK("http://x.example/")'
+    file = write_turtle(room / "formulas.ttl", SOUND.replace('"Bass"', f"'{formula}'") + ":a skos:notation '-1' .")
+    from_skos("--report", room / "report.csv", file)
+    rows = list(csv.reader(io.StringIO((room / "report.csv").read_text(encoding="utf-8-sig"))))
+    assert [it[2] for it in rows if it[0] == "lost"] == [f"'{formula}"]
+
+
+def quads_of(triples: str) -> str:
+    """Returns N-Triples with the name of a graph in each other line."""
+    lines = triples.splitlines()
+    return "\n".join(f"{it[:-1]}<http://g.example/> ." if n % 2 else it for n, it in enumerate(lines))
+
+
+@needs_rdflib
+@pytest.mark.parametrize(
+    "name", ["bom.nt", "bom.ttl", "plain.nq", "bom.nq", "packed.nt.gz", "packed.ttl.gz", "PACKED.NQ.GZ"]
+)
+def test_marks_of_utf_8_graphs_and_packed_files_are_read(name: str, options_file: Path, room: Path) -> None:
+    data = options_file.read_text(encoding="utf-8")
+    data = quads_of(data) if "nq" in name.lower() else data
+    bom = "\ufeff" if name.startswith("bom") else ""
+    plain = (bom + data).encode()
+    (room / name).write_bytes(gzip.compress(plain) if name.lower().endswith(".gz") else plain)
+    assert from_skos(room / name, *OPTIONS) == from_skos(options_file, *OPTIONS)
+
+
+@pytest.mark.parametrize(
+    "data", [b"\x1f\x8b", b"\x1f\x8bxxxxxxxxxxxx", gzip.compress(b"x" * 10_000)[:-9]], ids=["start", "noise", "cut"]
+)
+def test_a_damaged_packed_file_is_refused(data: bytes, room: Path) -> None:
+    (room / "cut.nt.gz").write_bytes(data)
+    status, script, report = from_skos(room / "cut.nt.gz")
+    assert (status, script, len(report)) == (1, "", 1) and "cut.nt.gz: it is cut short, or damaged" in report[0]
 
 
 GAPS = """
@@ -333,17 +472,7 @@ _:first <mads:variantLabel> "Fiddle"@en .
 _:second rdf:type <mads:Variant> .
 _:second <mads:variantLabel> "Fiddles"@en .
 """
-MADS_TERMS = {
-    "Authority": 1,
-    "Topic": 2,
-    "TopicElement": 1,
-    "Variant": 2,
-    "authoritativeLabel": 1,
-    "elementList": 1,
-    "elementValue": 1,
-    "hasVariant": 2,
-    "variantLabel": 2,
-}
+MADS_LOST = {"TopicElement": 1, "elementList": 1, "elementValue": 1}
 IN_SKOS = f"""
 <{SUBJECT}> rdf:type <skos:Concept> .
 <{SUBJECT}> <skos:inScheme> <http://id.loc.gov/authorities/subjects> .
@@ -361,35 +490,95 @@ def write_authority(path: Path, text: str) -> Path:
     return path
 
 
-def test_mads_is_left_out_by_name(room: Path) -> None:
+def mads_counts(report: list[str]) -> dict[str, int]:
+    """How often a report names the terms of MADS/RDF."""
+    return {name: int(count) for name, count in re.findall(r"madsrdf:(\w+) (\d+)", report[-1])}
+
+
+def test_mads_beside_skos_adds_its_variants(room: Path) -> None:
     file = write_authority(room / "both.nt", IN_SKOS + IN_MADS)
     status, script, report = from_skos(file)
-    assert (status, script) == (1, "")
-    assert f"from-skos: lost: {SUBJECT}: madsrdf:authoritativeLabel 'Violin'@en" in report
-    assert f"from-skos: lost: {SUBJECT}: madsrdf:Authority as its class" in report
-    assert f"lost {sum(MADS_TERMS.values())} (" in report[-1]
-    counts = {name: int(count) for name, count in re.findall(r"madsrdf:(\w+) (\d+)", report[-1])}
-    assert counts == MADS_TERMS
+    assert (status, script) == (1, "") and mads_counts(report) == MADS_LOST
+    assert any("madsrdf:TopicElement as its class" in it for it in report)
     status, script, report = from_skos("--drop", file)
-    assert (status, counts) == (0, {it[0]: int(it[1]) for it in re.findall(r"madsrdf:(\w+) (\d+)", report[-1])})
-    assert script == from_skos(write_authority(room / "skos.nt", IN_SKOS))[1] != ""
+    assert status == 0 and mads_counts(report) == MADS_LOST
+    labels = {(it["kind"], it["text"]) for it in map(json.loads, script.splitlines()) if it["do"] == "addLabel"}
+    assert labels == {("alt", "Fiddle"), ("alt", "Fiddles")}
 
 
-@pytest.mark.parametrize("words", [[], ["--drop"], ["--scheme", "All", "--lang", "en", "--drop"]])
-def test_mads_alone_is_refused(words: list[str], room: Path) -> None:
-    file = write_authority(room / "mads.nt", IN_MADS)
-    status, script, report = from_skos(*words, file)
-    assert (status, script, len(report)) == (1, "", 1)
-    assert "mads.nt: nothing in it is a concept, a scheme or a collection of SKOS; it is in MADS/RDF" in report[0]
-    assert {it[0]: int(it[1]) for it in re.findall(r"madsrdf:(\w+) (\d+)", report[0])} == MADS_TERMS
+def test_mads_alone_is_read(room: Path) -> None:
+    more = f"""
+<{SUBJECT}> <mads:hasBroaderAuthority> <http://id.loc.gov/authorities/subjects/sh1> .
+<http://id.loc.gov/authorities/subjects/sh1> rdf:type <mads:Topic> .
+<http://id.loc.gov/authorities/subjects/sh1> <mads:authoritativeLabel> "Bowed instruments"@en .
+<http://id.loc.gov/authorities/subjects/sh2> rdf:type <mads:DeprecatedAuthority> .
+<http://id.loc.gov/authorities/subjects/sh2> <mads:variantLabel> "Viols, Bowed"@en .
+<http://id.loc.gov/authorities/subjects/sh2> <mads:useInstead> <{SUBJECT}> .
+"""
+    file = write_authority(room / "mads.nt", IN_MADS + more)
+    status, script, report = from_skos("--scheme", "All", "--lang", "en", "--drop", file)
+    requests = [json.loads(it) for it in script.splitlines()]
+    assert status == 0 and mads_counts(report) == MADS_LOST
+    assert {it["text"] for it in requests if it["do"] == "concept"} == {"Violin", "Bowed instruments", "Viols, Bowed"}
+    assert [it["do"] for it in requests].count("link") == 1 and [it["do"] for it in requests].count("merge") == 1
+    load(room / "mads.db", script)
 
 
-def test_mads_label_alone_makes_no_concept(room: Path) -> None:
-    """A concept of SKOS with labels only in MADS isn't a file only in MADS: what it lacks is reported."""
-    text = IN_SKOS.replace(f'<{SUBJECT}> <skos:prefLabel> "Violin"@en .', "") + IN_MADS
-    status, script, report = from_skos("--drop", write_authority(room / "unlabelled.nt", text))
-    assert (status, script) == (1, "") and report[-1].endswith("no concept would be left, so nothing is written")
-    assert any("NoLabel" in it and SUBJECT in it for it in report) and "madsrdf:authoritativeLabel 1" in report[-2]
+def test_mads_without_an_authority_is_refused(room: Path) -> None:
+    text = '_:first rdf:type <mads:Variant> .\n_:first <mads:variantLabel> "Fiddle"@en .\n'
+    status, script, report = from_skos(write_authority(room / "none.nt", text))
+    assert (status, script, len(report)) == (1, "", 1) and mads_counts(report) == {"Variant": 1, "variantLabel": 1}
+
+
+# --- Zthes ---
+
+ZTHES = """<?xml version="1.0"?>
+<!DOCTYPE Zthes SYSTEM "http://zthes.z3950.org/schema/zthes-1.0.dtd">
+<Zthes xmlns:dc="http://purl.org/dc/elements/1.1/">
+<thes><dc:title>Music</dc:title></thes>
+<term><termId>1</termId><termName>Strings</termName><termType>TT</termType><termLanguage>en</termLanguage>
+ <relation><relationType>NT</relationType><termId>2</termId></relation></term>
+<term><termId>2</termId><termName>Violins</termName><termType>PT</termType><termLanguage>EN</termLanguage>
+ <termStatus>active</termStatus><termNote label="NA">Bowed.</termNote><termNote label="Source">Grove</termNote>
+ <relation><relationType>BTG</relationType><termId>1</termId></relation>
+ <relation><relationType>UF</relationType><termId>3</termId></relation>
+ <relation><relationType>LE</relationType><termId>4</termId></relation>
+ <relation><relationType>XX</relationType><termId>1</termId></relation></term>
+<term><termId>3</termId><termName>Fiddles</termName><termType>ND</termType><termLanguage>en</termLanguage>
+ <relation><relationType>USE</relationType><termId>2</termId></relation></term>
+<term><termId>4</termId><termName>Geigen</termName><termType>PT</termType><termLanguage>de</termLanguage>
+ <relation><relationType>LE</relationType><termId>2</termId></relation></term>
+<term><termId>5</termId><termName>by size</termName><termType>NL</termType></term>
+</Zthes>
+"""
+
+
+def test_zthes_is_read(room: Path) -> None:
+    file = room / "zthes.xml"
+    file.write_text(ZTHES, encoding="utf-8")
+    status, script, report = from_skos("--lang", "en", "--drop", file)
+    requests = [json.loads(it) for it in script.splitlines()]
+    assert status == 0, report
+    assert [it["text"] for it in requests if it["do"] == "scheme"] == ["Music"]
+    assert {it["text"] for it in requests if it["do"] == "concept"} == {"Strings", "Violins"}
+    labels = {(it["kind"], it["tag"], it["text"]) for it in requests if it["do"] == "addLabel"}
+    assert labels == {("alt", "en", "Fiddles"), ("pref", "de", "Geigen"), ("scope", "en", "Bowed.")}
+    assert [it["kind"] for it in requests if it["do"] == "link"] == ["broaderGeneric"]
+    lost = "\n".join(it for it in report if it.startswith("from-skos: lost:"))
+    assert all(it in lost for it in ("termStatus", "termNote-Source", "relation-XX", "term-NL", "by size"))
+    assert lost.count("\n") == 3
+    load(room / "zthes.db", script)
+
+
+@pytest.mark.parametrize(
+    ("text", "wanted"),
+    [(ZTHES.replace("</Zthes>", ""), "zthes.xml: no element found"), ("<!DOCTYPE a [<!ENTITY b 'c'>]>", "it declares")],
+)
+def test_zthes_that_is_damaged(room: Path, text: str, wanted: str) -> None:
+    file = room / "zthes.xml"
+    file.write_text(text if "<Zthes" in text else f"{text}{ZTHES[ZTHES.index('<Zthes'):]}", encoding="utf-8")
+    status, script, report = from_skos("--lang", "en", "--drop", file)
+    assert (status, script) == (1, "") and wanted in report[-1]
 
 
 # --- options, and files that can't be read ---
@@ -432,6 +621,27 @@ def test_old_iris_are_kept(options_file: Path, room: Path) -> None:
     assert not status
     assert "outside http://old.example/c" in load(room / "options.db", script)
     assert over(room / "options.db", "export").out.count(b"#exactMatch> <http://old.example/") == 3
+
+
+DEAD = """
+:s a skos:ConceptScheme ; skos:prefLabel "Fish"@en .
+:a a skos:Concept ; skos:inScheme :s ; skos:prefLabel "Bass"@en .
+:b a skos:Concept ; skos:inScheme :s ; skos:prefLabel "Perch"@en ; owl:deprecated true ; dct:isReplacedBy :c .
+:c a skos:Concept ; skos:inScheme :s ; skos:prefLabel "Sea bass"@en ; owl:deprecated true ; dct:isReplacedBy :a .
+:d a skos:Concept ; skos:inScheme :s ; skos:prefLabel "Kraken"@en ; owl:deprecated true .
+:e a skos:Concept ; skos:inScheme :s ; skos:prefLabel "Hydra"@en ; owl:deprecated true ; dct:isReplacedBy :f .
+:f a skos:Concept ; skos:inScheme :s ; skos:prefLabel "Lerna"@en ; owl:deprecated true ; dct:isReplacedBy :e .
+"""
+
+
+@needs_rdflib
+def test_old_iris_of_dead_concepts_are_those_of_their_successors(room: Path) -> None:
+    """And are reported as lost where nothing replaces them."""
+    status, script, report = from_skos("--keep-iris", "--drop", write_turtle(room / "dead.ttl", DEAD))
+    assert not status and links_of(script) == {"a exact a", "a exact b", "a exact c"}
+    lost = [(finding(it)[1], finding(it)[2]) for it in report[:-1] if "old IRI" in it]
+    assert lost == [(f"http://old.example/{it}", "the old IRI, as nothing replaces it") for it in "def"]
+    load(room / "dead.db", script)
 
 
 def test_old_iris_and_codes_are_kept_together(options_file: Path, room: Path) -> None:

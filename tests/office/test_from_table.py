@@ -2,9 +2,12 @@
 from __future__ import annotations
 
 import csv
+import datetime
 import io
 import json
 import subprocess
+import sys
+import tempfile
 import zipfile
 from collections.abc import Sequence
 from dataclasses import dataclass
@@ -12,8 +15,11 @@ from pathlib import Path
 from typing import Any
 
 import pytest
-from office import tool, tool_with_use
+from office import TOOLS, tool, tool_with_use
 from program import Ended, built
+from thesaurus_tools import table_process
+from thesaurus_tools.formulas import guard, remove_guard
+from thesaurus_tools.system_python import SYSTEM_PYTHON
 
 BASE = "https://museum.example/id/"
 SCRIPT: list[dict[str, object]] = [
@@ -247,6 +253,47 @@ def test_rows_that_exchange_terms_are_done_or_refused_together(store: Path, tmp_
     assert refused[1][-1] == refused[2][-1] == "SameResource: both are the same concept"
 
 
+@pytest.mark.parametrize("heading", [("Old term", "New term"), ("Term", "New term"), ("Term", "Neue Benennung (en)")])
+def test_the_term_that_is_named_is_renamed(store: Path, tmp_path: Path, heading: tuple[str, str]) -> None:
+    """A synonym is replaced, and the preferred term stays; so does that of another language than is named."""
+    rows = [heading, ("Fine violins", "Best violins"), ("V17", "V18"), ("Harps", "Lyres")]
+    requests = script_of(from_table(table(tmp_path, *rows), store, "--lang", "en"))
+    assert [(it["do"], it["owner"], it["tag"], it["text"]) for it in requests] == [
+        ("dropLabel", 3, "en", "Fine violins"),
+        ("addLabel", 3, "en", "Best violins"),
+        ("dropLabel", 3, "zxx", "V17"),
+        ("addLabel", 3, "zxx", "V18"),
+        ("relabel", 5, "en", "Lyres"),
+    ]
+    (request,) = script_of(from_table(table(tmp_path, ("old", "new"), ("Harfen", "Harfe")), store, "--lang", "en"))
+    assert (request["do"], request["tag"], request["text"]) == ("relabel", "de", "Harfe")
+
+
+@pytest.mark.parametrize(
+    ("words", "rows"),
+    [
+        (("--new", "--lang", "en"), [("Term",), ("Lutes",), ("Lutes",)]),
+        (("--lang", "en"), [("concept", "new"), ("3", "Lutes"), ("5", "Lutes")]),
+        ((), [("concept", "pref@en"), ("3", "Lutes"), ("5", "Lutes")]),
+    ],
+    ids=["new", "renames", "changes"],
+)
+def test_two_rows_that_give_one_term(store: Path, tmp_path: Path, words: tuple[str, ...], rows: list) -> None:
+    ended = from_table(table(tmp_path, *rows), store, *words)
+    assert ended.status == 1 and ":3: row 2 gives “Lutes”, too" in ended.err.decode()
+
+
+def test_a_notation_is_kept_and_a_definition_is_asked_for(store: Path, tmp_path: Path) -> None:
+    """The one as a hidden term, by which rows find a concept; the other is no scope note."""
+    path = table(tmp_path, ("Term", "Notation", "Definition"), ("Lutes", "L1", "Plucked."), ("Zithers", "L2|L3", ""))
+    ended = from_table(path, store, "--new", "--lang", "en")
+    added = [it for it in script_of(ended) if it["do"] == "addLabel"]
+    assert [(it["kind"], it["tag"], it["text"]) for it in added] == [("hidden", "zxx", it) for it in ("L1", "L2", "L3")]
+    assert "column Definition: left out" in ended.err.decode()
+    path = table(tmp_path, ("number", "Notation"), ("3", "V17"), ("4", "V18"))
+    assert [(it["owner"], it["text"]) for it in script_of(from_table(path, store))] == [(4, "V18")]
+
+
 def test_rename_and_forget(store: Path, tmp_path: Path) -> None:
     path = table(tmp_path, ("number", "neue Benennung"), ("5", "Harp family"))
     assert from_table(path, store, "--renames", "--lang", "en", "--forget", "--perform").status == 0
@@ -270,6 +317,18 @@ def test_moves(store: Path, tmp_path: Path) -> None:
     ]
 
 
+@pytest.mark.parametrize("column", [(), ("BTP", ""), ("broader terms", "Strings")], ids=["none", "of a type", "same"])
+def test_a_move_compares_what_the_table_has(store: Path, tmp_path: Path, column: tuple[str, ...]) -> None:
+    """A table without places, or with those of another type, moves nothing."""
+    path = table(tmp_path, ("number", "term", *column[:1]), ("3", "Violins", *column[1:]))
+    assert script_of(from_table(path, store, "--moves")) == []
+
+
+def test_a_move_to_the_top(store: Path, tmp_path: Path) -> None:
+    (request,) = script_of(from_table(table(tmp_path, ("number", "BT"), ("3", "")), store, "--moves"))
+    assert request == {"do": "unlink", "kind": "broaderGeneric", "a": 3, "b": 2}
+
+
 def test_merges_by_the_column_do(store: Path, tmp_path: Path) -> None:
     rows = [("do", "concept", "into"), ("merge", f"{BASE}4", "Violins"), ("-", "5", ""), ("end", "Harps", "")]
     assert script_of(from_table(table(tmp_path, *rows, separator=";"), store)) == [
@@ -286,6 +345,22 @@ def test_postings(store: Path, tmp_path: Path) -> None:
     assert (concept(store, 3)["postings"], concept(store, 5)["postings"]) == (2, 1)
 
 
+def test_each_concept_of_a_cell_is_posted(store: Path, tmp_path: Path) -> None:
+    """In cells with several, once each; a key is for one."""
+    rows = [
+        ("key", "Record", "Title", "Concept"),
+        ("", "Violin 1668", "A violin", "Violins | Harps|V17"),
+        ("", "Violin 1700", "Another", "3"),
+        ("k1", "Violin 1701", "A third", "3|5"),
+        ("", "Violin 1700", "Another", "Violins"),
+    ]
+    ended = from_table(table(tmp_path, *rows), store, "--postings", "--keep-going")
+    requests = [json.loads(it) for it in ended.out.splitlines()]
+    assert [(it["record"], it["concept"]) for it in requests] == [("Violin 1668", 5), ("Violin 1700", 3)]
+    assert ":4: one key, k1, for 2 concepts" in ended.err.decode()
+    assert "column Title: left out" in ended.err.decode()
+
+
 def test_a_posting_that_is_there_is_left(store: Path, tmp_path: Path) -> None:
     """By its key, or by its record and concept; a withdrawn one isn't made again by its key."""
     path = table(tmp_path, ("key", "record", "concept"), ("p1", "Violin 1668", "3"), ("", "Violin 1668", "Violins"))
@@ -293,6 +368,24 @@ def test_a_posting_that_is_there_is_left(store: Path, tmp_path: Path) -> None:
     perform(store, [{"do": "withdraw", "posting": 1}])
     (request,) = script_of(from_table(path, store, "--postings"))
     assert (request["record"], request["concept"]) == ("Violin 1668", 3)
+
+
+def test_a_record_is_indexed_again_after_withdrawals(store: Path, tmp_path: Path) -> None:
+    """Of which the keys are never free; a table that is sent twice indexes once."""
+    path = table(tmp_path, ("record", "concept"), ("Harp 1800", "Harps"))
+    keys = set()
+    for number in (2, 3, 4):
+        keys |= {it["key"] for it in script_of(from_table(path, store, "--postings"))}
+        assert from_table(path, store, "--postings", "--perform").status == 0
+        assert script_of(from_table(path, store, "--postings")) == []
+        (answer,) = perform(store, [{"get": "totals"}])
+        assert answer == {"accepted": number, "standing": 2, "withdrawn": number - 2}
+        assert perform(store, [{"do": "withdraw", "posting": number}]) == [{"done": True}]
+    assert len(keys) == 3
+    rows = [("do", "record", "concept"), ("post", "Harp 1800", "Harps"), ("withdraw", "Harp 1800", "Harps")]
+    assert from_table(table(tmp_path, *rows[:2]), store, "--perform").status == 0
+    assert from_table(table(tmp_path, rows[0], rows[2], rows[1]), store, "--perform").status == 0
+    assert perform(store, [{"get": "totals"}]) == [{"accepted": 6, "standing": 2, "withdrawn": 4}]
 
 
 def test_withdrawals_and_postings_of_one_table(store: Path, tmp_path: Path) -> None:
@@ -427,6 +520,21 @@ def test_a_table_of_concepts_comes_back_unchanged(store: Path, tmp_path: Path, w
     ]
 
 
+def test_items_of_wikidata_as_they_are_copied(store: Path, tmp_path: Path) -> None:
+    """By their numbers, or by the addresses of their pages; a concept of that name is meant before."""
+    codes: list[dict[str, object]] = [
+        {"do": "scheme", "tag": "en", "text": "Codes"},
+        {"do": "concept", "scheme": 7, "tag": "en", "text": "Q5"},
+    ]
+    assert not [it for it in perform(store, codes) if "no" in it]
+    rows = ("concept", "wikidata"), ("Violins", "Q8355"), ("Harps", "https://www.wikidata.org/wiki/Q47369"), ("3", "Q5")
+    requests = script_of(from_table(table(tmp_path, *rows, ("Fiddles", "wikidata.org/wiki/Q8355")), store))
+    entity = "http://www.wikidata.org/entity/"
+    assert [it["iri"] for it in requests if it["do"] == "outside"] == [f"{entity}Q8355", f"{entity}Q47369"]
+    assert [(it["a"], it["b"]) for it in requests if it["do"] == "link"][2] == (3, 8)
+    assert len(requests) == 6
+
+
 def test_a_term_that_a_cell_cant_name(store: Path, tmp_path: Path) -> None:
     """A broader term with the sign between values, or like a number, is named by its number."""
     for text in ("Strings | bowed", "#7", "urn:x"):
@@ -445,6 +553,34 @@ def test_a_cell_that_is_guarded_from_formulas(store: Path, tmp_path: Path) -> No
     ended = tool("to-table", "--db", store, "--columns", "number,alt@it", "--below", "5", "--excel", "-o", path)
     assert ended.status == 0 and b"''" in path.read_bytes()
     assert script_of(from_table(path, store)) == []
+
+
+GUARDED = ["=1+1", "a;=1", "a; @x", "a\t-1", "a,+1", "'=1", "a;''-1", 'a;"=1', "-"]
+
+
+@pytest.mark.parametrize("form", [(), ("--excel",)])
+@pytest.mark.parametrize("name", ["to-table", "report"])
+def test_formulas_are_guarded_unless_cells_are_to_be_raw(
+    store: Path, tmp_path: Path, name: str, form: tuple[str, ...]
+) -> None:
+    """Also behind what parts cells for another spreadsheet; and the guards go when the table is read."""
+    texts = [it for it in GUARDED if "\t" not in it]
+    perform(store, [{"do": "addLabel", "owner": 5, "kind": "alt", "tag": "it", "text": it} for it in texts])
+    words = ("find", "a") if name == "report" else ("--columns", "number,alt@it", "--below", "5")
+    lists = ("--csv",) if name == "report" and not form else ()
+    guarded, raw = (
+        tool(name, "--db", store, *words, *lists, *form, *more).out.decode("utf-8-sig") for more in ((), ("--raw",))
+    )
+    assert "a;'=1" in guarded and "a;'=1" not in raw and "a;=1" in raw and "a; '@x" in guarded
+    if name == "to-table":
+        path = tmp_path / "list.csv"
+        path.write_text(guarded, encoding="utf-8")
+        assert script_of(from_table(path, store)) == []
+
+
+@pytest.mark.parametrize("text", GUARDED)
+def test_a_guard_comes_and_goes(text: str) -> None:
+    assert guard(text) != text and remove_guard(guard(text)) == text and guard(f"x{text[1:]}z").count("'") <= 3
 
 
 def test_columns_that_there_are_not(store: Path) -> None:
@@ -497,14 +633,26 @@ def test_ambiguous_names(store: Path, tmp_path: Path) -> None:
 # --- forms of files ---
 
 
-@pytest.mark.parametrize("encoding", ["utf-8", "utf-8-sig", "utf-16", "latin-1"])
+@pytest.mark.parametrize("encoding", ["utf-8", "utf-8-sig", "utf-16", "latin-1", "cp1252"])
 @pytest.mark.parametrize("separator", [",", ";", "\t"])
 def test_encodings(store: Path, tmp_path: Path, encoding: str, separator: str) -> None:
     path = tmp_path / "table.csv"
     path.write_bytes(f"number{separator}pref@fr\r\n3{separator}Violons «à archet»\r\n".encode(encoding))
-    words = ("--encoding", "latin-1") if encoding == "latin-1" else ()
+    words = ("--encoding", encoding) if encoding in ("latin-1", "cp1252") else ()
     (request,) = script_of(from_table(path, store, *words))
     assert request["text"] == "Violons «à archet»"
+
+
+@pytest.mark.parametrize("separator", [";", "\t", "|"])
+def test_a_first_line_that_says_what_parts_the_cells(store: Path, tmp_path: Path, separator: str) -> None:
+    """Excel writes it, and it is no row; lines keep their numbers in the file."""
+    path = tmp_path / "table.csv"
+    rows = ("number", "pref@fr"), ("3", "Violons, grands"), ("5", "Harpes"), ("99", "x")
+    text = "".join(f"{separator.join(it)}\r\n" for it in rows)
+    path.write_text(f"sep={separator}\r\n{text}", encoding="utf-8")
+    ended = from_table(path, store, "--keep-going")
+    assert [json.loads(it)["text"] for it in ended.out.splitlines()] == ["Violons, grands", "Harpes"]
+    assert f"{path}:5: " in ended.err.decode()
 
 
 @pytest.mark.needs("openpyxl")
@@ -515,8 +663,39 @@ def test_excel(store: Path, tmp_path: Path) -> None:
     book.active.append(["number", "Français"])
     book.active.append([3, "Violons"])
     book.active.append([5.0, "Harpes"])
+    book.active.append([4, datetime.datetime(2026, 11, 30)])
+    book.active.append([2, datetime.datetime(2026, 11, 30, 10, 4)])
     book.save(tmp_path / "table.xlsx")
-    assert [it["owner"] for it in script_of(from_table(tmp_path / "table.xlsx", store))] == [3, 5]
+    requests = script_of(from_table(tmp_path / "table.xlsx", store))
+    assert [it["owner"] for it in requests] == [3, 5, 4, 2]
+    assert [it["text"] for it in requests][2:] == ["2026-11-30", "2026-11-30 10:04:00"]
+
+
+def bare_python(folder: Path) -> Path:
+    """Makes a virtual environment without any packages, and returns its Python."""
+    (folder / "bin").mkdir()
+    (folder / "pyvenv.cfg").write_text("home = /usr/bin\ninclude-system-site-packages = false\n", encoding="ascii")
+    python = folder / "bin/python"
+    python.symlink_to(SYSTEM_PYTHON)
+    return python
+
+
+@pytest.mark.needs("openpyxl")
+@pytest.mark.skipif(Path(sys.executable).resolve() != Path(SYSTEM_PYTHON).resolve(), reason="another Python")
+def test_python_without_openpyxl_has_the_systems_do_it(store: Path, tmp_path: Path) -> None:
+    """The tool, and the process that reads the desk's tables: in a virtual environment, as from any installation."""
+    import openpyxl
+
+    book, path = openpyxl.Workbook(), tmp_path / "table.xlsx"
+    book.active.append(["number", "Français"])
+    book.active.append([3, "Violons"])
+    book.save(path)
+    tool_words = (TOOLS / "from-table", path, "--db", store, "--program", built())
+    for words in (tool_words, ("-m", table_process.__name__, path, "", "")):
+        python = bare_python(Path(tempfile.mkdtemp(dir=tmp_path)))
+        ran = subprocess.run([python, *words], capture_output=True, check=False)
+        assert ran.returncode == 0 and b"Violons" in ran.stdout, ran.stderr
+    assert [it.cells for it in table_process.read_apart(path)] == [["number", "Français"], ["3", "Violons"]]
 
 
 @pytest.mark.needs("odf")
@@ -525,17 +704,17 @@ def test_open_document(store: Path, tmp_path: Path) -> None:
 
     book = opendocument.OpenDocumentSpreadsheet()
     page = tables.Table(name="Terms")
-    for cells in (("number", "Français"), ("3", "Violons")):
+    for cells in (("number", "Français"), ("3", "Violons"), ("5", "30.11.26")):
         row = tables.TableRow()
         for it in cells:
-            cell = tables.TableCell()
+            cell = tables.TableCell(valuetype="date", datevalue="2026-11-30") if "." in it else tables.TableCell()
             cell.addElement(text.P(text=it))
             row.addElement(cell)
         page.addElement(row)
     book.spreadsheet.addElement(page)
     book.save(tmp_path / "table.ods")
-    (request,) = script_of(from_table(tmp_path / "table.ods", store, "--sheet", "Terms"))
-    assert (request["owner"], request["text"]) == (3, "Violons")
+    requests = script_of(from_table(tmp_path / "table.ods", store, "--sheet", "Terms"))
+    assert [(it["owner"], it["text"]) for it in requests] == [(3, "Violons"), (5, "2026-11-30")]
 
 
 def archive(path: Path, parts: dict[str, bytes]) -> Path:
@@ -566,7 +745,7 @@ MANIFEST = {
 }
 FORMULA = '<table:table-cell table:formula="of:=1+1"/>'
 CELL = '<table:table-cell table:number-columns-repeated="{}"><text:p>x</text:p></table:table-cell>'
-SAVE_AS_UTF_8 = "save the table as UTF-8, or name its encoding by --encoding, as latin-1"
+SAVE_AS_UTF_8 = "save the table as UTF-8, or name its encoding: --encoding cp1252 is that of Windows in the West"
 BOMB = b'<?xml version="1.0"?><!DOCTYPE a [<!ENTITY b "x"><!ENTITY c "&b;&b;">]><a>&c;</a>'
 
 
@@ -661,7 +840,7 @@ def test_formulas_of_excel(store: Path, tmp_path: Path) -> None:
 
 def test_columns_are_corrected(store: Path, tmp_path: Path) -> None:
     path = table(tmp_path, ("number", "Nom", "Remarque"), ("3", "Violons", "x"))
-    assert "column Nom: left out" in from_table(path, store).err.decode()
+    assert "column Nom: not understood, and left out" in from_table(path, store).err.decode()
     (request,) = script_of(from_table(path, store, "--columns", "Nom=pref@fr"))
     assert request == {"do": "addLabel", "owner": 3, "kind": "pref", "tag": "fr", "text": "Violons"}
     saved = tmp_path / "columns"

@@ -14,25 +14,8 @@ from program import ROOT, built
 
 DOCUMENTS = ("README.md", "CHANGELOG.md", "SECURITY.md", "LICENSE-APACHE", "LICENSE-MIT", "NOTICE", "thesaurus.1")
 PARTS = ("tools", "desk", "share", "examples", "docs", "thesaurus", *DOCUMENTS)
-OF_DEVELOPERS = {
-    "build",
-    "counts",
-    "install-checks",
-    "libraries.py",
-    "list-crates",
-    "list-definitions",
-    "list-promises",
-    "look",
-    "pictures",
-    "refuse_bodies.py",
-    "release",
-    "specs.py",
-    "times",
-}
-
-
 # The tools for users, each of which has a name of its own.
-TOOLS = {it.name for it in (ROOT / "tools").iterdir() if it.is_file() and not it.suffix} - OF_DEVELOPERS - {"install"}
+TOOLS = {it.name for it in (ROOT / "tools").iterdir() if it.is_file() and not it.suffix} - {"install"}
 Ran = subprocess.CompletedProcess[str]
 
 
@@ -77,7 +60,7 @@ class Installed(NamedTuple):
 def files_to_install(tree: Path) -> set[str]:
     parts = [it for part in PARTS for it in (tree / part, *(tree / part).rglob("*"))]
     names = {str(it.relative_to(tree)) for it in parts if it.is_file() and "__pycache__" not in it.parts}
-    return {it for it in names if not it.startswith("tools/NOTES")} - {f"tools/{it}" for it in OF_DEVELOPERS}
+    return {it for it in names if not it.startswith("tools/NOTES")}
 
 
 @pytest.fixture(scope="module")

@@ -23,6 +23,8 @@ from plain import Plain
 from plain_store import LIMITS
 from ports import free_port
 from program import built, lines_of, over
+from thesaurus_tools.command_line import ToolError
+from thesaurus_tools.program import Script
 
 LOAD = TOOLS / "load"
 PROXY = Path(__file__).resolve().with_name("withholding.py")
@@ -597,3 +599,23 @@ def test_server_that_is_killed_is_reported(number: int, served: Served) -> None:
 
 def test_store_is_that_of_an_undisturbed_run_over_http(served: Served) -> None:
     assert (served.status, served.is_same) == (1, True), served.error
+
+
+def test_run_that_begins_anew_makes_no_store(room: Path) -> None:
+    """The store is moved away while a tool works, as when a volume is unmounted."""
+    path = room / "moved.db"
+    script = Script(str(built()), path, may_be_new=True).open()
+    script.close()
+    for end in ("", "-wal"):
+        if (it := Path(f"{path}{end}")).exists():
+            it.rename(room / f"elsewhere.db{end}")
+    with pytest.raises(ToolError, match="no such file"):
+        script.open()
+    assert not path.exists()
+
+
+def test_run_over_a_store_that_must_be_there_makes_none(room: Path) -> None:
+    path = room / "mistyped.db"
+    with pytest.raises(ToolError, match="no such file"):
+        Script(str(built()), path).open()
+    assert not path.exists()

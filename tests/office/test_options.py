@@ -60,6 +60,7 @@ def test_each_tool_that_prints_writes_to_a_file(store: Path, export: Path, tmp_p
         ["to-marc", "--db", store, "--lang", "en"],
         ["to-table", "--db", store, "--columns", "number,pref@en"],
         ["to-print", "--db", store, "--scheme", 1, "--lang", "en"],
+        ["to-zthes", "--db", store],
     ]
     environment = {"SOURCE_DATE_EPOCH": "1700000000"}
     os.environ.update(environment)
@@ -87,19 +88,20 @@ def test_names_of_options_agree(store: Path) -> None:
 # The tools that read a store, or may do so.
 READING = (
     "from-table", "load", "number-postings", "report", "repost", "site", "to-marc", "to-print", "to-rdf", "to-table",
-    "unmerge",
+    "to-zthes", "unmerge",
 )  # fmt: skip
 # These don't ask the program: it is theirs, or they serve it.
 OWN = ("backup", "desk", "look")
 
 
 def test_each_tool_that_reads_a_store_asks_a_server() -> None:
-    """By --http, wherever there is --db."""
+    """By --http, wherever there is --db; or a desk, by --desk."""
     names = {it.name for it in TOOLS.iterdir() if it.is_file() and os.access(it, os.X_OK)} - set(OWN)
     helps = {it: tool(it, "--help").out.decode() for it in names}
-    for option in ("--db FILE", "--http URL"):
+    for option in ("--db FILE", "--http URL", "--desk FILE"):
         having = {it for it, text in helps.items() if re.search(f"^ +{option}", text, re.M)}
-        assert having - {"feed"} == set(READING), option
+        # (what changes a store that a desk has goes by the desk's pages)
+        assert having - {"feed"} == set(READING) - ({"load"} if "desk" in option else set()), option
 
 
 @pytest.mark.parametrize("is_near", [True, False], ids=["this machine's", "another machine's"])
@@ -122,6 +124,7 @@ def test_a_server_answers_what_the_store_has(is_near: bool, store: Path, tmp_pat
         ["to-marc", "--lang", "en"],
         ["to-table", "--columns", "number,pref@en,alt@de,broader,records"],
         ["to-print", "--scheme", 1, "--lang", "en"],
+        ["to-zthes", "--langs", "en"],
     ]
     os.environ["SOURCE_DATE_EPOCH"] = "1700000000"
     of_file = [tool(str(name), *words, "--db", after) for name, *words in calls]
@@ -154,7 +157,7 @@ def without_locks(name: str, *words: object) -> subprocess.CompletedProcess[str]
 @pytest.mark.parametrize(
     "name",
     ["from-csv", "from-skos", "check-skos", "site", "picture", "report", "load", "to-rdf", "to-marc", "to-table"]
-    + ["from-table", "number-postings", "unmerge", "repost", "to-print", "feed", "publish"],
+    + ["from-table", "number-postings", "unmerge", "repost", "to-print", "to-zthes", "feed", "publish"],
 )
 def test_each_tool_starts(name: str) -> None:
     ran = without_locks(name, "--help")

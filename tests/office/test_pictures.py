@@ -1,4 +1,4 @@
-"""tools/pictures: it makes two pictures of a readable size, as large as those of docs/. docs/GUIDE.md shows both."""
+"""dev/pictures: it makes two pictures of a readable size, as large as those of docs/. docs/GUIDE.md shows both."""
 from __future__ import annotations
 
 import struct
@@ -32,7 +32,7 @@ def made(tmp_path_factory: pytest.TempPathFactory) -> Path:
     """The folder of the pictures that the tool makes."""
     folder = tmp_path_factory.mktemp("pictures")
     (folder / "thesaurus").symlink_to(built())
-    ended = tool("pictures", folder, program_in=folder)
+    ended = tool(str(ROOT / "dev" / "pictures"), folder, program_in=folder)
     assert not ended.status, ended.err.decode()[-300:]
     return folder
 
@@ -40,5 +40,5 @@ def made(tmp_path_factory: pytest.TempPathFactory) -> Path:
 @pytest.mark.needs("chromium")
 @pytest.mark.parametrize("name", NAMES)
 def test_picture_is_as_large_as_that_of_the_documents(name: str, made: Path) -> None:
-    """If it isn't, run tools/pictures, and look at them."""
+    """If it isn't, run dev/pictures, and look at them."""
     assert size_of(made / name) == size_of(ROOT / "docs" / name)

@@ -1,4 +1,4 @@
-"""tools/release in a clean clone of a small repository, with a stand-in for the prover: what it refuses, what is in
+"""dev/release in a clean clone of a small repository, with a stand-in for the prover: what it refuses, what is in
 the archive, and that two builds have the same bytes. The built program itself is packed and run in a bare Debian, where
 debootstrap can make one."""
 from __future__ import annotations
@@ -23,8 +23,18 @@ pytestmark = [
     pytest.mark.needs("git"),
     pytest.mark.skipif(platform.machine() != "x86_64", reason="the processor isn't x86_64"),
 ]
-DOCUMENTS = ("README.md", "CHANGELOG.md", "SECURITY.md", "LICENSE-APACHE", "LICENSE-MIT", "NOTICE", "thesaurus.1")
-PARTS = ("tools", "desk", "share", "examples", "docs", "thesaurus", *DOCUMENTS)
+DOCUMENTS = (
+    "README.md",
+    "CHANGELOG.md",
+    "CONTRIBUTING.md",
+    "SECURITY.md",
+    "LICENSE-APACHE",
+    "LICENSE-MIT",
+    "NOTICE",
+    "thesaurus.1",
+)
+LINKED = "crates/thesaurus/src/lib.rt"
+PARTS = ("dev", "tools", "desk", "share", "examples", "docs", "bench", "thesaurus", LINKED, *DOCUMENTS)
 CRATES = "thes_base:\nthes_core: thes_base json\nthes_cli: thes_base thes_core\ntest_base: thes_base\n"
 KIT = "rattle-kit-0 logic 0123456789abcdef"
 # Prints what `rt ci` prints for the crates of the folder, of thes_core that an earlier run proved it; puts the program
@@ -120,7 +130,7 @@ class Repository:
 
     def release(self, *words: object, **environment: str) -> Ran:
         return subprocess.run(
-            [self.clone / "tools" / "release", *map(str, words)],
+            [self.clone / "dev" / "release", *map(str, words)],
             capture_output=True,
             text=True,
             check=False,
@@ -169,13 +179,6 @@ def test_changed_file_is_refused(it: Repository) -> None:
     changed.write_bytes(text)
 
 
-def test_new_file_is_refused(it: Repository) -> None:
-    new = it.clone / "share" / "new"
-    new.touch()
-    assert_refused(it, 1, "share/new")
-    new.unlink()
-
-
 def test_crate_that_isnt_proved_is_refused(it: Repository) -> None:
     assert_refused(it, 1, "not proved: thes_base", UNPROVED="thes_base")
 
@@ -197,7 +200,10 @@ def test_other_program_is_refused(what: str, it: Repository) -> None:
 @pytest.fixture(scope="module")
 def released(made: Repository) -> Repository:
     made.use(GOOD)
+    new = made.clone / "share" / "new"
+    new.touch()
     ran = made.release()
+    new.unlink()
     assert not ran.returncode, ran
     return made
 
@@ -236,7 +242,22 @@ def test_files_are_those_for_users(tree: Path) -> None:
     files = files_in(tree)
     examples = {"docs/GUIDE.md", "examples/instruments.jsonl", "share/nginx.conf", "tools/site", "tools/install"}
     assert not {"thesaurus", "PROVED", *DOCUMENTS, *examples} - files
-    assert not [one for one in files if one in ("tools/build", "tools/release") or one.startswith("crates")]
+    assert not [one for one in files if one in ("dev/build", "dev/release")]
+    assert [one for one in files if one.startswith("crates")] == [LINKED]
+
+
+def test_file_that_git_doesnt_know_is_left_out(tree: Path) -> None:
+    assert not (tree / "share" / "new").exists()
+
+
+def test_documents_link_to_files_of_the_archive(tree: Path) -> None:
+    links = {
+        document.parent / link
+        for document in tree.rglob("*.md")
+        for link in re.findall(r"\]\(([^)#:\s]+)(?:#[^)]*)?\)", document.read_text(encoding="utf-8"))
+    }
+    assert len(links) > len(DOCUMENTS)
+    assert [str(one) for one in links if not one.exists()] == []
 
 
 def test_proved_names_the_commit_the_kit_the_program_and_the_crates(released: Repository, tree: Path) -> None:

@@ -14,12 +14,15 @@ from html.parser import HTMLParser
 from pathlib import Path
 from typing import Any, NamedTuple
 from urllib.parse import quote, unquote
+from xml.etree import ElementTree
 
 import pytest
 from browser import Page, browsing
 from office import TOOLS, Request
 from program import ROOT, lines_of, over, values_of
 from serving import serving
+from thesaurus_tools.ntriples import parse_statement
+from thesaurus_tools.site_rdf import write_sitemaps
 
 TOOL = TOOLS / "site"
 LANGS = ("en", "de", "fr")
@@ -540,6 +543,88 @@ def large_export() -> Iterator[str]:
             yield triple(n, "broader", node(n // 8)) + triple(n // 8, "narrower", node(n))
         if n % 4 == 0:
             yield triple(n, "related", node(n + 1)) + triple(n + 1, "related", node(n))
+
+
+# --- what it has for programs ---
+
+ADDRESS = "https://museum.example/terms/"
+
+
+@pytest.fixture(scope="module")
+def addressed(sample: Sample, tmp_path_factory: pytest.TempPathFactory) -> Path:
+    """The sample's site, made for an address."""
+    out = tmp_path_factory.mktemp("addressed") / "out"
+    ran = make(
+        (sample.site.root.parent / "sample.nt"), out, "--langs", ",".join(LANGS), "--address", ADDRESS.rstrip("/")
+    )
+    assert not ran.returncode, ran.stderr
+    return out
+
+
+def heads(path: Path, relation: str) -> list[tuple[str, str]]:
+    """Returns the links of a page's head with a relation: their languages or types, and where they lead."""
+    text = path.read_text(encoding="utf-8").partition("</head>")[0]
+    found = re.findall(rf'<link rel="{relation}"(?: (?:hreflang|type)="(.*?)")? href="(.*?)">', text)
+    return [(kind, href) for kind, href in found]
+
+
+def test_each_page_names_itself_and_those_in_other_languages(addressed: Path) -> None:
+    assert heads(addressed / "en" / "5.html", "canonical") == [("", f"{ADDRESS}en/5.html")]
+    assert heads(addressed / "en" / "5.html", "alternate") == [
+        *((lang, f"{ADDRESS}{lang}/5.html") for lang in LANGS),
+        ("text/turtle", "../rdf/5.ttl"),
+    ]
+    (lead, *_) = sorted((addressed / "en").glob("use-*.html"))
+    ((_, target),) = heads(lead, "canonical")
+    assert re.fullmatch(rf"{ADDRESS}en/\d+\.html", target) and not heads(lead, "alternate")
+    (letter, *_) = sorted((addressed / "en").glob("print-*.html"))
+    assert heads(letter, "canonical") == [("", f"{ADDRESS}en/{letter.name.replace('print-', 'az-')}")]
+
+
+def test_the_list_of_pages_has_all_that_are_their_own(addressed: Path) -> None:
+    listed = [it.text for it in ElementTree.parse(addressed / "sitemap.xml").getroot().iter() if it.tag.endswith("loc")]
+    own = {
+        f"{ADDRESS}{path.relative_to(addressed)}"
+        for path in addressed.glob("*/*.html")
+        if heads(path, "canonical") == [("", f"{ADDRESS}{path.relative_to(addressed)}")] and "az-" not in path.name
+    }
+    assert len(listed) == len(set(listed)) and set(listed) == own
+    assert (addressed / "robots.txt").read_text(encoding="ascii") == f"Sitemap: {ADDRESS}sitemap.xml\n"
+
+
+@pytest.mark.needs("xmllint")
+def test_xmllint_takes_the_list_of_pages(addressed: Path) -> None:
+    ran = subprocess.run(["xmllint", "--nonet", "--noout", addressed / "sitemap.xml"], capture_output=True, check=False)
+    assert ran.returncode == 0 and not ran.stderr, ran.stderr
+
+
+def test_a_long_list_of_pages_is_cut(tmp_path: Path, monkeypatch: pytest.MonkeyPatch) -> None:
+    monkeypatch.setattr("thesaurus_tools.site_rdf.MOST_PAGES", 2)
+    write_sitemaps(ADDRESS, ["a&b.html", "c.html", "d.html"], tmp_path)
+    found = {it.name: re.findall("<loc>(.*?)</loc>", it.read_text(encoding="utf-8")) for it in tmp_path.glob("*.xml")}
+    assert found == {
+        "sitemap.xml": [f"{ADDRESS}sitemap-1.xml", f"{ADDRESS}sitemap-2.xml"],
+        "sitemap-1.xml": [f"{ADDRESS}a&amp;b.html", f"{ADDRESS}c.html"],
+        "sitemap-2.xml": [f"{ADDRESS}d.html"],
+    }
+
+
+def test_without_an_address_there_is_no_list(sample: Sample) -> None:
+    assert not (sample.site.root / "sitemap.xml").exists() and not heads(
+        sample.site.root / "en" / "5.html", "canonical"
+    )
+    assert (LANGS[0], f"../{LANGS[0]}/5.html") in heads(sample.site.root / "en" / "5.html", "alternate")
+
+
+@pytest.mark.needs("rapper")
+def test_the_rdf_beside_the_pages_is_that_of_the_export(sample: Sample) -> None:
+    """Each file's is read by rapper; together they have all triples."""
+    lines: set[str] = set()
+    for path in sorted((sample.site.root / "rdf").iterdir()):
+        words = ["rapper", "-q", "-i", "turtle", "-o", "ntriples", str(path)]
+        lines.update(subprocess.run(words, capture_output=True, check=True).stdout.decode().splitlines())
+    wanted = (sample.site.root.parent / "sample.nt").read_text(encoding="utf-8").splitlines()
+    assert {parse_statement(it) for it in lines} == {parse_statement(it) for it in wanted}
 
 
 def test_large_site_takes_little_time(room: Path) -> None:

@@ -150,7 +150,8 @@ def bring_in(office: Office) -> None:
     wanted = (
         f"left out: BadText {lost['spaces']}, S13 {lost['same twice']}, lost "
         f"{lost['notation'] + lost['definition'] + 1} "
-        f"(notation {lost['notation']}, definition {lost['definition']}, created 1), P1 3, UnknownResource 1, S27 1;"
+        f"(notation {lost['notation']}, definition {lost['definition']}, http://purl.org/dc/terms/created 1), "
+        "P1 3, UnknownResource 1, S27 1;"
     )
     changes = [
         ("mine", "museum"),
@@ -200,7 +201,7 @@ def bring_in_table(office: Office) -> None:
     scheme = office.numbers["scheme Musical instruments"]
     office.do(
         "its tree",
-        "./thesaurus --db instruments.db hierarchical",
+        "./thesaurus --db instruments.db --existing hierarchical",
         own,
         ("--scheme 1", f"--scheme {scheme}"),
         wanted=lines("Instruments à cordes", "  Harpes", "  Luths"),
@@ -209,7 +210,7 @@ def bring_in_table(office: Office) -> None:
 
 def check_rules(office: Office) -> None:
     """The export keeps the rules of SKOS."""
-    office.do("export", "./thesaurus --db museum.db export > museum.nt", wanted="")
+    office.do("export", "./thesaurus --db museum.db --existing export > museum.nt", wanted="")
     office.do("rules", "tools/check-skos museum.nt", wanted="all rules hold\n")
 
 
@@ -227,11 +228,11 @@ def index(office: Office) -> None:
     rows = [f'p-{it},"Object {it}, found",{office.number(place_of(it))}' for it in range(1, RECORDS + 1)]
     (office.room / "postings.csv").write_text(lines("key,record,concept", *rows), encoding="utf-8")
     new = lines("row,outcome,number", *(f"{it},new,{it}" for it in range(1, RECORDS + 1)))
-    office.do("import", "./thesaurus --db museum.db import postings.csv", wanted=new)
+    office.do("import", "./thesaurus --db museum.db --existing import postings.csv", wanted=new)
     last = f'p-{RECORDS + 1},"Object of today",{office.number(17)}'
     office.do("a further row", "echo 'p-6,", ('p-6,"Bow for a violin, Paris, about 1820",6', last), wanted="")
     again = new.replace(",new,", ",again,") + f"{RECORDS + 1},new,{RECORDS + 1}\n"
-    office.do("import again", "./thesaurus --db museum.db import postings.csv", wanted=again)
+    office.do("import again", "./thesaurus --db museum.db --existing import postings.csv", wanted=again)
     (office.room / "wrong.csv").write_text(
         lines(
             "key,record,concept",
@@ -244,7 +245,7 @@ def index(office: Office) -> None:
     )
     office.do(
         "wrong rows",
-        "./thesaurus --db museum.db import postings.csv",
+        "./thesaurus --db museum.db --existing import postings.csv",
         ("postings.csv", "wrong.csv"),
         status=1,
         wanted=lines("row,outcome,number", "1,UnknownResource,", "2,KeyReused,", "3,BadShape,", "4,WrongKind,"),
@@ -606,14 +607,14 @@ def correct(office: Office) -> None:
 
 def publish(office: Office) -> None:
     """Displays, a web site and a picture."""
-    shown = office.do("alphabetical", "./thesaurus --db museum.db alphabetical", (" | head -n 7", ""))
+    shown = office.do("alphabetical", "./thesaurus --db museum.db --existing alphabetical", (" | head -n 7", ""))
     office.check(
         "alphabetical",
         f"\n{word(13)} (old term)\n  USE {word(13)}\n" in shown
         and f"\n{word(12)}\n  SN For {word(12).lower()} in" in shown,
         shown[:300],
     )
-    shown = office.do("a tree", "./thesaurus --db museum.db hierarchical --scheme 1 --lang de")
+    shown = office.do("a tree", "./thesaurus --db museum.db --existing hierarchical --scheme 1 --lang de")
     office.check("a tree", f"{word(1)}heit\n" in shown and f"\n  {word(7)}heit\n" in shown, shown[:300])
     began = time.monotonic()
     office.do(
@@ -642,7 +643,7 @@ def draw(office: Office) -> None:
 
 def copy(office: Office) -> None:
     """A backup, what has changed since Thursday, and the backup restored."""
-    sizes = office.do("check", "./thesaurus --db museum.db check", wanted=re.compile("^ok resources="))
+    sizes = office.do("check", "./thesaurus --db museum.db --existing check", wanted=re.compile("^ok resources="))
     office.do("a backup", "tools/backup museum.db backups", wanted="a backup\n")
     text = office.do("changed", "changed --since museum-before/museum.db", (" | head -n 3", ""))
     said = {tuple(it.split()[:2]) for it in text.splitlines()[1:]}
@@ -654,7 +655,7 @@ def copy(office: Office) -> None:
     office.ask({"do": "addLabel", "owner": 1, "kind": "alt", "tag": "en", "text": "A mistake"})
     office.do("moved away", "mkdir -p museum-after", wanted="")
     office.do("restored", "cp backups/museum-", wanted="")
-    office.do("restored", "./thesaurus --db museum.db check", wanted=sizes)
+    office.do("restored", "./thesaurus --db museum.db --existing check", wanted=sizes)
     office.check(
         "restored",
         not office.report("find mistake") and (office.room / "museum-after" / "museum.db").exists(),
@@ -680,7 +681,7 @@ def serve_behind_nginx(office: Office) -> None:
         change_behind_nginx(office, site)
         read_behind_nginx(office, site, served)
     office.check("what was served", len(office.report("find today")) == 1, office.report("find today"))
-    office.do("the end", "./thesaurus --db museum.db check", wanted=re.compile("^ok resources="))
+    office.do("the end", "./thesaurus --db museum.db --existing check", wanted=re.compile("^ok resources="))
 
 
 def url_of(user: tuple[str, str], site: Site) -> str:

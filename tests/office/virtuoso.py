@@ -47,7 +47,7 @@ class Virtuoso:
         )
         words = ["virtuoso-t", "+foreground", "+configfile", str(self.folder / "virtuoso.ini")]
         self.process = subprocess.Popen(words, cwd=self.folder, stdout=subprocess.DEVNULL, stderr=subprocess.DEVNULL)
-        end = time.monotonic() + 90
+        end = time.monotonic() + 300
         while self.sql_says("SELECT 1;").returncode:
             assert time.monotonic() < end and self.process.poll() is None, "Virtuoso didn't start"
             time.sleep(0.5)

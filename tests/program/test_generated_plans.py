@@ -9,52 +9,21 @@ import json
 import tempfile
 from collections import Counter
 from collections.abc import Iterator
-from dataclasses import dataclass, field
 from pathlib import Path
 from typing import Any
 
 import pytest
 from kept import rows_beside
-from plain import Plain
-from plain_plans import perform_line
 from plain_store import LIMITS, rows_of
-from program import MEMORY, Ended, lines_of, over, run, text_of
+from program import MEMORY, over, run, text_of
 from serving import serving
-from thrown_plans import Plans
+from thrown_plans import SMALL, Plans, Script
 
 Request = dict[str, Any]
 SCRIPTS = range(1, 101)
 PLANS = 200
 # Each of these is also sent over HTTP.
 SERVED = SCRIPTS[::5]
-# One script in this number has limits that its plans reach.
-SMALL = {"resources": 60, "labels": 90, "links": 40, "postings": 90, "moves": 60}
-
-
-@dataclass
-class Script:
-    """Lines of requests and plans, with their answers, and the state after them, by the plain program."""
-
-    limits: dict[str, int]
-    lines: list[bytes] = field(default_factory=list)
-    answers: list[Request] = field(default_factory=list)
-    plain: Plain = field(init=False)
-
-    def __post_init__(self) -> None:
-        self.plain = Plain(self.limits)
-
-    def add(self, line: bytes) -> None:
-        if line.strip(b" \t\r"):
-            self.plain, answer = perform_line(self.plain, line.removesuffix(b"\r"))
-            self.lines.append(line)
-            self.answers.append(answer)
-
-    def options(self) -> list[str]:
-        return [it for name, limit in self.limits.items() for it in (f"--max-{name}", str(limit))]
-
-    def wanted(self) -> Ended:
-        is_refused = any("no" in it or "bad" in it for it in self.answers)
-        return Ended(int(is_refused), lines_of(self.answers), b"")
 
 
 @functools.cache

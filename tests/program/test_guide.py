@@ -15,8 +15,8 @@ from ports import free_port
 from program import MEMORY, ROOT, built
 
 PAGE, README, OPERATING = ROOT / "docs" / "GUIDE.md", ROOT / "README.md", ROOT / "docs" / "OPERATING.md"
-# The ports of the pages: that of the program, and that of tools/publish.
-PORT, PUBLISHED = "8080", "8081"
+# The ports of the pages: those of the program, of tools/publish and of the desk.
+PORT, OTHERS = "8080", "8081|8090"
 TOOLS = ("curl", "dot", "rapper", "thesaurus2htmls", "yaz-marcdump")
 BLOCK = re.compile(r"^```sh\n(.*?)^```\n(?:\n```\n(.*?)^```\n)?", re.M | re.S)
 BLOCKS: list[tuple[str, str]] = BLOCK.findall(PAGE.read_text(encoding="utf-8"))
@@ -35,7 +35,7 @@ def make_room(room: Path) -> Path:
 def output_of(commands: str, room: Path, path: str = "") -> str:
     """What a block of commands prints, with these folders of programs or the usual ones."""
     port = free_port()
-    words = ["sh", "-c", re.sub(rf"(:|--port )({PORT}|{PUBLISHED})\b", rf"\g<1>{port}", commands)]
+    words = ["sh", "-c", re.sub(rf"(:|--port )({PORT}|{OTHERS})\b", rf"\g<1>{port}", commands)]
     environment = {**os.environ, "PATH": f"{room}:{path or os.environ['PATH']}"}
     ran = subprocess.run(
         words,

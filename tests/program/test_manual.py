@@ -135,5 +135,7 @@ def test_examples_run_one_after_another() -> None:
 
 
 def test_each_command_has_an_example() -> None:
-    called = {name for it in TEXTS for name in re.findall(r"\bthesaurus --db \S+ (?:--base \S+ )?(\w+)\b", it)}
+    called = {
+        name for it in TEXTS for name in re.findall(r"\bthesaurus --db \S+ (?:--existing |--base \S+ )?(\w+)\b", it)
+    }
     assert called >= by_help()[1].keys()

@@ -11,25 +11,61 @@ from typing import Any
 
 import pytest
 from animals import MADE, MERGED, MERGED_SIZES, NO_TOTALS, START, START_SIZES, TAKEN, TOTALS, VIEWED, VIEWS
-from program import PROGRAM, built, fault, over
+from program import PROGRAM, Ended, built, fault, over
 
 TABLES = ("hier", "label", "link", "meta", "move", "outside", "posting", "resource")
 INDEXES = ("move_posting", "posting_at")
 NOBODY = 65534
 NO_SIZES = b"ok resources=0 labels=0 links=0 accepted=0 withdrawn=0 moves=0\n"
 SHOWN = ("--scheme", "1", "--lang", "en")
-# The commands that only read a store, with their options.
-READERS: dict[str, tuple[str, ...]] = {"check": (), "export": (), "alphabetical": SHOWN, "hierarchical": SHOWN}
+UNKNOWN_SCHEME = Ended(1, b"", b"thesaurus: UnknownResource\n")
+# How each command ends over a new store, with its options; the posting file of an import is empty.
+OVER_NEW: dict[str, tuple[tuple[str, ...], Ended]] = {
+    "script": ((), Ended(0, b"", b"")),
+    "import": (("/dev/null",), Ended(1, b"", b"thesaurus: BadShape\n")),
+    "export": ((), Ended(0, b"", b"")),
+    "alphabetical": (SHOWN, UNKNOWN_SCHEME),
+    "hierarchical": (SHOWN, UNKNOWN_SCHEME),
+    "check": ((), Ended(0, NO_SIZES, b"")),
+    "migrate": ((), Ended(0, b"version 2\n", b"")),
+}
+BASE = "https://museum.example/id/"
+SCHEME = b'{"do":"scheme","tag":"en","text":"Animals"}\n'
 
 
-def test_empty_file_becomes_a_store(tmp_path: Path) -> None:
-    path = tmp_path / "empty.db"
-    path.touch()
-    for command, after in READERS.items():
-        assert over(path, command, after=after) == fault(path, "Store", "not a database")
-        assert not path.stat().st_size and [*tmp_path.iterdir()] == [path]
-    assert over(path, "script", START) == (0, MADE, b"")
-    assert over(path, "script", TOTALS) == (0, NO_TOTALS, b"")
+@pytest.mark.parametrize("is_there", [False, True], ids=["absent", "empty"])
+@pytest.mark.parametrize("command", OVER_NEW)
+def test_each_command_makes_the_store(command: str, is_there: bool, tmp_path: Path) -> None:
+    """Its base is the one given."""
+    path = tmp_path / "new.db"
+    if is_there:
+        path.touch()
+    after, ended = OVER_NEW[command]
+    assert over(path, command, b"", "--base", BASE, after=after) == ended
+    assert not path.with_name("new.db-making").exists()
+    assert over(path, "check", b"", "--existing") == (0, NO_SIZES, b"")
+    assert over(path, "script", SCHEME).status == 0
+    assert f"<{BASE}1>".encode() in over(path, "export").out
+
+
+@pytest.mark.parametrize("is_there", [False, True], ids=["absent", "empty"])
+@pytest.mark.parametrize("command", [*OVER_NEW, "serve"])
+def test_store_that_must_exist_is_not_made(command: str, is_there: bool, tmp_path: Path) -> None:
+    path = tmp_path / "mistyped.db"
+    if is_there:
+        path.touch()
+    after = OVER_NEW[command][0] if command in OVER_NEW else ("--port", "1")
+    ended = over(path, command, b"", "--existing", "--base", BASE, after=after)
+    assert ended == fault(path, "Store", "not a database" if is_there else "no such file")
+    assert [*tmp_path.iterdir()] == ([path] if is_there else []) and (not is_there or not path.stat().st_size)
+
+
+@pytest.mark.parametrize("command", OVER_NEW)
+def test_store_that_exists_is_used(command: str, tmp_path: Path) -> None:
+    path = tmp_path / "whole.db"
+    over(path, "script", START)
+    after = OVER_NEW[command][0]
+    assert over(path, command, b"", "--existing", after=after) == over(path, command, after=after)
 
 
 @pytest.mark.parametrize("command", ["script", "check"])
@@ -85,21 +121,6 @@ def test_journal_that_sqlite_left(tmp_path: Path) -> None:
     assert over(cut, "check") == whole
 
 
-@pytest.mark.parametrize(("command", "after"), READERS.items(), ids=READERS)
-def test_reading_makes_no_file(command: str, after: tuple[str, ...], tmp_path: Path) -> None:
-    path = tmp_path / "absent.db"
-    assert over(path, command, after=after) == fault(path, "Store", "no such file")
-    assert not [*tmp_path.iterdir()]
-
-
-@pytest.mark.parametrize("command", ["script", "import", "migrate"])
-def test_what_may_write_makes_the_store(command: str, tmp_path: Path) -> None:
-    path, postings = tmp_path / "absent.db", tmp_path / "postings.csv"
-    postings.write_bytes(b"key,record,concept\n")
-    assert over(path, command, after=[postings] if command == "import" else ()).status == 0
-    assert over(path, "check") == (0, NO_SIZES, b"")
-
-
 def test_file_with_a_second_name_is_refused(tmp_path: Path) -> None:
     path, other = tmp_path / "linked.db", tmp_path / "other.db"
     over(path, "script", START)
@@ -134,21 +155,25 @@ def test_job_that_is_not_opened_leaves_its_store(tmp_path: Path) -> None:
 def begin_store(path: Path) -> bytes:
     """Has a command begin to make a store that it doesn't need, and returns the bytes of the file."""
     over(path, "import", after=[path.with_name("absent.csv")])
-    assert over(path, "check") == fault(path, "BadStore meta")
+    assert over(path, "check", b"", "--existing") == fault(path, "BadStore meta")
     return path.read_bytes()
 
 
-def test_store_that_is_marked_as_unfinished_is_made(tmp_path: Path) -> None:
-    path = tmp_path / "unfinished.db"
-    assert len(begin_store(path)) == 4096 and (tmp_path / "unfinished.db-making").exists()
+@pytest.mark.parametrize("command", OVER_NEW)
+def test_store_that_is_marked_as_unfinished_is_made(command: str, tmp_path: Path) -> None:
+    path, mark = tmp_path / "unfinished.db", tmp_path / "unfinished.db-making"
+    assert len(begin_store(path)) == 4096 and mark.exists()
+    after, ended = OVER_NEW[command]
+    assert over(path, command, after=after) == ended
+    assert not mark.exists()
     assert over(path, "script", START) == (0, MADE, b"")
 
 
-@pytest.mark.parametrize(("command", "after"), READERS.items(), ids=READERS)
-def test_reading_leaves_an_unfinished_store_and_its_mark(command: str, after: tuple[str, ...], tmp_path: Path) -> None:
+@pytest.mark.parametrize("command", OVER_NEW)
+def test_unfinished_store_that_must_exist_stays_with_its_mark(command: str, tmp_path: Path) -> None:
     path, mark = tmp_path / "unfinished.db", tmp_path / "unfinished.db-making"
     blank = begin_store(path)
-    assert over(path, command, after=after) == fault(path, "BadStore meta")
+    assert over(path, command, b"", "--existing", after=OVER_NEW[command][0]) == fault(path, "BadStore meta")
     assert mark.exists() and path.read_bytes() == blank
     assert over(path, "script", START) == (0, MADE, b"")
     assert not mark.exists()
@@ -163,12 +188,14 @@ def test_database_without_tables_and_mark_is_left(tmp_path: Path) -> None:
     assert not mark.exists() and path.read_bytes() == blank
 
 
+@pytest.mark.parametrize("command", ["script", "check"])
 @pytest.mark.parametrize(("data", "is_left"), [(b"", False), (b"mine", True)], ids=["empty", "of somebody else"])
-def test_mark_at_a_whole_store(data: bytes, is_left: bool, tmp_path: Path) -> None:
+def test_mark_at_a_whole_store(command: str, data: bytes, is_left: bool, tmp_path: Path) -> None:
     path, mark = tmp_path / "whole.db", tmp_path / "whole.db-making"
     over(path, "script", START)
     mark.write_bytes(data)
-    assert over(path, "script", TOTALS) == (0, NO_TOTALS, b"")
+    ended = (0, NO_TOTALS, b"") if command == "script" else (0, START_SIZES, b"")
+    assert over(path, command, TOTALS, "--existing") == ended
     assert mark.exists() == is_left
 
 

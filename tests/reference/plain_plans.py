@@ -1,7 +1,9 @@
 """Reads and performs plans, as the rules say in words: several requests as one, all of them or none. A reference "$k"
-in place of a number is the number that the plan's k-th request made or found."""
+in place of a number is the number that the plan's k-th request made or found. Of the objects that have the changes of
+rows reported, `changes` is left out of the answer."""
 from __future__ import annotations
 
+import json
 import re
 from typing import Any
 
@@ -12,6 +14,9 @@ Request = dict[str, Any]
 Answer = dict[str, Any]
 
 MOST_REQUESTS = 128
+MOST_OF_EACH = 1_024
+# The members of which an object that reports changes has exactly one.
+REPORTING = ("perform", "try", "each")
 REFERENCE = re.compile(r"\$(0|[1-9][0-9]*)", re.ASCII)
 # What a reference can be to, and what the members with numbers ask for.
 MAKES = {
@@ -106,8 +111,31 @@ def run_plan(plain: Plain, plan: list[Request]) -> tuple[Plain, Answer]:
     return after, {"done": answers}
 
 
+def is_report(value: object) -> bool:
+    """Whether a value is an object that is read as several requests whose changes are reported."""
+    return isinstance(value, dict) and any(it in value for it in REPORTING)
+
+
+def perform_each(plain: Plain, value: object) -> tuple[Plain, Answer]:
+    """Performs requests one after another, each by itself."""
+    if not isinstance(value, list) or not 1 <= len(value) <= MOST_OF_EACH:
+        return plain, {"bad": "BadShape"}
+    answers = []
+    for it in value:
+        plain, answer = perform(plain, json.dumps(it).encode())
+        answers.append(answer)
+    return plain, {"each": answers}
+
+
 def perform_plan(plain: Plain, value: object) -> tuple[Plain, Answer]:
     """Performs what is a plan, and returns the next state and the answer."""
+    if isinstance(value, dict) and is_report(value):
+        member = next(it for it in REPORTING if it in value)
+        requests = value[member] if len(value) == 1 else None
+        if member == "each":
+            return perform_each(plain, requests)
+        after, answer = perform_plan(plain, requests if isinstance(requests, list) else None)
+        return (after if member == "perform" else plain), answer
     plan, bad = read_plan(value)
     return (plain, bad) if bad else run_plan(plain, plan)
 
@@ -121,12 +149,12 @@ def perform_body(plain: Plain, body: bytes) -> tuple[Plain, Answer]:
 
 
 def perform_line(plain: Plain, line: bytes) -> tuple[Plain, Answer]:
-    """Performs a line of `script --plans`: a plan if it is an array, else a request."""
+    """Performs a line of `script --plans`: a plan if it is an array or reports changes, else a request."""
     try:
         value = read_json(line)
     except Bad as bad:
         return plain, {"bad": str(bad)}
-    return perform_plan(plain, value) if isinstance(value, list) else perform(plain, line)
+    return perform_plan(plain, value) if isinstance(value, list) or is_report(value) else perform(plain, line)
 
 
 def perform_any(plain: Plain, it: Any) -> tuple[Plain, Answer]:

@@ -1,15 +1,18 @@
-"""Throws plans, which are the same in each run."""
+"""Throws plans, which are the same in each run, and has scripts of them."""
 from __future__ import annotations
 
+from dataclasses import dataclass, field
 from typing import Any
 
 from dice import Requests
 from mangling import mangled
 from plain import Plain
-from plain_plans import ASKS, MAKES, MOST_REQUESTS
-from program import text_of
+from plain_plans import ASKS, MAKES, MOST_REQUESTS, perform_line
+from program import Ended, lines_of, text_of
 
 Request = dict[str, Any]
+# One script in this number has limits that its plans reach.
+SMALL = {"resources": 60, "labels": 90, "links": 40, "postings": 90, "moves": 60}
 
 
 class Plans(Requests):
@@ -62,3 +65,29 @@ class Plans(Requests):
         """The text of a plan; now and then a damaged one."""
         text = text_of(self.plan(plain, self.length()))
         return mangled(self, text).replace(b"\n", b" ") if self.one_in(12) else text
+
+
+@dataclass
+class Script:
+    """Lines of requests and plans, with their answers, and the state after them, by the plain program."""
+
+    limits: dict[str, int]
+    lines: list[bytes] = field(default_factory=list)
+    answers: list[Request] = field(default_factory=list)
+    plain: Plain = field(init=False)
+
+    def __post_init__(self) -> None:
+        self.plain = Plain(self.limits)
+
+    def add(self, line: bytes) -> None:
+        if line.strip(b" \t\r"):
+            self.plain, answer = perform_line(self.plain, line.removesuffix(b"\r"))
+            self.lines.append(line)
+            self.answers.append(answer)
+
+    def options(self) -> list[str]:
+        return [it for name, limit in self.limits.items() for it in (f"--max-{name}", str(limit))]
+
+    def wanted(self) -> Ended:
+        is_refused = any("no" in it or "bad" in it for it in self.answers)
+        return Ended(int(is_refused), lines_of(self.answers), b"")

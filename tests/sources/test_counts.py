@@ -1,4 +1,4 @@
-"""Tests tools/counts over the sources: its tables agree with one another, and the way of a request leads by calls from
+"""Tests dev/counts over the sources: its tables agree with one another, and the way of a request leads by calls from
 main to the core."""
 from __future__ import annotations
 
@@ -9,7 +9,7 @@ from itertools import pairwise
 import pytest
 from program import ROOT
 
-TOOL = ROOT / "tools" / "counts"
+TOOL = ROOT / "dev" / "counts"
 
 
 def counts(*words: str) -> tuple[int, list[str]]:

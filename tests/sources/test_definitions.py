@@ -1,8 +1,8 @@
-"""Checks documents against the sources. docs/GLOSSARY.md is what tools/list-definitions makes of the specs' comments,
+"""Checks documents against the sources. docs/GLOSSARY.md is what dev/list-definitions makes of the specs' comments,
 and the definitions that docs/DEFINITIONS.md names as `File.name` are there. The lists of promises in docs/PROOFS.md are
-what tools/list-promises makes of the comments of functions, each crate of the program is in them, and the functions,
+what dev/list-promises makes of the comments of functions, each crate of the program is in them, and the functions,
 clauses and definitions that its tables name are there. The table of crates in docs/ARCHITECTURE.md is what
-tools/list-crates makes of crates.txt, and the files that it names are there. Each of the tools writes its page with
+dev/list-crates makes of crates.txt, and the files that it names are there. Each of the tools writes its page with
 --write."""
 from __future__ import annotations
 
@@ -41,7 +41,7 @@ def rows_of(page: str) -> Iterator[tuple[list[str], list[str]]]:
 
 @pytest.mark.parametrize("tool", ["list-definitions", "list-promises", "list-crates"])
 def test_page_is_up_to_date(tool: str) -> None:
-    ran = subprocess.run([sys.executable, ROOT / "tools" / tool], capture_output=True, text=True, check=False)
+    ran = subprocess.run([sys.executable, ROOT / "dev" / tool], capture_output=True, text=True, check=False)
     assert not ran.returncode, ran.stdout + ran.stderr
 
 

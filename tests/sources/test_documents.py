@@ -1,19 +1,19 @@
 """What the documents name is there: links and anchors, files, options of commands, requests with their refusals in
 order, names of refusals and faults, limits, tests that aren't in the gate, and the programs that blocks of commands
 call. What there is has its words: each option of a tool, and each refusal in the desk's languages. Figures of speed are
-in bench/RESULTS.md alone, those of the gate in one table of CONTRIBUTING.md; and each document has its length. The
+in bench/RESULTS.md alone, those of the gate in one table of CONTRIBUTING.md; and README is short. The
 sources say what there is; nothing is run."""
 from __future__ import annotations
 
 import ast
 import re
 import shutil
-import tomllib
 from collections.abc import Callable, Iterator
 from pathlib import Path
 
 import pytest
 from program import ROOT
+from thesaurus_desk.words import texts_of
 
 # Yields what is wrong in a document.
 Check = Callable[[Path, str], Iterator[str]]
@@ -25,28 +25,15 @@ DOCUMENTS = [
     ROOT / "examples" / "README.md",
 ]
 PROGRAM = ("./thesaurus", "thesaurus")
-# The most words of each document, by `wc -w`. GLOSSARY.md, WRONG_BODIES.md and RESULTS.md are made.
-LENGTHS: dict[tuple[str, ...], int] = {
-    ("README.md",): 800,
-    ("docs/GUIDE.md",): 4500,
-    ("thesaurus.1",): 1500,
-    ("docs/REQUESTS.md",): 3000,
-    ("docs/HTTP.md",): 1200,
-    ("SECURITY.md",): 800,
-    ("docs/OPERATING.md",): 3500,
-    ("docs/PROOFS.md",): 5000,
-    ("docs/FAILURES.md",): 1000,
-    ("docs/ARCHITECTURE.md",): 5000,
-    ("CONTRIBUTING.md",): 2500,
-    ("docs/DECISIONS.md",): 4500,
-    ("docs/DEFINITIONS.md",): 6000,
-    ("bench/README.md",): 1000,
-}
+# The most words of the README, by `wc -w`: a newcomer reads it for two minutes.
+README_WORDS = 800
 FENCE = re.compile(r"^```(\w*)\n(.*?)^```$", re.M | re.S)
 LINK = re.compile(r"\]\(([^)\s]+)\)")
 # A path in the text or in a command. A word in capitals is any name.
-NAMED = re.compile(r"(?<![\w./-])(?:\./)?((?:tools|tests|bench|examples|share|docs|crates|\.ci)/[\w./@-]*\w)")
+NAMED = re.compile(r"(?<![\w./-])(?:\./)?((?:dev|tools|tests|bench|examples|share|docs|crates|\.ci)/[\w./@-]*\w)")
 OPTION = re.compile(r"(?<![\w-])--[a-z][\w-]*")
+# The options of the program that take no value.
+FLAGS = ("--existing",)
 # A figure of speed: a number with a unit of time, memory or work, or a ratio. Time-outs are whole seconds, limits whole
 # bytes.
 FIGURE = re.compile(
@@ -57,7 +44,7 @@ FIGURE = re.compile(
     )
 )
 # What blocks of commands may call without a word on where it is from: a shell has it, or each Debian.
-COMMON = set("[ cat cmp cp echo grep head kill ls mkdir mv printf sed tail test wait wc".split())
+COMMON = set("[ cat cmp cp date echo grep head kill ls mkdir mv printf sed tail test wait wc".split())
 # Other programs that they call, with the package of Debian that the document names. (`rt` is the toolchain.)
 PACKAGES = {
     "curl": "curl",
@@ -144,7 +131,7 @@ def calls(text: str) -> Iterator[list[str]]:
             words = re.split(r" -- ", call)[0].split()
             while words and re.fullmatch(r"\w+=.*", words[0]):
                 words.pop(0)
-            if words and re.match(r"(\./)?thesaurus$|(tools|tests|bench)/\w", words[0]):
+            if words and re.match(r"(\./)?thesaurus$|(dev|tools|tests|bench)/\w", words[0]):
                 yield words
 
 
@@ -153,7 +140,7 @@ def commands(_: Path, text: str) -> Iterator[str]:
     names = re.findall(r"^\.It Cm (\w+)", read(ROOT / "thesaurus.1"), re.M)
     for words in calls(text):
         if words[0] in PROGRAM:
-            values = {at + 1 for at, it in enumerate(words) if OPTION.fullmatch(it)}
+            values = {at + 1 for at, it in enumerate(words) if OPTION.fullmatch(it) and it not in FLAGS}
             named = [it for at, it in enumerate(words[1:], 1) if at not in values and re.match(r"[a-z]", it)][:1]
             yield from (f"{words[0]} has no command {it}" for it in named if it not in names)
 
@@ -357,9 +344,9 @@ def refusals() -> Iterator[str]:
     names = {it for kind in ("Refusal", "FormFault", "Fault") for it in variants(source, kind)}
     names.update(table(read(ROOT / "docs" / "REQUESTS.md"), "## What the names mean"))
     for language in ("de", "en", "fr"):
-        texts = tomllib.loads(read(ROOT / "desk" / "thesaurus_desk" / "words" / language / "refusals.toml"))
+        texts = texts_of(language)
         yield from (
-            f"{name} has no text in {language}" for name in sorted(names) if not texts.get(name, {}).get("text")
+            f"{name} has no text in {language}" for name in sorted(names) if not texts.get(f"refusals.{name}.text")
         )
 
 
@@ -367,6 +354,16 @@ def refusals() -> Iterator[str]:
 @pytest.mark.parametrize("check", [links, paths, commands, options, programs, figures], ids=lambda it: it.__name__)
 def test_document_names_what_is_there(path: Path, check: Check) -> None:
     assert not list(check(path, read(path)))
+
+
+UNITS = sorted(ROOT.glob("share/*.service"))
+
+
+@pytest.mark.parametrize("path", [*DOCUMENTS, *UNITS], ids=lambda it: str(it.relative_to(ROOT)))
+def test_a_command_that_needs_a_store_makes_none(path: Path) -> None:
+    """One with a mistyped name would: so each says that its store is there, or with which base it is made."""
+    found = re.findall(r"(?:^ *|=|\|\| )(?:\S*/)thesaurus --db (\S+) (.*)$", read(path), re.M)
+    assert [it for it in found if it[0] != "new.db" and not re.match(r"--existing |--base ", it[1])] == []
 
 
 def test_manual_names_files_that_are_there() -> None:
@@ -386,12 +383,14 @@ def test_program_of_a_block_is_there(name: str) -> None:
 
 
 def test_programs_of_blocks_are_installed_for_checks() -> None:
-    packages = {*re.findall(r"[\w.-]+", read(ROOT / "tools" / "install-checks").split('packages="')[1].split('"')[0])}
+    packages = {*re.findall(r"[\w.-]+", read(ROOT / "dev" / "install-checks").split('packages="')[1].split('"')[0])}
     assert {*PACKAGES.values()} - {"toolchain"} <= packages
 
 
 @pytest.mark.parametrize(
-    "path", [it for it in sorted((ROOT / "tools").iterdir()) if it.is_file()], ids=lambda it: it.name
+    "path",
+    [it for folder in ("dev", "tools") for it in sorted((ROOT / folder).iterdir()) if it.is_file()],
+    ids=lambda it: it.name,
 )
 def test_each_option_of_a_tool_is_named(path: Path) -> None:
     """By its help, or else by a document."""
@@ -399,7 +398,5 @@ def test_each_option_of_a_tool_is_named(path: Path) -> None:
     assert not [it for it in silent_options(path) if not re.search(rf"(?<![\w-]){it}(?![\w-])", documents)]
 
 
-@pytest.mark.parametrize("names", LENGTHS, ids=" and ".join)
-def test_length(names: tuple[str, ...]) -> None:
-    found, wanted = sum(len(read(ROOT / it).split()) for it in names), LENGTHS[names]
-    assert found <= wanted
+def test_readme_is_short() -> None:
+    assert len(read(ROOT / "README.md").split()) <= README_WORDS

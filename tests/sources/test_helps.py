@@ -18,7 +18,7 @@ PATIENCE = 60
 COMMANDS = [
     *(
         it
-        for folder in ("tools", "bench")
+        for folder in ("dev", "tools", "bench")
         for it in sorted((ROOT / folder).iterdir())
         if it.is_file() and os.access(it, os.X_OK)
     ),

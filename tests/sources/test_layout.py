@@ -64,7 +64,7 @@ def test_lines_are_no_longer(kind: str) -> None:
 
 
 def test_functions_have_few_parameters() -> None:
-    ran = subprocess.run([ROOT / "tools" / "counts", "--parameters"], capture_output=True, text=True, check=True)
+    ran = subprocess.run([ROOT / "dev" / "counts", "--parameters"], capture_output=True, text=True, check=True)
     assert len(ran.stdout.splitlines()) <= PARAMETERS, ran.stdout
 
 
@@ -96,7 +96,7 @@ def blocks(paths: list[Path], least: int) -> Iterator[str]:
 def python_files() -> list[Path]:
     """The Python of the repository, also of scripts without an ending."""
     scripts = [
-        it for folder in ("tools", "bench") for it in (ROOT / folder).iterdir() if it.is_file() and not it.suffix
+        it for folder in ("dev", "tools", "bench") for it in (ROOT / folder).iterdir() if it.is_file() and not it.suffix
     ]
     return sorted(
         [*files(".py"), *(it for it in scripts if it.read_text(encoding="utf-8").startswith("#!/usr/bin/env python3"))]
@@ -117,8 +117,14 @@ def test_few_blocks_are_written_twice(paths: Callable[[], list[Path]], least: in
     "package",
     [
         "tools/thesaurus_tools",
-        "tools/wrong_bodies",
-        *(f"desk/thesaurus_desk{it}" for it in ("", "/entry", "/journal", "/mirror")),
+        "dev/wrong_bodies",
+        *(
+            f"desk/thesaurus_desk{it}"
+            for it in (
+                "",
+                *"/auth /importing /interfaces /journal /store /web /web/pages /web/refusals /words".split(),
+            )
+        ),
     ],
 )
 def test_a_package_lists_its_modules(package: str) -> None:

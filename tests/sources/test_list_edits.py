@@ -21,13 +21,13 @@ HEAD = """# Wrong bodies
 Made by `tests/run --write list-edits`; `.ci/run` checks that it is up to date. A wrong body is an edit of a function
 after which it no longer does what its contract says; a clause of that contract must refuse it. A star marks a wrong
 definition, which a law must refuse. The edit NAME is under that heading in a file of its crate's `wrong/`, which has
-the path of the source; with a star it is the file `must-fail/NAME.edit`. `tools/refuse_bodies.py` tries those of
+the path of the source; with a star it is the file `must-fail/NAME.edit`. `dev/refuse_bodies.py` tries those of
 `wrong/`, several in one run of the prover; `rt ci` tries the others, one by one. If a name isn't enough, a sentence of
 the edit explains it; the old text and the new one follow. What a function promises is in the clauses above its body;
 [PROOFS.md](PROOFS.md) sums them up.
 
 A refusal with ° says little: the proof rests on the shape of its function, so that a neutral edit, which only splits a
-case in two, is refused, too (`tools/refuse_bodies.py --control`).
+case in two, is refused, too (`dev/refuse_bodies.py --control`).
 """
 
 

@@ -10,9 +10,15 @@ from pathlib import Path
 import pytest
 from program import ROOT
 
-FOLDERS = ("tools", "bench", "desk", "tests")
+FOLDERS = ("dev", "tools", "bench", "desk", "tests")
 # What mypy reads at a time, since scripts of two folders may have one name.
-CHECKED = ("tools", "bench", "desk", *(f"tests/{it.name}" for it in sorted((ROOT / "tests").iterdir()) if it.is_dir()))
+CHECKED = (
+    "dev",
+    "tools",
+    "bench",
+    "desk",
+    *(f"tests/{it.name}" for it in sorted((ROOT / "tests").iterdir()) if it.is_dir()),
+)
 
 
 @cache

@@ -21,7 +21,8 @@ HEAD = re.compile(
     )
 )
 ROW = re.compile(
-    r"\| [^|]+ \| [\d.,]+( to [\d.,]+)? (s|ms|times|microseconds|MB|bytes|instructions) \| ([\d.,]+: (held|missed))? \|"
+    r"\| [^|]+ \| [\d.,]+( to [\d.,]+)? (s|ms|times|microseconds|MB|bytes|instructions|%) \|"
+    r" ([\d.,]+: (held|missed))? \|"
 )
 UNMEASURED = "Not measured yet."
 PAGE = "# Results\n\nText.\n\n## `bench/a`\n\nOld a.\n\n## `bench/c`\n\nOld c.\n"

@@ -9,15 +9,18 @@ import re
 import shutil
 import sqlite3
 import stat
+import subprocess
 import tempfile
 import time
 from collections.abc import Iterator
 from dataclasses import asdict, dataclass
+from datetime import UTC, datetime
 from pathlib import Path
 
 from thesaurus_tools.command_line import REFUSED, ToolError
 from thesaurus_tools.files import give_copy_to_owner, give_to_owner, synchronize
 from thesaurus_tools.opening import open_file
+from thesaurus_tools.program import EXISTING
 
 # The file of a backup that says which store it is.
 SIGN = "backup.json"
@@ -53,6 +56,25 @@ def base_of(copy: Path) -> str:
         return found
     with open_file(copy) as store:
         return store.base
+
+
+def check_copy(program: str, copy: Path, counts: dict[str, int]) -> str:
+    """Has the program check the copy of a store, and compares the counts of postings. Returns what it printed. Raises
+    ToolError."""
+    ran = subprocess.run([program, "--db", str(copy), EXISTING, "check"], capture_output=True, text=True, check=False)
+    if ran.returncode:
+        raise ToolError(f"the copy doesn't pass the check, so it isn't kept: {ran.stderr.strip()}", REFUSED)
+    found = dict(it.split("=") for it in ran.stdout.split()[1:])
+    if any(name in counts and counts[name] != int(found[name]) for name in ("accepted", "withdrawn")):
+        raise ToolError(
+            f"the copy isn't what the program serves, so it isn't kept: {ran.stdout.strip()}, and not {counts}", REFUSED
+        )
+    return ran.stdout.strip()
+
+
+def time_of(name: str, stem: str) -> datetime:
+    """Returns when a backup was made, by its name."""
+    return datetime.strptime(name.removeprefix(f"{stem}-")[:16], "%Y%m%dT%H%M%SZ").replace(tzinfo=UTC)
 
 
 def write_sign(room: Path, name: StoreName) -> None:

@@ -6,6 +6,7 @@ from collections.abc import Iterable
 
 from thesaurus_tools.kinds import BROADER, LABEL_KINDS
 from thesaurus_tools.store import Store, normal_link
+from thesaurus_tools.values import FieldValue, source_of, text_of
 
 # A resource by its number, or by the name that a script gives it, as $row5; an outside concept by its IRI.
 Reference = int | str
@@ -17,6 +18,7 @@ class Draft:
     def __init__(self, store: Store, langs: Iterable[str]):
         self.store, self.langs = store, list(langs)
         self.labels: dict[Reference, set[tuple[str, str, str]]] = {}
+        self.values: dict[Reference, list[FieldValue]] = {}
         self.added: set[tuple[str, Reference, Reference]] = set()
         self.removed: set[tuple[str, Reference, Reference]] = set()
         # The concepts that have a label, by its text: by kind and tag.
@@ -37,6 +39,16 @@ class Draft:
     def texts(self, owner: Reference, kind: str, tag: str) -> list[str]:
         """Returns the labels of a kind in a language."""
         return sorted(text for its, of, text in self.labels_of(owner) if (its, of) == (kind, tag))
+
+    def values_of(self, owner: Reference) -> list[FieldValue]:
+        """Returns the values of fields of a resource."""
+        if owner not in self.values:
+            self.values[owner] = list(self.store.values_of.get(owner, ())) if isinstance(owner, int) else []
+        return self.values[owner]
+
+    def held(self, owner: Reference, field: str, tag: str) -> list[FieldValue]:
+        """Returns the values of a field of a resource in a language, or with a code."""
+        return [it for it in self.values_of(owner) if (it.field, it.tag) == (field, tag)]
 
     def has_link(self, kind: str, a: Reference, b: Reference) -> bool:
         """Whether a link is there."""
@@ -95,6 +107,8 @@ class Draft:
             link = self.key(request["kind"], request["a"], request["b"])
             (self.added if do == "link" else self.removed).add(link)
             (self.removed if do == "link" else self.added).discard(link)
+        elif do == "set":
+            self.set_value(request)
         elif do == "deprecate":
             self.ended.add(request["concept"])
         elif do == "merge":
@@ -109,6 +123,14 @@ class Draft:
             if above != target:
                 self.added.add(self.key(kind, target, above))
         self.ended.add(source)
+
+    def set_value(self, request: dict) -> None:
+        """Adds, changes or removes a value of a field."""
+        owner, name, tag = request["owner"], request["field"], request["tag"]
+        held, old, new = self.values_of(owner), text_of(request["old"]), text_of(request["new"])
+        place = next((at for at, it in enumerate(held) if it[1:4] == (name, tag, old)), len(held))
+        after = [] if new is None else [FieldValue(owner, name, tag, new, source_of(request["new"]))]
+        held[place : place + 1] = after
 
     def add_label(self, owner: Reference, kind: str, tag: str, text: str) -> None:
         self.labels_of(owner).add((kind, tag, text))

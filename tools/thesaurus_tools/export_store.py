@@ -56,7 +56,8 @@ def read_contents(name: str, triples: Iterable[Triple], base: str | None = None)
         for subject, text in properties[SKOS + name]
         if subject in numbers and isinstance(text, Literal)
     ]
-    return Contents(base, read_resources(kinds, properties), labels, set(read_links(numbers, properties)))
+    collections = {iri for iri, (_, kind) in kinds.items() if kind == "collection"}
+    return Contents(base, read_resources(kinds, properties), labels, set(read_links(numbers, collections, properties)))
 
 
 def find_base(properties: Properties) -> str:
@@ -97,9 +98,9 @@ def read_resources(kinds: dict[str, tuple[int, str]], properties: Properties) ->
     }
 
 
-def read_links(numbers: dict[str, int], properties: Properties) -> Iterator[Link]:
-    """Yields the links, those that are stated twice twice."""
+def read_links(numbers: dict[str, int], collections: set[str], properties: Properties) -> Iterator[Link]:
+    """Yields the links, those that are stated twice twice. A collection within another one is none of its members."""
     for name, kind in LINK_PROPERTIES.items():
         for subject, target in properties[SKOS + name]:
-            if subject in numbers:
+            if subject in numbers and not (kind == "member" and target in collections):
                 yield normal_link(kind, numbers[subject], numbers.get(str(target), str(target)))

@@ -3,18 +3,23 @@ from __future__ import annotations
 
 import tempfile
 from collections import defaultdict, deque
-from collections.abc import Iterable
+from collections.abc import Callable, Iterable
 from pathlib import Path
 
+from thesaurus_tools.arrays import list_owner
 from thesaurus_tools.command_line import REFUSED, ToolError
 from thesaurus_tools.export_store import Properties, find_base
 from thesaurus_tools.kinds import BROADER
+from thesaurus_tools.mads import mads_of_skos
 from thesaurus_tools.ntriples import SKOS, Iri, Triple, parse_ntriples, read_document
 from thesaurus_tools.opening import open_file, open_served
-from thesaurus_tools.program import copy_closed, find_program, run_program
+from thesaurus_tools.program import EXISTING, copy_closed, find_program, run_program
 from thesaurus_tools.rdf_writing import ISO_THES
+from thesaurus_tools.skos_xl import xl_labels
 
 SQLITE = b"SQLite format 3\0"
+# The words of RDF in which a thesaurus is written, beside those of SKOS.
+WORDS: dict[str, Callable[[Iterable[Triple]], Iterable[Triple]]] = {"skos-xl": xl_labels, "madsrdf": mads_of_skos}
 # The types of hierarchical links, with the words of ISO-THES for them at the narrower and the broader concept.
 TYPES = {it: (ISO_THES + it, ISO_THES + it.replace("broader", "narrower")) for it in BROADER[1:]}
 
@@ -24,7 +29,7 @@ def export_of_store(path: Path, program: str | None) -> bytes:
     with tempfile.TemporaryDirectory() as folder:
         copy = Path(folder, "copy.db")
         copy_closed(path, copy)
-        return run_program([find_program(program), "--db", str(copy), "export"])
+        return run_program([find_program(program), "--db", str(copy), EXISTING, "export"])
 
 
 def read_triples(path: Path, program: str | None = None) -> list[Triple]:
@@ -64,17 +69,18 @@ def type_triples(place: Path | str) -> list[Triple]:
 def choose_scheme(triples: list[Triple], base: str, scheme: int) -> list[Triple]:
     """Returns the triples about a scheme, and about what belongs to it. Raises ToolError if there is no such scheme."""
     iri = Iri(f"{base}{scheme}")
-    chosen = {it.subject for it in triples if it.predicate == SKOS + "inScheme" and it.object == iri} | {iri}
+    chosen: set[str] = {it.subject for it in triples if it.predicate == SKOS + "inScheme" and it.object == iri} | {iri}
     if not any(it.subject == iri and it.object == SKOS + "ConceptScheme" for it in triples):
         raise ToolError(f"no scheme has the number {scheme}", REFUSED)
-    return [it for it in triples if it.subject in chosen]
+    return [it for it in triples if list_owner(it.subject) in chosen]
 
 
 def choose_branch(triples: list[Triple], base: str, top: int) -> list[Triple]:
-    """Returns the triples about a concept and all below it. Raises ToolError if there is no such concept."""
-    below, chosen, waiting = defaultdict(list), {Iri(f"{base}{top}")}, deque([Iri(f"{base}{top}")])
+    """Returns the triples about a concept and all below it, arrays among it. Raises ToolError if there is no such
+    concept."""
+    below, chosen, waiting = defaultdict(list), {f"{base}{top}"}, deque([Iri(f"{base}{top}")])
     for it in triples:
-        if it.predicate == SKOS + "narrower":
+        if it.predicate in (SKOS + "narrower", ISO_THES + "subordinateArray"):
             below[it.subject].append(it.object)
     if not any(it.subject in chosen and it.object == SKOS + "Concept" for it in triples):
         raise ToolError(f"no concept has the number {top}", REFUSED)
@@ -83,7 +89,7 @@ def choose_branch(triples: list[Triple], base: str, top: int) -> list[Triple]:
             if isinstance(other, Iri) and other not in chosen:
                 chosen.add(other)
                 waiting.append(other)
-    return [it for it in triples if it.subject in chosen]
+    return [it for it in triples if list_owner(it.subject) in chosen]
 
 
 def check_same_base(then: str, now: str) -> None:

@@ -3,7 +3,7 @@ from __future__ import annotations
 
 import re
 from collections import defaultdict
-from collections.abc import Callable, Iterable
+from collections.abc import Callable, Iterable, Iterator, Mapping, Set
 from dataclasses import dataclass
 from pathlib import Path
 
@@ -13,8 +13,9 @@ from thesaurus_tools.line_differences import Lines, differences
 from thesaurus_tools.ntriples import Node, Triple, parse_statement
 from thesaurus_tools.triple_store import TripleStore, plain
 
-# The most triples of an update, and the most changed resources that a query is about.
-MOST_TRIPLES, MOST_ASKED = 500, 20
+# The most triples of an update; the most resources that a query is about, and the most rows of its answer; the most
+# bytes of a part of a graph.
+MOST_TRIPLES, MOST_ASKED, MOST_ROWS, MOST_BYTES = 500, 100, 2000, 500_000
 # A sign by its code, and the most bytes of a wrong line that are shown.
 CODED, SHOWN = re.compile(rb"(?<!\\)(?:\\\\)*\\[uU]"), 60
 # As many subjects are found faster by the beginnings of lines.
@@ -31,10 +32,14 @@ class Fed:
 
 
 class Feed:
-    """Feeds a triple store."""
+    """Feeds a triple store. With `compared` each call that changes nothing compares so many resources, one after
+    another, and otherwise all."""
 
-    def __init__(self, target: TripleStore, state: Path, report: Callable[[str], object]):
+    def __init__(self, target: TripleStore, state: Path, report: Callable[[str], object], compared: int = 0):
         self.target, self.state, self.report = target, FedState(state).read(), report
+        self.compared, self.place = compared, 0
+        # A graph for what is put anew, until it takes the place of the other one.
+        self.beside = f"{target.graph}-new"
 
     def feed(self, export: bytes) -> Fed:
         """Makes the triple store equal to an export, in which no line stands twice.
@@ -45,29 +50,42 @@ class Feed:
             raise ToolError("there are no triples, so nothing is fed", REFUSED)
         known = self.state.known
         if known is None:
-            return self.put_all(export, now)
+            return self.put_all(now)
         gone, come = differences(known, now)
         check_triples(come)
         if not gone and not come:
-            return Fed(0, 0) if self.target.count() == len(known) else self.put_all(export, now)
+            return Fed(0, 0) if self.is_equal(now, self.next_subjects(now)) else self.put_all(now)
         # (what others wrote meanwhile is found by the count after the update, too)
         self.state.begin()
         self.send(gone, come)
         if not self.is_equal(now, subjects_of(gone | come)):
             self.report("the store differs after an update, so all of it is put anew")
-            return self.put_all(export, now)
+            return self.put_all(now)
         self.state.note(now, gone, come)
         return Fed(len(gone), len(come))
 
-    def put_all(self, export: bytes, now: Lines) -> Fed:
-        """Puts all triples in place of those there."""
+    def next_subjects(self, now: Lines) -> list[str]:
+        """Returns the subjects to be compared by a call that changes nothing."""
+        subjects = subjects_of(now)
+        if not self.compared:
+            return subjects
+        start = self.place if self.place < len(subjects) else 0
+        self.place = start + self.compared
+        return subjects[start : self.place]
+
+    def put_all(self, now: Lines) -> Fed:
+        """Puts all triples in place of those there. Readers see the old ones until the new ones are all there: these
+        are put in a graph beside, which takes the other's place by one update."""
         check_triples(now)
         self.state.forget()
+        self.target.update(f"CLEAR SILENT GRAPH <{self.beside}>")
         if self.target.graph_store_url:
-            self.target.put(export)
+            for part in parts_of(now, MOST_BYTES):
+                self.target.post(b"\n".join(part) + b"\n", self.beside)
         else:
-            self.target.update(f"CLEAR SILENT GRAPH <{self.target.graph}>")
-            self.send((), now)
+            for at in range(0, len(now), MOST_TRIPLES):
+                self.target.update(update_of(self.beside, (), now[at : at + MOST_TRIPLES]))
+        self.target.update(f"MOVE GRAPH <{self.beside}> TO GRAPH <{self.target.graph}>")
         if self.target.count() != len(now):
             self.report(f"the store says that it has {self.target.count()} triples, and not {len(now)}")
         self.state.note_all(now)
@@ -83,21 +101,12 @@ class Feed:
         added: list[bytes] = []
         for _, (less, more) in sorted(changes.items()):
             if len(removed) + len(added) + len(less) + len(more) > MOST_TRIPLES and (removed or added):
-                self.target.update(self.update_of(removed, added))
+                self.target.update(update_of(self.target.graph, removed, added))
                 removed, added = [], []
             removed += less
             added += more
         if removed or added:
-            self.target.update(self.update_of(removed, added))
-
-    def update_of(self, removed: Iterable[bytes], added: Iterable[bytes]) -> str:
-        """Returns the SPARQL Update that removes and adds triples."""
-        parts = [
-            f"{what} DATA {{ GRAPH <{self.target.graph}> {{\n" + b"\n".join(sorted(lines)).decode() + "\n} }"
-            for what, lines in (("DELETE", removed), ("INSERT", added))
-            if lines
-        ]
-        return " ;\n".join(parts)
+            self.target.update(update_of(self.target.graph, removed, added))
 
     def is_equal(self, now: Lines, subjects: list[str]) -> bool:
         """Whether the store has as many triples as it should, and says of what has changed what it should."""
@@ -108,8 +117,50 @@ class Feed:
         for triple in map(parsed, lines_about(chosen, now)):
             if triple:
                 wanted[str(triple.subject)].add((str(triple.subject), str(triple.predicate), plain(triple.object)))
-        parts = (subjects[at : at + MOST_ASKED] for at in range(0, len(subjects), MOST_ASKED))
+        # (of a resource with very many triples a store may not answer all: they are counted)
+        large = [it for it in subjects if len(wanted[it]) > MOST_ROWS]
+        if any(self.target.count(it) != len(wanted[it]) for it in large):
+            return False
+        parts = asked_together([it for it in subjects if len(wanted[it]) <= MOST_ROWS], wanted)
         return all(self.target.about(part) == set().union(*(wanted[it] for it in part)) for part in parts)
+
+
+def asked_together(subjects: Iterable[str], wanted: Mapping[str, Set[object]]) -> Iterator[list[str]]:
+    """Yields subjects in parts: as many as a query may be about, with as many triples as its answer may have."""
+    part: list[str] = []
+    rows = 0
+    for it in subjects:
+        if part and (len(part) == MOST_ASKED or rows + len(wanted[it]) > MOST_ROWS):
+            yield part
+            part, rows = [], 0
+        part.append(it)
+        rows += len(wanted[it])
+    if part:
+        yield part
+
+
+def parts_of(lines: Lines, most: int) -> Iterator[Lines]:
+    """Yields lines in parts of some bytes."""
+    part: Lines = []
+    size = 0
+    for it in lines:
+        if part and size + len(it) > most:
+            yield part
+            part, size = [], 0
+        part.append(it)
+        size += len(it) + 1
+    if part:
+        yield part
+
+
+def update_of(graph: str, removed: Iterable[bytes], added: Iterable[bytes]) -> str:
+    """Returns the SPARQL Update that removes triples from a graph, and adds others."""
+    parts = [
+        f"{what} DATA {{ GRAPH <{graph}> {{\n" + b"\n".join(sorted(lines)).decode() + "\n} }"
+        for what, lines in (("DELETE", removed), ("INSERT", added))
+        if lines
+    ]
+    return " ;\n".join(parts)
 
 
 def lines_about(subjects: set[bytes], lines: Lines) -> Lines:

@@ -6,6 +6,7 @@ import contextlib
 import csv
 import io
 import os
+import re
 import sys
 from collections.abc import Iterable, Iterator
 from pathlib import Path
@@ -17,6 +18,7 @@ from thesaurus_tools.sentences import TABLES
 MOST_BYTES = 64 << 20
 BYTE_ORDER_MARKS = ((codecs.BOM_UTF8, "utf-8-sig"), (codecs.BOM_UTF16_LE, "utf-16"), (codecs.BOM_UTF16_BE, "utf-16"))
 SEPARATORS = ",;\t"
+SEPARATOR_LINE = re.compile('"?sep=([,;\t|])"?', re.IGNORECASE)
 # What an ODS or XLSX file begins with.
 ARCHIVE = b"PK\x03\x04"
 
@@ -64,15 +66,18 @@ def rows_of_text(path: Path | str, text: str) -> Iterator[tuple[int, list[str]]]
     them. Raises TableError with `FILE:LINE` for what is no table."""
     if "\0" in text:
         raise TableError("nul", path, text[: text.index("\0")].count("\n") + 1)
-    first = text.partition("\n")[0]
-    reader = csv.reader(io.StringIO(text, newline=""), delimiter=max(SEPARATORS, key=first.count), strict=True)
+    first, end, rest = text.partition("\n")
+    # (Excel's own line, which says what parts the cells)
+    before = 1 if (named := SEPARATOR_LINE.fullmatch(first.rstrip("\r"))) else 0
+    separator = named[1] if named else max(SEPARATORS, key=first.count)
+    reader = csv.reader(io.StringIO(rest if named else text, newline=""), delimiter=separator, strict=True)
     line = 1
     try:
         for cells in reader:
-            yield line, cells
+            yield before + line, cells
             line = reader.line_num + 1
     except csv.Error as error:
-        raise TableError("csv", path, reader.line_num, error=error) from None
+        raise TableError("csv", path, before + reader.line_num, error=error) from None
 
 
 def read_cells(path: Path | str) -> Iterator[tuple[int, list[str]]]:
@@ -118,6 +123,18 @@ def give_to_owner(file: int, folder: Path) -> None:
     if os.geteuid() == 0 and (found.st_uid, found.st_size, found.st_nlink) == (0, 0, 1):
         with contextlib.suppress(OSError):
             os.fchown(file, owner.st_uid, owner.st_gid)
+
+
+def open_without_links(path: Path, flags: int) -> int:
+    """Opens a file that is no symbolic link; makes it, for the owner of its folder alone, if there is none. Raises
+    ToolError."""
+    try:
+        opened = os.open(path, flags | os.O_CREAT | os.O_NOFOLLOW | os.O_CLOEXEC, 0o600)
+    except OSError as error:
+        reason = "it is a symbolic link" if path.is_symlink() else error.strerror
+        raise ToolError(f"{path}: {reason}") from None
+    give_to_owner(opened, path.parent)
+    return opened
 
 
 def give_copy_to_owner(copy: Path, folder: Path) -> None:

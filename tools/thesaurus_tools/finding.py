@@ -2,6 +2,8 @@
 from __future__ import annotations
 
 import re
+from collections import defaultdict
+from functools import cached_property
 
 from thesaurus_tools.command_line import ToolError
 from thesaurus_tools.drafts import Draft, Reference
@@ -29,27 +31,63 @@ class ConceptFinder:
 
     def find(self, name: str, kind: str = "concept", scheme: int | None = None) -> Reference:
         """Returns what a name stands for. Raises RowError if nothing has it, or several have it."""
+        number = self.number_of(name)
+        text = name.removeprefix("<").removesuffix(">").strip()
+        return self.live(number, kind) if number else self.find_text(text, kind, scheme or self.scheme)
+
+    def find_any(self, name: str) -> Reference:
+        """Returns what a name stands for; of a number or an address also a collection, a scheme, or what is no longer
+        in use. Raises RowError."""
+        return self.number_of(name) or self.find(name)
+
+    def number_of(self, name: str) -> int | None:
+        """Returns the resource that a name gives by its number or its address, if it does."""
         resources, base = self.draft.store.resources, self.draft.store.base
         text = name.removeprefix("<").removesuffix(">").strip()
         number = text.removeprefix(base) if base and text.startswith(base) else text.removeprefix("#")
         if re.fullmatch("[0-9]{1,10}", number) and int(number) in resources:
-            return self.live(int(number), kind)
-        if IRI_FORM.fullmatch(text) and text in self.by_iri:
-            return self.live(int(self.by_iri[text]), kind)
-        return self.find_text(text, kind, scheme or self.scheme)
+            return int(number)
+        return int(self.by_iri[text]) if IRI_FORM.fullmatch(text) and text in self.by_iri else None
+
+    @cached_property
+    def by_notation(self) -> dict[tuple[str, str], set[Reference]]:
+        """The resources that have a notation, by its code and its text."""
+        found: dict[tuple[str, str], set[Reference]] = defaultdict(set)
+        for number, values in self.draft.store.values_of.items():
+            for it in values:
+                if it.field == "notation":
+                    found[it.tag, it.text].add(number)
+        return found
+
+    def find_notation(self, code: str, text: str) -> Reference:
+        """Returns the live concept that has a notation of a code. Raises RowError if none has it, or several have
+        it."""
+        holders = {it for it in self.by_notation.get((code, text), ()) if self.is_of(it, "concept", self.scheme)}
+        live = {it for it in holders if self.draft.is_live(it)}
+        if len(live) == 1:
+            return live.pop()
+        if live:
+            raise RowError("several_have", text=text, concepts=self.candidates(live))
+        if holders:
+            raise RowError("term_of_ended", text=text, concepts=self.candidates(holders))
+        raise RowError("not_called", kind="concept", text=text)
 
     def live(self, number: int, kind: str) -> int:
         """Returns a number whose resource is live and of the kind. Raises RowError for another one."""
         found = self.draft.store.resources[number]
         if found.kind != kind:
             raise RowError("wrong_kind", number=number, found=found.kind, kind=kind)
-        if not self.draft.is_live(number):
-            end = self.draft.store.live_end(number)
-            dead = {"number": number, "term": self.draft.term(number)}
+        self.check_live(number)
+        return number
+
+    def check_live(self, concept: Reference) -> None:
+        """Raises RowError for what is no longer in use."""
+        if isinstance(concept, int) and not self.draft.is_live(concept):
+            end = self.draft.store.live_end(concept)
+            dead = {"number": concept, "term": self.draft.term(concept)}
             if end and self.draft.is_live(end):
                 raise RowError("merged", **dead, end=end, its_term=self.draft.term(end))
             raise RowError("ended", **dead)
-        return number
 
     def find_text(self, text: str, kind: str, scheme: int | None) -> Reference:
         """Returns what has a text as its code or term: the first kind of label by which somebody has it decides."""

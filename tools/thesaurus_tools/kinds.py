@@ -3,6 +3,8 @@
 RESOURCE_KINDS = ("scheme", "concept", "collection")
 LABEL_KINDS = ("pref", "alt", "hidden", "scope")
 BROADER = ("broader", "broaderGeneric", "broaderPartitive", "broaderInstantial")
+# The language of hidden labels that are codes of an earlier system: that of what is in no language.
+CODES = "zxx"
 MAPPINGS = ("exact", "close", "broad", "narrow", "relMatch")
 # Links that are the same from both ends.
 SYMMETRIC = ("related", "exact", "close", "relMatch")

@@ -2,7 +2,10 @@
 from __future__ import annotations
 
 import argparse
+from collections.abc import Sequence
 
+# How many resources a store may have, unless an option says another number.
+MOST_RESOURCES = 20_000
 LIMITED = ("resources", "labels", "links", "postings", "moves")
 
 
@@ -16,3 +19,9 @@ def limit_words(given: argparse.Namespace) -> list[str]:
     """Returns the words of the command line that pass the limits on."""
     found = [(it, getattr(given, f"max_{it}")) for it in LIMITED]
     return [word for it, value in found if value is not None for word in (f"--max-{it}", value)]
+
+
+def most_resources(options: Sequence[str]) -> int:
+    """Returns how many resources a store may have by the program's options."""
+    found = dict(zip(options[::2], options[1::2])).get("--max-resources")
+    return int(found) if found else MOST_RESOURCES

@@ -5,22 +5,19 @@ from collections import Counter
 from collections.abc import Iterator, Sequence
 from datetime import datetime
 from typing import NamedTuple
-from xml.sax.saxutils import escape, quoteattr
+from xml.sax.saxutils import quoteattr
 
+from thesaurus_tools.fields import mark_of
 from thesaurus_tools.kinds import BROADER, MAPPINGS
+from thesaurus_tools.marc_languages import marc_language
 from thesaurus_tools.store import End, Label, Resource, Store
+from thesaurus_tools.xml_texts import xml_text
 
 NAMESPACE = "http://www.loc.gov/MARC21/slim"
-# The codes of languages in MARC, by their tags.
-LANGUAGES = {
-    tag: code
-    for tag, _, code in (
-        it.partition("=")
-        for it in "bg=bul ca=cat cs=cze da=dan de=ger el=gre en=eng es=spa et=est eu=baq fi=fin fr=fre ga=gle he=heb"
-        " hr=hrv hu=hun is=ice it=ita ja=jpn la=lat lt=lit lv=lav nb=nob nl=dut nn=nno no=nor pl=pol pt=por ro=rum"
-        " ru=rus sk=slo sl=slv sr=srp sv=swe tr=tur uk=ukr zh=chi".split()
-    )
-}
+# The most bytes of a record and of a field in ISO 2709, and what each of them has beside its fields or subfields: a
+# leader and the end of its directory and its own; an entry of 12 bytes in the directory.
+LONGEST_RECORD, LONGEST_FIELD = 99_999, 9_999
+LEADER, ENTRY, END_MARK = 24, 12, 1
 # What $w says of a 550: g is a broader term, h a narrower one.
 BROADER_TERM, NARROWER_TERM = "g", "h"
 # The kind of a match, in words for $i of a 750.
@@ -30,12 +27,28 @@ MATCHES = {
 }  # fmt: skip
 
 
+# The fields for values that a desk keeps; those of the office are public general notes.
+VALUE_FIELDS = {
+    "definition": "677", "example": "680", "historyNote": "678", "editorialNote": "667", "changeNote": "667",
+    "source": "670",
+}  # fmt: skip
+# The subfield of a note, where it isn't $a; and that of its source.
+NOTE_SUBFIELDS, SOURCE_SUBFIELDS = {"680": "i"}, {"677": "v"}
+# The fields for numbers of classifications, with their indicators, by the names of codes; 065 for all others.
+CLASSIFICATIONS = {"ddc": ("083", "0 "), "udc": ("080", "  "), "lcc": ("053", " 0")}
+OTHER_CLASSIFICATION = ("065", "  ")
+
+
 class Field(NamedTuple):
     """A field with subfields: its tag, its two indicators, and the code and value of each subfield."""
 
     tag: str
     indicators: str
     subfields: tuple[tuple[str, str], ...]
+
+    def length(self) -> int:
+        """Returns the number of its bytes in ISO 2709, with its end."""
+        return len(self.indicators) + sum(2 + len(value.encode()) for _, value in self.subfields) + END_MARK
 
 
 class Record(NamedTuple):
@@ -45,24 +58,55 @@ class Record(NamedTuple):
     controls: tuple[tuple[str, str], ...]
     fields: list[Field]
 
+    def fault(self) -> str:
+        """Returns why ISO 2709 doesn't take it: its size or that of a field; "" if it does."""
+        for it in self.fields:
+            if it.length() > LONGEST_FIELD:
+                return f"a {it.tag} has {it.length():,} bytes, and at most {LONGEST_FIELD:,} fit"
+        size = self.length()
+        return f"it has {size:,} bytes, and at most {LONGEST_RECORD:,} fit" if size > LONGEST_RECORD else ""
+
+    def length(self) -> int:
+        """Returns the number of its bytes in ISO 2709."""
+        lengths = [len(value.encode()) + END_MARK for _, value in self.controls] + [it.length() for it in self.fields]
+        return LEADER + 2 * END_MARK + sum(ENTRY + it for it in lengths)
+
 
 class AuthorityWriter:
-    """Makes records of the concepts of a store in one language, and counts what MARC can't say."""
+    """Makes records of the concepts of a store, each in the first of some languages in which it has a preferred term,
+    and counts what MARC can't say. Concepts without such a term, and those whose record ISO 2709 doesn't take, are left
+    out; `faults` says of the latter why."""
 
-    def __init__(self, store: Store, lang: str, source: str, organisation: str, made: datetime):
-        self.store, self.lang, self.source, self.organisation = store, lang, source, organisation
+    def __init__(self, store: Store, langs: Sequence[str], source: str, organisation: str, made: datetime):
+        self.store, self.langs, self.source, self.organisation = store, langs, source, organisation
         self.made = made
         self.lost: Counter[str] = Counter()
+        self.written = 0
+        self.without_term: list[int] = []
+        self.faults: dict[int, str] = {}
 
     def records(self, concepts: list[Resource]) -> Iterator[Record]:
-        """Yields the record of each concept."""
+        """Yields the records of concepts."""
         for it in concepts:
-            yield self.record(it)
+            if not self.lang_of(it.number):
+                self.without_term.append(it.number)
+                continue
+            record = self.record(it)
+            if fault := record.fault():
+                self.faults[it.number] = fault
+                continue
+            self.written += 1
+            yield record
+
+    def lang_of(self, number: int) -> str:
+        """Returns the language of a concept's record; "" if it has no preferred term in any."""
+        tags = {it.tag for it in self.store.labels_of.get(number, ()) if it.kind == "pref"}
+        return next((it for it in self.langs if it in tags), "")
 
     def record(self, concept: Resource) -> Record:
         """Returns the record of a concept, dead or alive."""
         status = "n" if concept.is_live else "x" if concept.replaced else "o"
-        code = LANGUAGES.get(self.lang.partition("-")[0], "und")
+        code = marc_language(self.lang_of(concept.number))
         controls = (
             ("001", str(concept.number)),
             *((("003", self.organisation),) if self.organisation else ()),
@@ -71,17 +115,21 @@ class AuthorityWriter:
             ("008", f"{self.made:%y%m%d}n||anznnbabn{'|' * 11}a|ana{'|' * 5}d"),
         )
         fields = [
-            Field("024", "7 ", (("a", self.iri(concept.number)), ("2", "uri"))),
+            *(
+                Field("024", "7 ", (("a", it), ("2", "uri")))
+                for it in (self.iri(concept.number), *self.exact_matches(concept))
+            ),
             Field(
                 "040",
                 "  ",
                 (*((("a", self.organisation),) if self.organisation else ()), ("b", code), ("f", self.source)),
             ),
+            *self.notations(concept),
             Field("150", "  ", (("a", self.term(concept.number)),)),
         ]
         fields += self.other_terms(concept)
         fields += self.relations(concept)
-        fields += self.notes(concept)
+        fields += sorted((*self.values(concept), *self.notes(concept)), key=lambda it: it.tag)
         fields += self.replacement(concept)
         fields += self.matches(concept)
         return Record(f"00000{status}z  a2200000n  4500", controls, fields)
@@ -90,7 +138,7 @@ class AuthorityWriter:
         return f"{self.store.base}{number}"
 
     def term(self, number: int) -> str:
-        return self.store.term(number, [self.lang])
+        return self.store.term(number, self.langs)
 
     def labels(self, concept: Resource) -> list[Label]:
         return self.store.labels_of.get(concept.number, [])
@@ -98,7 +146,7 @@ class AuthorityWriter:
     def other_terms(self, concept: Resource) -> Iterator[Field]:
         """Yields a 450 for each alternative term in the language; hidden and other languages' terms are lost."""
         for it in self.labels(concept):
-            if it.kind == "alt" and it.tag == self.lang:
+            if it.kind == "alt" and it.tag == self.lang_of(concept.number):
                 yield Field("450", "  ", (("a", it.text),))
             elif it.kind == "hidden" or it.kind == "alt":
                 self.lost[f"{'hidden' if it.kind == 'hidden' else 'alternative'} terms in {it.tag}"] += 1
@@ -113,7 +161,9 @@ class AuthorityWriter:
         ]
         for control, numbers in kinds:
             for number in numbers:
-                if isinstance(number, int):
+                if isinstance(number, int) and not self.lang_of(number):
+                    self.lost["relations to concepts that are left out"] += 1
+                elif isinstance(number, int):
                     name = (("a", self.term(number)), ("0", self.iri(number)))
                     yield Field("550", "  ", ((("w", control), *name) if control else name))
         links = self.store.links_of.get(concept.number, [])
@@ -123,10 +173,32 @@ class AuthorityWriter:
     def notes(self, concept: Resource) -> Iterator[Field]:
         """Yields a 680 for each scope note in the language; those in others are lost."""
         for it in self.labels(concept):
-            if it.kind == "scope" and it.tag == self.lang:
+            if it.kind == "scope" and it.tag == self.lang_of(concept.number):
                 yield Field("680", "  ", (("i", it.text),))
             elif it.kind == "scope":
                 self.lost[f"scope notes in {it.tag}"] += 1
+
+    def notations(self, concept: Resource) -> Iterator[Field]:
+        """Yields a field of a classification for each notation."""
+        for field, it in self.store.values_in(concept.number, ""):
+            if field.kind == "code":
+                tag, indicators = CLASSIFICATIONS.get(it.tag.lower(), OTHER_CLASSIFICATION)
+                code = (("2", it.tag or self.source),) if tag == OTHER_CLASSIFICATION[0] else ()
+                yield Field(tag, indicators, (("a", it.text), *code))
+
+    def values(self, concept: Resource) -> Iterator[Field]:
+        """Yields a note for each value of another field in the language, or in none, on one line; those in others are
+        lost."""
+        lang = self.lang_of(concept.number)
+        for it in self.store.values_of.get(concept.number, ()):
+            field = self.store.fields[it.field]
+            if field.tag == "language" and it.tag != lang:
+                self.lost[f"notes in {it.tag}"] += 1
+            elif field.kind != "code":
+                tag = VALUE_FIELDS.get(field.name, "680")
+                text = " ".join(f"{mark_of(field, lang)}: {it.text}".split() if field.is_own else it.text.split())
+                source = ((SOURCE_SUBFIELDS[tag], it.source),) if it.source and tag in SOURCE_SUBFIELDS else ()
+                yield Field(tag, "  ", ((NOTE_SUBFIELDS.get(tag, "a"), text), *source))
 
     def replacement(self, concept: Resource) -> Iterator[Field]:
         """Yields a 682 that names the concept into which a dead one was merged."""
@@ -137,9 +209,11 @@ class AuthorityWriter:
             yield Field("682", "  ", (("i", "No longer in use"),))
 
     def matches(self, concept: Resource) -> Iterator[Field]:
-        """Yields a 750 for each preferred term in another language, and for each match in another vocabulary."""
+        """Yields a 750 for each preferred term in another language, and for each match in another scheme of the store.
+
+        A match elsewhere has no term here, which a 750 needs: an exact one is in a 024."""
         for it in self.labels(concept):
-            if it.kind == "pref" and it.tag != self.lang:
+            if it.kind == "pref" and it.tag != self.lang_of(concept.number):
                 name = (("a", it.text), ("0", self.iri(concept.number)), ("2", f"{self.source}/{it.tag}"))
                 yield Field("750", " 7", name)
         for link in self.store.links_of.get(concept.number, []):
@@ -147,26 +221,34 @@ class AuthorityWriter:
                 turned = {"broad": "narrow", "narrow": "broad"}
                 kind = link.kind if link.a == concept.number else turned.get(link.kind, link.kind)
                 other = link.b if link.a == concept.number else link.a
-                text, iri = (self.term(other), self.iri(other)) if isinstance(other, int) else (other, other)
-                yield Field("750", " 4", (("i", MATCHES[kind]), ("a", text), ("0", iri)))
+                if isinstance(other, int):
+                    name = (("i", MATCHES[kind]), ("a", self.term(other)), ("0", self.iri(other)))
+                    yield Field("750", " 4", name)
+                elif kind != "exact":
+                    self.lost[f"matches elsewhere ({MATCHES[kind].lower()}), whose terms aren't known"] += 1
+
+    def exact_matches(self, concept: Resource) -> list[str]:
+        """Returns the IRIs of its exact matches in vocabularies elsewhere."""
+        links = [it for it in self.store.links_of.get(concept.number, []) if it.kind == "exact"]
+        return [end for it in links for end in (it.a, it.b) if isinstance(end, str)]
 
 
-def record_lines(record: Record) -> Iterator[str]:
-    """Yields a record as MARCXML."""
+def record_lines(record: Record, lost: Counter[str]) -> Iterator[str]:
+    """Yields a record as MARCXML. `lost` counts the characters that XML doesn't have."""
     yield f"<record>\n  <leader>{record.leader}</leader>\n"
     for tag, value in record.controls:
-        yield f'  <controlfield tag="{tag}">{escape(value)}</controlfield>\n'
+        yield f'  <controlfield tag="{tag}">{xml_text(value, lost)}</controlfield>\n'
     for field in record.fields:
         yield f'  <datafield tag="{field.tag}" ind1="{field.indicators[0]}" ind2="{field.indicators[1]}">\n'
         for code, value in field.subfields:
-            yield f"    <subfield code={quoteattr(code)}>{escape(value)}</subfield>\n"
+            yield f"    <subfield code={quoteattr(code)}>{xml_text(value, lost)}</subfield>\n"
         yield "  </datafield>\n"
     yield "</record>\n"
 
 
-def collection_lines(records: Iterator[Record]) -> Iterator[str]:
-    """Yields records as a collection of MARCXML."""
+def collection_lines(records: Iterator[Record], lost: Counter[str]) -> Iterator[str]:
+    """Yields records as a collection of MARCXML. `lost` counts the characters that XML doesn't have."""
     yield f'<?xml version="1.0" encoding="utf-8"?>\n<collection xmlns="{NAMESPACE}">\n'
     for it in records:
-        yield from record_lines(it)
+        yield from record_lines(it, lost)
     yield "</collection>\n"

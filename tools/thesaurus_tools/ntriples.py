@@ -16,6 +16,8 @@ XSD = "http://www.w3.org/2001/XMLSchema#"
 
 # The most bytes of the first line.
 LONGEST_LINE = 1 << 20
+# What some programs write before a text in UTF-8.
+BOM = b"\xef\xbb\xbf"
 
 
 class Iri(str):
@@ -54,12 +56,11 @@ BLANK_TERM = r"(_:\w(?:[\w.·-]*[\w·-])?)"
 IN_TEXT = r'[^"\\\n\r]*'
 TEXT_TERM = rf'"({IN_TEXT}(?:(?:\\[tbnrf"\'\\]|{CODE}){IN_TEXT})*)"'
 TYPE_OR_TAG = rf"(?:@([A-Za-z]+(?:-[A-Za-z0-9]+)*)|\^\^{IRI_TERM})?"
-STATEMENT = re.compile(
-    (
-        rf"[ \t]*(?:{IRI_TERM}|{BLANK_TERM})[ \t]*{IRI_TERM}[ "
-        rf"\t]*(?:{IRI_TERM}|{BLANK_TERM}|{TEXT_TERM}{TYPE_OR_TAG})[ \t]*\.[ \t]*(?:#.*)?"
-    )
-)
+TERMS = rf"[ \t]*(?:{IRI_TERM}|{BLANK_TERM})[ \t]*{IRI_TERM}[ \t]*(?:{IRI_TERM}|{BLANK_TERM}|{TEXT_TERM}{TYPE_OR_TAG})"
+END = r"[ \t]*\.[ \t]*(?:#.*)?"
+STATEMENT = re.compile(TERMS + END)
+# A line of N-Quads, which may have the name of a graph.
+QUAD = re.compile(rf"{TERMS}(?:[ \t]*(?:{IRI_TERM}|{BLANK_TERM}))?{END}")
 NO_STATEMENT = re.compile(r"[ \t]*(?:#.*)?")
 ESCAPE = re.compile(r"\\(?:u([0-9A-Fa-f]{4})|U([0-9A-Fa-f]{8})|(.))")
 ESCAPED = {"t": "\t", "b": "\b", "n": "\n", "r": "\r", "f": "\f", '"': '"', "'": "'", "\\": "\\"}
@@ -82,14 +83,14 @@ def unescape(text: str) -> str:
     return ESCAPE.sub(character, text)
 
 
-def parse_statement(line: str) -> Triple | None:
+def parse_statement(line: str, pattern: re.Pattern[str] = STATEMENT) -> Triple | None:
     """Returns the triple of a line, or None for a blank line or a comment. Raises ValueError for anything else."""
-    match = STATEMENT.fullmatch(line)
+    match = pattern.fullmatch(line)
     if not match:
         if NO_STATEMENT.fullmatch(line):
             return None
         raise ValueError("no triple of N-Triples")
-    iri, blank, predicate, object_iri, object_blank, text, tag, datatype = match.groups()
+    iri, blank, predicate, object_iri, object_blank, text, tag, datatype = match.groups()[:8]
     target = Literal(unescape(text), tag or "", unescape(datatype or "")) if text is not None else None
     return Triple(named(iri, blank), Iri(unescape(predicate)), target or named(object_iri, object_blank))
 
@@ -101,11 +102,11 @@ def named(iri: str | None, blank: str) -> Iri | Blank:
     return Iri(unescape(iri))
 
 
-def parse_ntriples(data: bytes, name: str) -> Iterator[Triple]:
+def parse_ntriples(data: bytes, name: str, pattern: re.Pattern[str] = STATEMENT) -> Iterator[Triple]:
     """Yields the triples of a document in the order of its lines; `name` is what an error calls it."""
-    for number, line in enumerate(re.split(rb"\r\n|\n|\r", data), 1):
+    for number, line in enumerate(re.split(rb"\r\n|\n|\r", data.removeprefix(BOM)), 1):
         try:
-            triple = parse_statement(line.decode("utf-8"))
+            triple = parse_statement(line.decode("utf-8"), pattern)
         except UnicodeDecodeError:
             raise ToolError(f"{name}:{number}: no UTF-8", REFUSED) from None
         except ValueError as error:

@@ -21,6 +21,8 @@ MOST_LINES = 900_000
 MOST_RESOURCES = (1 << 32) - 1
 # How many seconds a store may stay locked by a run that is about to end.
 PATIENCE = 20
+# The option by which the program makes no store, because of a mistyped name or a volume that isn't mounted.
+EXISTING = "--existing"
 LOCKED = b"thesaurus: fault Store\n"
 IN_USE = "another program has it open: end that program, or ask it by a tool with --http URL if it serves"
 # The bytes of a store that SQLite locks for reading.
@@ -110,21 +112,28 @@ class Performer:
 
 
 class Script(Performer):
-    """Runs of `thesaurus script` over a store, with plans if the program has them; `open` begins the first."""
+    """Runs of `thesaurus script` over a store, with plans if the program has them; `open` begins the first, which makes
+    the store if it `may_be_new`."""
 
-    def __init__(self, program: str, db: Path | None, base: str | None = None, options: Sequence[str] = ()):
-        self.words = [program, *(["--db", str(db)] if db else []), *(["--base", base] if base else []), *options]
+    def __init__(self, program: str, db: Path | None, options: Sequence[str] = (), may_be_new: bool = False):
+        self.words = [program, *(["--db", str(db)] if db else []), *options]
         self.db = db
+        self.must_exist = bool(db) and not may_be_new
         self.has_plans = True
+
+    def program_words(self) -> list[str]:
+        """Returns the program with the options that are before a command. (An older program has no `--existing`.)"""
+        return [*self.words, *([EXISTING] if self.must_exist and self.has_plans else [])]
 
     def start(self) -> None:
         """Starts the program, and asks it something."""
         self.errors = open(os.memfd_create("errors"), "w+b")
-        words = [*self.words, "script", *(["--plans"] if self.has_plans else [])]
+        words = [*self.program_words(), "script", *(["--plans"] if self.has_plans else [])]
         self.run = subprocess.Popen(words, stdin=subprocess.PIPE, stdout=subprocess.PIPE, stderr=self.errors)
         assert self.run.stdin and self.run.stdout
         self.stdin, self.stdout, self.lines = self.run.stdin, self.run.stdout, 0
         self.ask({"get": "totals"})
+        self.must_exist = bool(self.db)
 
     def open(self) -> Script:
         """Starts the program, waits while another run has the store, and returns itself."""
@@ -184,7 +193,7 @@ class Script(Performer):
     def export(self) -> bytes:
         # (the run ends for it, and another one begins)
         self.close()
-        data = run_program([*self.words, "export"])
+        data = run_program([*self.program_words(), "export"])
         self.open()
         return data
 

@@ -1,20 +1,26 @@
-"""Reads files of RDF: N-Triples by itself, other forms by Python's rdflib."""
+"""Reads files of RDF: N-Triples by itself, other forms by Python's rdflib; and files of Zthes."""
 from __future__ import annotations
 
 import contextlib
+import gzip
 import logging
+import mmap
+import zlib
 from collections.abc import Iterator
 from pathlib import Path
 from typing import Any
 
 from thesaurus_tools.bounded import TooMuch, limited, watched
 from thesaurus_tools.command_line import REFUSED, USAGE, ToolError
-from thesaurus_tools.ntriples import Blank, Iri, Literal, Triple, read_ntriples
+from thesaurus_tools.ntriples import BOM, QUAD, STATEMENT, Blank, Iri, Literal, Triple, parse_ntriples
+from thesaurus_tools.ntriples import read_document as read_lines
 from thesaurus_tools.system_python import run_by_system_python
+from thesaurus_tools.zthes import HEAD_BYTES, is_zthes, zthes_triples
 
 # The forms of files by the ends of their names, as rdflib calls them.
 FORMATS = {
     ".nt": "nt",
+    ".nq": "nquads",
     ".ttl": "turtle",
     ".turtle": "turtle",
     ".n3": "n3",
@@ -25,11 +31,16 @@ FORMATS = {
     ".jsonld": "json-ld",
     ".json": "json-ld",
 }
+# The end of the name of a file in gzip, and its first bytes.
+PACKED, MAGIC = ".gz", b"\x1f\x8b"
 # The most bytes of a file that rdflib is given, which takes a multiple of them.
 MOST_BYTES = 256 << 20
+# Memory that is given back where it has run out, so that there is some to say so.
+RESERVE = 4 << 20
 # The time of a processor and the memory that rdflib may take for a file: these, and as much again for its size.
 SECONDS, SECONDS_FOR_MEGABYTE = 10, 10
 MEMORY, MEMORY_FOR_BYTE = 1 << 30, 300
+TOO_LARGE = f"more than {MOST_BYTES >> 20} megabytes"
 OTHER_WAY = "make N-Triples of it by another program, such as rapper"
 STOPPED = f"rdflib took more than {{most}} for it, and was stopped; {OTHER_WAY}"
 NO_RDFLIB = """Python's rdflib isn't installed, which reads all forms but N-Triples.
@@ -44,15 +55,21 @@ def parse_by_rdflib(path: Path, form: str, may_fetch: bool) -> Any:
     logging.getLogger("rdflib").setLevel(logging.CRITICAL)
     watch = None
     try:
-        size = path.stat().st_size
-        if size > MOST_BYTES:
-            raise ToolError(f"{path}: more than {MOST_BYTES >> 20} megabytes; {OTHER_WAY}", USAGE)
+        if path.stat().st_size > MOST_BYTES:
+            raise ToolError(f"{path}: {TOO_LARGE}; {OTHER_WAY}", USAGE)
+        data = read_document(path)
+        size = len(data)
         seconds, memory = SECONDS + SECONDS_FOR_MEGABYTE * size / 1e6, MEMORY + MEMORY_FOR_BYTE * size
         with contextlib.ExitStack() as stack:
+            reserve = stack.enter_context(contextlib.closing(mmap.mmap(-1, RESERVE)))
             stack.enter_context(limited(seconds, memory))
             if not may_fetch:
                 watch = stack.enter_context(watched(path))
-            graph = rdflib.Graph().parse(path, format=form)
+            try:
+                graph = rdflib.Graph().parse(data=data, format=form, publicID=path.absolute().as_uri())
+            except MemoryError:
+                reserve.close()
+                raise
         failure: Exception | None = None
     except ToolError:
         raise
@@ -91,7 +108,50 @@ def read_by_rdflib(path: Path, form: str, may_fetch: bool) -> Iterator[Triple]:
 
 def read_triples(path: Path, form: str, may_fetch: bool = False) -> Iterator[Triple]:
     """Yields the triples of a file in the given form, or in that of its name; `may_fetch` if also what it refers to."""
-    form = form or FORMATS.get(path.suffix.lower(), "")
+    form = form or form_of(path.name)
     if not form and not path.is_dir() and path.exists():
         raise ToolError(f"{path}: its name ends with none of {' '.join(FORMATS)}; --form says what it is", USAGE)
-    return read_by_rdflib(path, form, may_fetch) if form not in ("", "nt") else read_ntriples(path)
+    if form == "xml" and path.is_file() and is_zthes(beginning_of(path)):
+        if path.stat().st_size > MOST_BYTES:
+            raise ToolError(f"{path}: {TOO_LARGE}", USAGE)
+        return zthes_triples(str(path), read_document(path))
+    if form not in ("", "nt", "nquads"):
+        return read_by_rdflib(path, form, may_fetch)
+    return parse_ntriples(read_document(path, is_lines=True), str(path), QUAD if form == "nquads" else STATEMENT)
+
+
+def form_of(name: str) -> str:
+    """Returns the form of a file by its name, which may end with .gz; "" if the name shows none."""
+    return FORMATS.get(Path(name.lower().removesuffix(PACKED)).suffix, "")
+
+
+def beginning_of(path: Path) -> bytes:
+    """Returns the first bytes of a file, unpacked if it is in gzip; nothing if it can't be read."""
+    try:
+        with open(path, "rb") as file:
+            found = file.read(HEAD_BYTES)
+        if not found.startswith(MAGIC):
+            return found
+        with gzip.open(path) as unpacked:
+            return unpacked.read(HEAD_BYTES)
+    except (OSError, EOFError, zlib.error):
+        return b""
+
+
+def read_document(path: Path, is_lines: bool = False) -> bytes:
+    """Returns the bytes of a file, unpacked if it is in gzip, without the mark of UTF-8. Raises ToolError if it can't
+    be read, or is too large once it is unpacked."""
+    try:
+        with open(path, "rb") as file:
+            is_packed = file.read(len(MAGIC)) == MAGIC
+        if not is_packed:
+            return (read_lines(path) if is_lines else path.read_bytes()).removeprefix(BOM)
+        with gzip.open(path) as unpacked:
+            data = unpacked.read(MOST_BYTES + 1)
+    except (EOFError, gzip.BadGzipFile, zlib.error):
+        raise ToolError(f"{path}: it is cut short, or damaged: it can't be unpacked", REFUSED) from None
+    except OSError as error:
+        raise ToolError(f"{path}: {error.strerror or error}") from None
+    if len(data) > MOST_BYTES:
+        raise ToolError(f"{path}: unpacked {TOO_LARGE}", USAGE)
+    return data.removeprefix(BOM)

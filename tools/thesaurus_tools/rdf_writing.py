@@ -3,11 +3,13 @@ from __future__ import annotations
 
 import json
 import re
-from collections.abc import Iterable, Iterator
+from collections import Counter
+from collections.abc import Callable, Iterable, Iterator
 from itertools import groupby
-from xml.sax.saxutils import escape, quoteattr
+from xml.sax.saxutils import quoteattr
 
 from thesaurus_tools.ntriples import DCTERMS, OWL, RDF, SKOS, XSD, Iri, Literal, Node, Triple
+from thesaurus_tools.xml_texts import said_of, xml_text
 
 ISO_THES = "http://purl.org/iso25964/skos-thes#"
 PREFIXES = {"dct": DCTERMS, "iso-thes": ISO_THES, "owl": OWL, "rdf": RDF, "skos": SKOS, "xsd": XSD}
@@ -15,7 +17,9 @@ PREFIXES = {"dct": DCTERMS, "iso-thes": ISO_THES, "owl": OWL, "rdf": RDF, "skos"
 PROPERTIES = [
     RDF + "type",
     *(SKOS + it for it in ("inScheme", "topConceptOf", "hasTopConcept", "prefLabel", "altLabel", "hiddenLabel")),
-    *(SKOS + it for it in ("scopeNote", "broader", "narrower", "related", "member", "exactMatch", "closeMatch")),
+    *(SKOS + it for it in ("notation", "definition", "scopeNote", "note", "example", "historyNote", "editorialNote")),
+    SKOS + "changeNote",
+    *(SKOS + it for it in ("broader", "narrower", "related", "member", "exactMatch", "closeMatch")),
     *(SKOS + it for it in ("broadMatch", "narrowMatch", "relatedMatch")),
     OWL + "deprecated",
     *(DCTERMS + it for it in ("isReplacedBy", "created", "modified", "creator")),
@@ -24,6 +28,8 @@ PLACES = {it: place for place, it in enumerate(PROPERTIES)}
 ESCAPES = {ord(it): f"\\{name}" for it, name in zip('\t\b\n\r\f"\\', 'tbnrf"\\')} | {
     code: f"\\u{code:04X}" for code in (*range(8), 11, *range(14, 32), 127)
 }
+# The name of a property as XML has it, at the end of its IRI.
+XML_NAME = re.compile(r"(?<=[#/])[A-Za-z_][A-Za-z0-9_.-]*$")
 MADE_NAME = re.compile(r"[A-Za-z0-9_]([A-Za-z0-9_-]*[A-Za-z0-9_-])?")
 
 
@@ -160,28 +166,53 @@ def write_jsonld(triples: Iterable[Triple], base: str) -> Iterator[str]:
 # --- RDF/XML ---
 
 
-def write_rdfxml(triples: Iterable[Triple], base: str) -> Iterator[str]:
-    """Yields the text of an RDF/XML document."""
+def write_rdfxml(triples: Iterable[Triple], base: str, lost: Counter[str] | None = None) -> Iterator[str]:
+    """Yields the text of an RDF/XML document. `lost` counts the characters that XML doesn't have; a comment at the end
+    tells them."""
+    lost = Counter() if lost is None else lost
     groups = list(by_subject(triples))
-    spaces = {name: start for name, start in PREFIXES.items() if name != "xsd"}
+    spaces = spaces_of({predicate for _, properties in groups for predicate, _ in properties})
     yield '<?xml version="1.0" encoding="utf-8"?>\n<rdf:RDF'
     yield "".join(f"\n    xmlns:{name}={quoteattr(start)}" for name, start in sorted(spaces.items())) + ">\n"
     for subject, properties in groups:
         yield f"  <rdf:Description rdf:about={quoteattr(subject)}>\n"
         for predicate, nodes in properties:
-            prefix, start = next((it for it in spaces.items() if predicate.startswith(it[1])), ("", ""))
+            prefix, start = next(it for it in spaces.items() if it[1] == split_property(predicate)[0])
             for node in nodes:
-                yield f"    {element(f'{prefix}:{predicate.removeprefix(start)}', node)}\n"
+                yield f"    {element(f'{prefix}:{predicate.removeprefix(start)}', node, lost)}\n"
         yield "  </rdf:Description>\n"
     yield "</rdf:RDF>\n"
+    if lost:
+        yield f"<!-- {said_of(lost)} -->\n"
 
 
-def element(name: str, node: Node) -> str:
+def split_property(iri: str) -> tuple[str, str]:
+    """Returns the namespace and the name of a property. Raises ValueError for one that RDF/XML can't write."""
+    found = XML_NAME.search(iri)
+    if found is None:
+        raise ValueError(f"{iri} doesn't end in a name after # or /")
+    return iri[: found.start()], found[0]
+
+
+def spaces_of(properties: Iterable[str]) -> dict[str, str]:
+    """Returns the prefixes of all namespaces that a document needs, with made ones for those that have none."""
+    spaces = {name: start for name, start in PREFIXES.items() if name != "xsd"}
+    others = sorted({split_property(it)[0] for it in properties} - set(spaces.values()))
+    return spaces | {f"ns{place}": it for place, it in enumerate(others, 1)}
+
+
+def element(name: str, node: Node, lost: Counter[str]) -> str:
     """Returns a property with its value as an element of RDF/XML."""
     if not isinstance(node, Literal):
         return f"<{name} rdf:resource={quoteattr(node)}/>"
     kind = f" xml:lang={quoteattr(node.tag)}" if node.tag else f" rdf:datatype={quoteattr(node.datatype)}"
-    return f"<{name}{kind if node.tag or node.datatype else ''}>{escape(node.text)}</{name}>"
+    return f"<{name}{kind if node.tag or node.datatype else ''}>{xml_text(node.text, lost)}</{name}>"
 
 
-WRITERS = {"turtle": write_turtle, "rdfxml": write_rdfxml, "jsonld": write_jsonld, "ntriples": write_ntriples}
+Writer = Callable[[Iterable[Triple], str], Iterator[str]]
+WRITERS: dict[str, Writer] = {
+    "turtle": write_turtle,
+    "rdfxml": write_rdfxml,
+    "jsonld": write_jsonld,
+    "ntriples": write_ntriples,
+}

@@ -9,7 +9,9 @@ from collections.abc import Iterable, Iterator
 from typing import NamedTuple
 
 from thesaurus_tools.changes import changes_since
-from thesaurus_tools.kinds import BROADER
+from thesaurus_tools.command_line import USAGE, ToolError
+from thesaurus_tools.fields import STANDARD
+from thesaurus_tools.kinds import BROADER, LABEL_KINDS
 from thesaurus_tools.opening import open_file
 from thesaurus_tools.store import Label, Resource, Store
 from thesaurus_tools.texts import fold, normalize
@@ -29,28 +31,46 @@ def state_of(resource: Resource) -> str:
     return "live" if resource.is_live else f"replaced by {resource.replaced}" if resource.replaced else "deprecated"
 
 
+def check_kind(store: Store, kind: str) -> None:
+    """Raises ToolError for what is neither a kind of labels nor a field whose values are there."""
+    if kind not in (*LABEL_KINDS, *store.fields):
+        advice = ": --journal FILE names the journal of the desk that keeps it" if kind in STANDARD else ""
+        raise ToolError(f"no kind of labels or notes is called {kind}{advice}", USAGE)
+
+
 def find(store: Store, given: argparse.Namespace) -> Table:
-    """Labels that contain a text, whatever its case and accents."""
+    """Labels, notes and values of a desk's fields that contain a text, whatever its case and accents."""
     wanted = fold(given.text)
+    for it in given.kinds or ():
+        check_kind(store, it)
 
     def rows() -> Iterator[tuple]:
         for number, resource in sorted(store.resources.items()):
-            for label in store.labels_of.get(number, ()):
-                if (label.kind in given.kinds) and given.lang in (None, label.tag) and wanted in fold(label.text):
-                    yield number, resource.kind, label.kind, label.tag, label.text, store.term(
-                        number, given.langs
-                    ), state_of(resource)
+            found = [(it.kind, it.tag, it.text) for it in store.labels_of.get(number, ())]
+            found += [(it.field, it.tag, it.text) for it in store.values_of.get(number, ())]
+            for kind, tag, text in found:
+                if (not given.kinds or kind in given.kinds) and given.lang in (None, tag) and wanted in fold(text):
+                    yield number, resource.kind, kind, tag, text, store.term(number, given.langs), state_of(resource)
 
     return Table(("number", "kind", "label", "lang", "text", "term", "state"), rows())
 
 
 def missing(store: Store, given: argparse.Namespace) -> Table:
-    """Live concepts without a preferred label in a language, or without another kind of label in it."""
-    having = {it.owner for it in store.labels if it.kind == given.kind and it.tag == given.lang}
+    """Live concepts without a preferred label in a language, or without another kind of label or a desk's field."""
+    check_kind(store, given.kind)
+    field = store.fields.get(given.kind)
+    if not given.lang and (field is None or field.tag == "language"):
+        raise ToolError("missing: --lang says in which language", USAGE)
+    if field is None:
+        having = {it.owner for it in store.labels if it.kind == given.kind and it.tag == given.lang}
+    else:
+        values = (it for its in store.values_of.values() for it in its)
+        having = {int(it.owner) for it in values if it.field == field.name and given.lang in (None, it.tag)}
     rows = ((it.number, store.term(it.number, given.langs)) for it in store.live_concepts() if it.number not in having)
     if given.csv or given.excel:
         # (a column for the translator to fill in: tools/from-table reads it back)
-        return Table(("number", "term", f"{given.kind}@{given.lang}"), ((*it, "") for it in rows))
+        column = f"{given.kind}@{given.lang}" if given.lang else given.kind
+        return Table(("number", "term", column), ((*it, "") for it in rows))
     return Table(("number", "term"), rows)
 
 

@@ -45,6 +45,8 @@ class PostingRows:
         self.reader = reader
         # The postings that earlier rows withdraw, or give to a new concept.
         self.gone: set[int] = set()
+        # The records and concepts that earlier rows index.
+        self.posted: set[tuple[str, Reference]] = set()
         # The splits of the table so far, by concept and new term, each with the line of its first row.
         self.splits: dict[tuple[Reference, str, str], tuple[int, dict]] = {}
 
@@ -72,26 +74,46 @@ class PostingRows:
         return record
 
     def post(self, name: str, cells: list[str]) -> Iterator[dict]:
-        """Yields the request that indexes a record, unless it is indexed so, or its posting was withdrawn."""
-        record, key, into = self.record(cells), self.reader.value("key", cells), self.reader.value("into", cells)
-        roles = ("concept", "iri", "code", "pref")
-        named = [text for role in roles for _, text in self.reader.values(role, cells)]
-        if not into and not named:
-            raise RowError("no_concept")
-        wanted = into or named[0]
-        made = key or hashlib.sha256(f"{record}\0{wanted}".encode()).hexdigest()[:32]
-        known = self.by_key.get(made)
-        if known and known.record == record and wanted in (str(known.first), str(known.place)):
-            return
-        concept = self.reader.finder.find(wanted)
-        is_known = known and known.record == record and concept in (known.first, known.place)
-        if not is_known and (key or not self.at(record, concept)):
-            yield {"do": "post", "key": made, "record": record, "concept": concept}
+        """Yields the requests that index a record with each concept of a row, unless it is indexed so, or the posting
+        with the row's key was withdrawn."""
+        record, key, wanted = self.record(cells), self.reader.value("key", cells), self.wanted(cells)
+        if key and len(wanted) > 1:
+            raise RowError("key_of_several", value=key, n=len(wanted))
+        for it in wanted:
+            made = key or self.made_key(record, it)
+            known = self.by_key.get(made)
+            if known and known.record == record and it in (str(known.first), str(known.place)):
+                continue
+            concept = self.reader.finder.find(it)
+            is_known = known and known.record == record and concept in (known.first, known.place)
+            is_there = not key and ((record, concept) in self.posted or self.at(record, concept))
+            if not is_known and not is_there:
+                self.posted.add((record, concept))
+                yield {"do": "post", "key": made, "record": record, "concept": concept}
+
+    def made_key(self, record: str, concept: str) -> str:
+        """Returns the key of a posting without one: made of the record, of the concept, and of the postings that the
+        record had there and that are withdrawn, whose keys are never free."""
+        parts = [record, concept]
+        while True:
+            made = hashlib.sha256("\0".join(parts).encode()).hexdigest()[:32]
+            known = self.by_key.get(made)
+            if not known or not known.is_withdrawn and known.number not in self.gone:
+                return made
+            parts.append(str(known.number))
+
+    def wanted(self, cells: list[str]) -> list[str]:
+        """Returns what a row names the concepts of its record by: all of the first column that names any."""
+        for role in ("into", "concept", "iri", "code", "pref"):
+            if named := [text for _, text in self.reader.values(role, cells)]:
+                return named
+        raise RowError("no_concept")
 
     def withdraw(self, name: str, cells: list[str]) -> Iterator[dict]:
         """Yields the requests that withdraw the postings of a record at a concept."""
         numbers = self.found(self.reader.value("record", cells), self.reader.concept(cells))
         self.gone.update(numbers)
+        self.posted.discard((self.reader.value("record", cells), self.reader.concept(cells)))
         yield from ({"do": "withdraw", "posting": it} for it in numbers)
 
     def found(self, record: str, concept: Reference) -> list[int]:

@@ -1,7 +1,7 @@
 """Writes the script that loads a vocabulary."""
 from __future__ import annotations
 
-from collections.abc import Iterator
+from collections.abc import Iterable, Iterator
 
 from thesaurus_tools.kinds import LABEL_KINDS
 from thesaurus_tools.link_rules import OUTSIDE
@@ -54,9 +54,30 @@ class ScriptWriter:
                         kind != "pref" or (tag, text) not in self.late.get(it.name, ())
                     ):
                         yield {"do": "addLabel", "owner": f"${it.name}", "kind": kind, "tag": tag, "text": text}
+        # (nothing is set at what is dead, and a notation of it is free)
+        yield from self.values(self.dead)
         yield from self.deaths()
+        yield from self.values([it for it in self.resources.values() if not it.is_dead])
         for kind, a, b in self.vocabulary.links:
             yield {"do": "link", "kind": kind, "a": f"${a}", "b": f"${b}"}
+        yield from self.places()
+
+    def places(self) -> Iterator[dict]:
+        """Yields the requests that say where collections are, and what is in order in them, which a desk performs."""
+        for it in self.vocabulary.of_kind("collection"):
+            for field, names in it.places.items():
+                if names:
+                    its = {"owner": f"${it.name}", "field": field, "tag": ""}
+                    yield {"do": "set", **its, "old": None, "new": [f"${name}" for name in names]}
+
+    @staticmethod
+    def values(them: Iterable[Resource]) -> Iterator[dict]:
+        """Yields the requests that set values of fields, which a desk performs."""
+        for it in them:
+            for value in it.values:
+                new = {"text": value.text, "source": value.source} if value.source else value.text
+                its = {"owner": f"${it.name}", "field": value.field, "tag": value.tag}
+                yield {"do": "set", **its, "old": None, "new": new}
 
     def first_label(self, resource: Resource) -> tuple[str, str]:
         """Returns the label that a resource is made with: one that it may have from the start, or a stand-in."""

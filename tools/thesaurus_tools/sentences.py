@@ -49,11 +49,12 @@ REASONS = {
 # Why a file isn't read as a table. The desk has the same in its languages.
 TABLES = {
     "large": "more than {most} megabytes; cut the table into parts",
+    "costly": "takes more than {seconds} seconds or {megabytes} megabytes of memory; save the table as CSV",
     "no_text": "no {encoding}; {advice}",
     "nul": "a NUL: no table of texts",
     "csv": "{error}",
     "empty": "no row: the first one names the columns",
-    "many": "more than {rows} rows or {columns} columns",
+    "many": "more than {rows} rows or {columns} columns, or {cells} cells",
     "wide": "more values than columns",
     "failed_formula": "{cell}: a formula that failed",
     "no_value": "a formula without its value: save the table in a spreadsheet first",
@@ -63,6 +64,8 @@ TABLES = {
     "other_archive": "an archive that is neither ODS nor XLSX",
     "needs": "{form} needs Debian's {package}; or save the table as CSV",
     "no_sheet": "no sheet {sheet!r}; it has {sheets}",
+    "marc_8": "MARC-8: save the records as UTF-8",
+    "no_key": "no column of keys: the first row names the columns key, title, text and link",
 }
 
 # Why a row of a table can't be done. The desk has the same in its languages.
@@ -70,10 +73,13 @@ ROWS = {
     "no_deed": "nothing is called {cell}; there are new, change, translate, rename, move, merge, deprecate, post, "
     "withdraw and split",
     "no_concept": "the row names no concept",
+    "key_of_several": "one key, {value}, for {n} concepts: leave it empty, or write a row for each",
     "no_record": "the row names no record",
     "no_preferred": "the row has no preferred term",
     "several_values": "several values for {role}: {values}",
     "there": "“{text}” is there already: {concepts}",
+    "taken": "“{text}” is the preferred term of another concept: {concepts}",
+    "twice": "row {row} gives “{text}”, too",
     "other_term": "{number} is {term}, and not “{text}”: --lang says whether this is its new term",
     "has_preferred": "{term} has “{old}” in {tag}: --renames changes it to “{text}”",
     "lacks_preferred": "{term} has no preferred term in {tag}",
@@ -86,6 +92,13 @@ ROWS = {
     "several_have": "several have “{text}”: {concepts}; write the number of the one you mean",
     "term_of_ended": "“{text}” is a term of what is no longer in use: {concepts}",
     "not_called": "no {kind} is called “{text}”",
+    "same_match": "{other} is {term}, too: one of them must go",
+    "changed_since": "{term} was changed since this table was made; here: {here}; now: {now}",
+    "seen_of_other": "what was seen is no longer beside its concept: it isn't that of {number} ({term})",
+    "in_other_column": "“{text}” is in one column of the row, and no longer in another",
+    "gone": "it isn’t in the file any more, and stays in use",
+    "other_scheme": "it isn’t the scheme that is brought up to date: what the file has in it ({count}) is left out",
+    "in_other_scheme": "the file has it in another scheme, {scheme}: it stays as it is",
 }
 
 

@@ -10,7 +10,10 @@ from functools import cached_property
 from html import escape
 from pathlib import Path
 
+from thesaurus_tools.arrays import node_label
+from thesaurus_tools.fields import DESCRIPTION, NOTES, mark_of
 from thesaurus_tools.site_export import Resource, Thesaurus
+from thesaurus_tools.site_rdf import FOLDER as RDF_FOLDER
 from thesaurus_tools.site_terms import FILES, Entry, letter_of, page_of_lead, page_of_letter, words_of
 from thesaurus_tools.texts import sort_key
 
@@ -19,7 +22,15 @@ NAMES = ("prefLabel", "altLabel", "hiddenLabel")
 # language.
 OF_NO_LANGUAGE = ("zxx", "mul", "und", "mis")
 # What abbreviations stand for, as keys of the words.
-WORDS_OF = {"SN": "scope", "UF": "used_for", "USE": "use", "BT": "broader", "NT": "narrower", "RT": "related"}
+WORDS_OF = {
+    "SN": "scope",
+    "DEF": "definition",
+    "UF": "used_for",
+    "USE": "use",
+    "BT": "broader",
+    "NT": "narrower",
+    "RT": "related",
+}
 MAPPINGS = ("exactMatch", "closeMatch", "broadMatch", "narrowMatch", "relatedMatch")
 FROM_RIGHT = ("ar", "fa", "he", "ur", "yi")
 SCRIPT = '<script src="../site.js" defer></script>\n'
@@ -38,6 +49,8 @@ class Edition:
     langs: list[str]
     given_title: str
     out: Path
+    # Where the site will be, with a slash at its end; "" if that isn't known.
+    address: str = ""
 
     @cached_property
     def words(self) -> dict[str, str]:
@@ -133,6 +146,35 @@ class Edition:
         found = [(self.thesaurus.types.get(pair(other), ""), other) for other in self.thesaurus.linked(it, kind)]
         return sorted(found, key=lambda them: (them[0], self.keys[them[1].iri]))
 
+    def parts(self, it: Resource) -> list[Resource]:
+        """The members of a collection, and the collections within it, in its order."""
+        members = [one.iri for one in self.sorted(self.thesaurus.linked(it, "member"))]
+        return [self.thesaurus.resources[iri] for iri in self.thesaurus.places.in_order(it.iri, members)]
+
+    def below(self, it: Resource) -> list[Resource]:
+        """What the tree has below a concept: its arrays, and the narrower concepts that are in none of these."""
+        arrays = self.thesaurus.arrays(it)
+        within = {iri for array in arrays for iri in array.links.get("member", ())}
+        direct = self.thesaurus.places.directly_below(it.iri)
+        others = (other for other in self.thesaurus.linked(it, "narrower") if other.iri not in within)
+        return [*self.sorted(array for array in arrays if array.iri in direct), *self.sorted(others)]
+
+    def narrower(self, it: Resource) -> Iterator[tuple[str, Resource]]:
+        """Yields the narrower terms of a concept with their types: those of its arrays behind these, and the others."""
+        if not self.thesaurus.arrays(it):
+            yield from self.typed(it, "narrower")
+            return
+        waiting = self.below(it)[::-1]
+        while waiting:
+            other = waiting.pop()
+            yield self.thesaurus.types.get((other.iri, it.iri), ""), other
+            waiting += self.parts(other)[::-1] if other.kind == "Collection" else []
+
+    def label(self, it: Resource) -> str:
+        """A link to an array, with its name as a node label."""
+        text, tag = self.names[it.iri]
+        return f'<a class="node-label" href="{it.page}.html" lang="{tag or self.lang}">{escape(node_label(text))}</a>'
+
     def find_entries(self) -> Iterator[Entry]:
         """Yields each preferred term, and each alternative one and each of a dead concept with what to use in its
         place."""
@@ -170,7 +212,7 @@ class Edition:
             lang=self.lang,
             direction="rtl" if self.lang.split("-")[0] in FROM_RIGHT else "ltr",
             kind=kind,
-            head=head,
+            head=head + self.head_links(name, kind, twin),
             main=main,
             title=escape(title if title == self.title else f"{title} – {self.title}"),
             site=escape(self.title),
@@ -187,6 +229,19 @@ class Edition:
         with open(f"{self.out}/{name}.html", "w", encoding="utf-8") as file:
             file.write(text)
 
+    def head_links(self, name: str, kind: str, twin: str) -> str:
+        """Returns what the head of a page says of it to programs: its own address, if that of the site is known; the
+        same page in each language; its RDF."""
+        start = self.address or "../"
+        # (an entry to print is that of A to Z, and a lead-in term that of what to use)
+        own = twin if kind == "lead" else name.replace("print-", "az-", 1)
+        found = [f'<link rel="canonical" href="{self.address}{self.lang}/{own}.html">'] if self.address else []
+        for lang in self.langs if name == twin and len(self.langs) > 1 else ():
+            found.append(f'<link rel="alternate" hreflang="{lang}" href="{start}{lang}/{twin}.html">')
+        if kind in ("concept", "gone"):
+            found.append(f'<link rel="alternate" type="text/turtle" href="../{RDF_FOLDER}/{name}.ttl">')
+        return "".join(f"{it}\n" for it in found)
+
     def row(self, word: str, items: Iterable[str], short: str = "") -> str:
         """A row of the table on a page, or nothing where there are no items."""
         lines = "".join(f"<li>{it}</li>" for it in items)
@@ -199,6 +254,20 @@ class Edition:
         other = f' lang="{lang}"' if lang != self.lang else ""
         return "".join(f'<p class="note"{other}>{escape(text)}</p>\n' for text in it.texts("scopeNote", lang))
 
+    def other_notes(self, it: Resource) -> Iterator[str]:
+        """Rows with what else a desk keeps of a resource: in this language, or in the first of the others that has
+        some; and in none."""
+        for kind in NOTES:
+            lang = next((lang for lang in self.order if it.texts(kind, lang)), self.lang)
+            other = f' lang="{lang}"' if lang != self.lang else ""
+            yield self.row(kind, (f'<span class="lines"{other}>{escape(text)}</span>' for text in it.texts(kind, lang)))
+        for kind in ("notation", "source"):
+            yield self.row(kind, (linked_text(text) for _, text in it.labels.get(kind, ())))
+        for field, value in it.own:
+            if field.tag != "language" or value.tag == self.lang:
+                name = escape(mark_of(field, self.lang))
+                yield f'<dt>{name}</dt><dd><span class="lines">{linked_text(value.text)}</span></dd>\n'
+
     def use(self, word: str, targets: Iterable[Resource]) -> str:
         items = "".join(f"<li>{self.link(it)}</li>" for it in targets)
         return f'<div class="use"><p>{self.words[word]}</p>{f"<ul>{items}</ul>" if items else ""}</div>\n'
@@ -208,10 +277,7 @@ class Edition:
         yield from self.links(it, kind)
         for iri in it.links.get(kind, ()):
             if iri not in self.thesaurus.resources:
-                # (an address of another kind than http may be a script)
-                yield f'<a href="{escape(iri)}" rel="external">{escape(iri)}</a>' if re.match(
-                    "https?://", iri
-                ) else escape(iri)
+                yield linked_text(iri)
 
     def path_to(self, it: Resource) -> list[Resource]:
         """The concepts from a top one down to the one above, by the first broader term of each."""
@@ -221,9 +287,10 @@ class Edition:
             found.append(it)
         return found[::-1]
 
-    def hierarchy(self, it: Resource, kind: str) -> Iterator[str]:
-        for types, other in self.typed(it, kind):
-            yield self.link(other) + "".join(f" <small>{self.words[letter]}</small>" for letter in types)
+    def hierarchy(self, typed: Iterable[tuple[str, Resource]]) -> Iterator[str]:
+        for types, other in typed:
+            name = self.label(other) if other.kind == "Collection" else self.link(other)
+            yield name + "".join(f" <small>{self.words[letter]}</small>" for letter in types)
 
     # --- pages ---
 
@@ -238,11 +305,12 @@ class Edition:
         ]
         rows = [
             self.row("used_for", map(escape, sorted(it.texts("altLabel", self.lang), key=sort_key)), "UF"),
-            self.row("broader", self.hierarchy(it, "broader"), "BT"),
-            self.row("narrower", self.hierarchy(it, "narrower"), "NT"),
+            self.row("broader", self.hierarchy(self.typed(it, "broader")), "BT"),
+            self.row("narrower", self.hierarchy(self.narrower(it)), "NT"),
             self.row("related", self.links(it, "related"), "RT"),
-            self.row("members", self.links(it, "member")),
+            self.row("members", map(self.link, self.parts(it))),
             self.row("in_collections", map(self.link, self.member_of.get(it.iri, ()))),
+            *self.other_notes(it),
             *(self.row(kind, self.mapped(it, kind)) for kind in MAPPINGS),
             self.row("other", others),
             self.row(
@@ -261,13 +329,11 @@ class Edition:
         )
         is_in_tree = it.kind == "Concept" and it.is_live and len(path) < MOST_DEEP
         dead = "" if it.is_live else self.use("dead_use", [replacement]) if replacement else self.use("dead", [])
-        in_tree = (
-            f'<p class="no-print faint"><a href="tree.html#t{it.page}">{self.words["in_tree"]}</a></p>\n'
-            if is_in_tree
-            else ""
-        )
+        in_tree = f'<a href="tree.html#t{it.page}">{self.words["in_tree"]}</a> · ' if is_in_tree else ""
+        beside = f'<a href="../{RDF_FOLDER}/{it.page}.ttl" type="text/turtle">RDF (Turtle)</a>'
         main = (
-            f'{above}<h1>{self.name(it)}</h1>\n{dead}{self.notes(it)}<dl class="rows">\n{"".join(rows)}</dl>\n{in_tree}'
+            f'{above}<h1>{self.name(it)}</h1>\n{dead}{self.notes(it)}<dl class="rows">\n{"".join(rows)}</dl>\n'
+            f'<p class="no-print faint">{in_tree}{beside}</p>\n'
         )
         self.write(it.page, "concept" if it.is_live else "gone", self.names[it.iri][0], main, twin=it.page)
 
@@ -301,9 +367,15 @@ class Edition:
             f'hidden><h1>{self.words["search"]}</h1>{elsewhere}</section>\n'
         )
         printed = f'<h2>{self.words["print"]}</h2>\n{self.letter_bar("print")}'
-        browse = f'<div id="browse">\n<h1>{self.words["az"]}</h1>\n{self.lists()}{printed}</div>'
+        about = "".join(map(self.described, self.schemes))
+        browse = f'<div id="browse">\n<h1>{self.words["az"]}</h1>\n{about}{self.lists()}{printed}</div>'
         main = f'<noscript><p class="faint">{self.words["no_script"]}</p></noscript>\n{results}{browse}'
         self.write("index", "index", self.title, main, head=SCRIPT)
+
+    def described(self, scheme: Resource) -> str:
+        """What describes a scheme: its title, its licence and others, in this language or in none; and its version."""
+        rows = [self.row(it, map(linked_text, scheme.plain_texts(it, self.lang))) for it in (*DESCRIPTION, "version")]
+        return f'<dl class="rows">\n{"".join(rows)}</dl>\n' if any(rows) else ""
 
     def lists(self) -> str:
         """All terms by their letters; or the letters and the top concepts, where there are many terms."""
@@ -337,6 +409,7 @@ class Edition:
             hidden = it.texts("hiddenLabel", self.lang) + [
                 text for tag in tags if tag != self.lang for kind in NAMES for text in it.texts(kind, tag)
             ]
+            hidden += [text for _, text in it.labels.get("notation", ())]
             if it.is_live:
                 terms += [(sort_key(text), [text, it.page, self.names[it.iri][0], 1]) for text in hidden]
         found = json.dumps([term for _, term in sorted(terms)], ensure_ascii=False, separators=(",", ":"))
@@ -376,15 +449,21 @@ class Edition:
                 f'class="use-for">{escape(entry.text)}</dt>{"".join(map(self.printed_row, rows))}</dl>\n'
             )
         rows = [("SN", "", escape(text)) for text in it.texts("scopeNote", self.lang)]
+        rows += [("DEF", "", escape(text)) for text in it.texts("definition", self.lang)]
         rows += [("UF", "", escape(text)) for text in sorted(it.texts("altLabel", self.lang), key=sort_key)]
         rows += [("BT", types, self.link(other)) for types, other in self.typed(it, "broader")]
-        rows += [("NT", types, self.link(other)) for types, other in self.typed(it, "narrower")]
+        rows += [
+            ("", "", self.label(other)) if other.kind == "Collection" else ("NT", types, self.link(other))
+            for types, other in self.narrower(it)
+        ]
         rows += [("RT", "", link) for link in self.links(it, "related")]
         return f'<dl class="entry"><dt>{self.link(it)}</dt>{"".join(map(self.printed_row, rows))}</dl>\n'
 
     def printed_row(self, row: tuple[str, str, str]) -> str:
         """A line of an entry: an abbreviation with the letters of types, and what it is about."""
         short, types, text = row
+        if not short:
+            return f"<dd>{text}</dd>"
         title = ", ".join([self.words[WORDS_OF[short]], *(self.words[it] for it in types)])
         return f'<dd><abbr title="{escape(title)}">{self.words[short]}{types}</abbr> {text}</dd>'
 
@@ -401,13 +480,23 @@ class Edition:
 
     def branch(self, it: Resource, above: Resource | None, depth: int) -> str:
         """A concept with those below it. One with several broader terms is shown in full below the first of them."""
+        if it.kind == "Collection":
+            parts = (
+                "".join(self.branch(other, above, depth + 1) for other in self.parts(it)) if depth < MOST_DEEP else ""
+            )
+            inside = (
+                f"<details open><summary>{self.label(it)}</summary><ul>{parts}</ul></details>"
+                if parts
+                else self.label(it)
+            )
+            return f"<li>{inside}</li>\n"
         types = self.thesaurus.types.get((it.iri, above.iri), "") if above else ""
         label = self.link(it) + "".join(f" <small>{self.words[letter]}</small>" for letter in types)
-        if above and self.broader(it)[0] is not above:
+        if above and self.broader(it)[:1] != [above]:
             return (
                 f'<li>{label} <a class="faint" href="#t{it.page}" title="{escape(self.words["elsewhere"])}">*</a></li>'
             )
-        narrower = self.sorted(self.thesaurus.linked(it, "narrower"))
+        narrower = self.below(it)
         if narrower and depth < MOST_DEEP:
             below = "".join(self.branch(other, it, depth + 1) for other in narrower)
             return f'<li id="t{it.page}"><details><summary>{label}</summary><ul>{below}</ul></details></li>\n'
@@ -415,7 +504,7 @@ class Edition:
 
     def collections_page(self) -> None:
         items = "".join(
-            f"<h2>{self.link(it)}</h2>\n<ul>{''.join(f'<li>{link}</li>' for link in self.links(it, 'member'))}</ul>\n"
+            f"<h2>{self.link(it)}</h2>\n<ul>{''.join(f'<li>{self.link(one)}</li>' for one in self.parts(it))}</ul>\n"
             for it in self.collections
         )
         self.write(
@@ -438,3 +527,9 @@ class Edition:
         for it in [*self.concepts, *self.collections]:
             self.resource_page(it)
         return sum(1 for _ in self.out.glob("*.html"))
+
+
+def linked_text(text: str) -> str:
+    """A text as HTML; an address as a link: one of another kind than http may be a script."""
+    is_address = re.fullmatch(r"https?://\S+", text) is not None
+    return f'<a href="{escape(text)}" rel="external">{escape(text)}</a>' if is_address else escape(text)

@@ -4,38 +4,51 @@ from __future__ import annotations
 import argparse
 import re
 from collections import defaultdict
-from collections.abc import Iterator
+from collections.abc import Iterator, Mapping
 from typing import Any
 
-from thesaurus_tools.kinds import BROADER, CLASSES, LABEL_PROPERTIES, LINK_PROPERTIES
+from thesaurus_tools.arrays import ABOVE, AROUND, places_of_triples
+from thesaurus_tools.fields import DATES, DESCRIPTION, MAYBE_IRI, ORDER, STANDARD, SUPERORDINATE
+from thesaurus_tools.fields import Field, code_of, has_form, tidy
+from thesaurus_tools.fields import WITHIN as WITHIN_FIELD
+from thesaurus_tools.kinds import BROADER, LABEL_PROPERTIES
 from thesaurus_tools.link_rules import OUTSIDE
 from thesaurus_tools.mads import mads_name
+from thesaurus_tools.note_sources import OF_STATEMENT, sources_of, stated
 from thesaurus_tools.ntriples import DCTERMS, OWL, RDF, SKOS, Blank, Iri, Literal, Triple
+from thesaurus_tools.skos_kinds import (
+    DC_ELEMENTS,
+    ISO_THES,
+    KINDS,
+    LINKS,
+    MAPPING,
+    RDFS_LABEL,
+    TITLES,
+    WITHIN,
+    Values,
+    kinds_of,
+    outside_concepts,
+    outside_schemes,
+    triples_of,
+)
 from thesaurus_tools.skos_xl import plain_labels
-from thesaurus_tools.vocabulary import Resource, Vocabulary, by_numbers
+from thesaurus_tools.vocabulary import FieldValue, Resource, Vocabulary, by_numbers
 
-ISO_THES = "http://purl.org/iso25964/skos-thes#"
-RDFS_LABEL = "http://www.w3.org/2000/01/rdf-schema#label"
-TITLES = (RDFS_LABEL, DCTERMS + "title", "http://purl.org/dc/elements/1.1/title")
 LABELS = {SKOS + name: kind for name, kind in LABEL_PROPERTIES.items()}
-# Properties of links: the kind, and whether subject and object change places. Types of broader links have the words of
-# ISO-THES.
-LINKS = {
-    **{SKOS + name: (kind, False) for name, kind in LINK_PROPERTIES.items()},
-    SKOS + "narrower": ("broader", True),
-    **{ISO_THES + kind: (kind, False) for kind in BROADER[1:]},
-    **{ISO_THES + kind.replace("broader", "narrower"): (kind, True) for kind in BROADER[1:]},
-}
+# The kinds of values that are any text: what is wrong with one is a finding of its own.
+FREE = ("text", "line", "code")
 OPPOSITE = {"broad": "narrow", "narrow": "broad"}
-KINDS = {**{SKOS + name: kind for name, kind in CLASSES.items()}, SKOS + "OrderedCollection": "collection"}
-# The objects of triples, by their subjects and predicates.
-Values = dict[str, dict[str, list]]
 TRANSITIVE = {SKOS + "broaderTransitive": False, SKOS + "narrowerTransitive": True}
 
 
 def short(iri: str) -> str:
-    """Returns the last part of an IRI, with its prefix for a term of MADS/RDF."""
-    return mads_name(iri) or re.split(r"[#/:]", iri.rstrip("#/"))[-1]
+    """Returns the last part of an IRI."""
+    return re.split(r"[#/:]", iri.rstrip("#/"))[-1]
+
+
+def property_name(iri: str) -> str:
+    """Returns what reports call a property: by its name one of SKOS, with its prefix one of MADS/RDF, else its IRI."""
+    return mads_name(iri) or (short(iri) if iri.startswith((SKOS, ISO_THES)) else iri)
 
 
 def values_of(triples: set[Triple]) -> Values:
@@ -55,10 +68,28 @@ def values_of(triples: set[Triple]) -> Values:
 class SkosReader:
     """Makes a vocabulary of the values of triples, and notes what is lost."""
 
-    def __init__(self, values: Values, given: argparse.Namespace):
+    def __init__(
+        self,
+        values: Values,
+        given: argparse.Namespace,
+        names: Mapping[str, str],
+        fields: Mapping[str, Field] = STANDARD,
+    ):
         self.given, self.values = given, values
-        self.vocabulary = Vocabulary(given.texts, adopts=given.adopt)
+        self.vocabulary = Vocabulary(given.texts, adopts=given.adopt, second=given.second, fields=fields)
+        # (older programs describe a scheme by the first names of Dublin Core)
+        self.fields = {DC_ELEMENTS + name: fields[name] for name in DESCRIPTION if name != "license"}
+        self.fields |= {it.property: it for it in fields.values() if it.property and not it.is_retired}
+        self.fields |= {DCTERMS + name: fields[name] for name in DATES}
+        self.sources = sources_of(values)
         self.subjects = sorted(values, key=by_numbers)
+        stubs = outside_concepts(values)
+        self.outside = stubs | outside_schemes(values, stubs)
+        # What reports call what is no resource of the thesaurus, as a label that is a resource.
+        self.vocabulary.terms.update(names)
+        # Notes that are resources, and whose they are.
+        self.notes: dict[str, str] = {}
+        self.places = places_of_triples(Triple(Iri(a), Iri(b), it) for a, b, it in triples_of(values))
         self.is_title_label: set[str] = set()
         self.has_resources = False
 
@@ -69,7 +100,8 @@ class SkosReader:
         """Notes a triple as lost; a class of MADS/RDF by its own name."""
         text = f"{node.text!r}" + (f"@{node.tag}" if node.tag else "") if isinstance(node, Literal) else node
         is_class = predicate == RDF + "type" and not isinstance(node, Literal) and bool(mads_name(node))
-        self.lose(subject, f"{mads_name(node)} as its class" if is_class else f"{short(predicate)} {text}")
+        name = "class" if predicate == RDF + "type" else property_name(predicate)
+        self.lose(subject, f"{mads_name(node)} as its class" if is_class else f"{name} {text}")
 
     def read(self) -> Vocabulary:
         """Returns the vocabulary, checked."""
@@ -78,20 +110,32 @@ class SkosReader:
         for it in self.vocabulary.resources.values():
             self.read_labels(it)
         self.read_links()
-        for subject in self.subjects:
+        self.name_others()
+        for subject in sorted(self.subjects, key=lambda it: not self.kind(it)):
+            # (notes that are resources become known from those whose notes they are)
             self.read_rest(subject)
+        self.read_places()
         self.vocabulary.check(self.given.lang, bool(self.given.qualify))
+        self.vocabulary.check_places()
+        self.vocabulary.check_unique_values()
         self.compare_entailed()
         return self.vocabulary
 
+    def name_others(self) -> None:
+        """Has reports name other vocabularies' concepts by their labels, and all else by what it belongs to."""
+        terms = self.vocabulary.terms
+        for it in self.outside:
+            labels = [node.text for node in self.values[it].get(SKOS + "prefLabel", ()) if isinstance(node, Literal)]
+            terms.update({it: labels[0]} if labels else {})
+        described = {*self.subjects}
+        for subject, _, node in triples_of(self.values):
+            if self.kind(subject) and node in described and not self.kind(node):
+                terms.setdefault(node, terms.get(subject, ""))
+
     def find_resources(self) -> None:
-        """Finds what is a scheme, a concept or a collection, by its type or by what its links entail."""
-        kinds: dict[str, set[str]] = defaultdict(set)
-        for subject in self.subjects:
-            for predicate, nodes in self.values[subject].items():
-                for node in nodes:
-                    for it, kind in self.entailed(subject, predicate, node):
-                        kinds[it].add(kind)
+        """Finds what is a scheme, a concept or a collection, by its type or by what its links entail. What is of other
+        vocabularies isn't among them."""
+        kinds = kinds_of(self.values, self.outside)
         self.has_resources = bool(kinds)
         for it in sorted(kinds, key=by_numbers):
             if isinstance(it, Blank):
@@ -105,22 +149,6 @@ class SkosReader:
                     f"it is a {' and a '.join(sorted(kinds[it]))}; a {kind} stays",
                 )
             self.vocabulary.resources[it] = Resource(it, kind)
-
-    def entailed(self, subject: str, predicate: str, node: Any) -> Iterator[tuple[str, str]]:
-        """Yields what a triple says of the kinds of its subject and its object."""
-        if predicate == RDF + "type" and node in KINDS:
-            yield subject, KINDS[node]
-        elif predicate in (SKOS + "member", SKOS + "memberList"):
-            yield subject, "collection"
-        elif isinstance(node, Literal):
-            return
-        elif predicate == SKOS + "inScheme":
-            yield node, "scheme"
-        elif predicate in (SKOS + "topConceptOf", SKOS + "hasTopConcept"):
-            concept, scheme = (subject, node) if predicate.endswith("topConceptOf") else (node, subject)
-            yield from ((concept, "concept"), (scheme, "scheme"))
-        elif predicate in LINKS and LINKS[predicate][0] in (*BROADER, "related"):
-            yield from ((subject, "concept"), (node, "concept"))
 
     # --- Schemes, deaths and labels ---
 
@@ -182,11 +210,13 @@ class SkosReader:
         values, vocabulary = self.values[resource.name], self.vocabulary
         kinds = {**LABELS, **{SKOS + it: "scope" for it in self.given.as_scope}}
         for predicate, kind in kinds.items():
-            for it in values.get(predicate, ()):
-                if isinstance(it, Literal):
-                    vocabulary.add_label(resource, kind, it.tag or self.given.lang, it.text)
-                else:
-                    self.lose(resource.name, f"{short(predicate)} {it}, which is no text")
+            for node in values.get(predicate, ()):
+                texts = self.texts_of(node, resource.name) if kind == "scope" else [node]
+                for it in texts:
+                    if isinstance(it, Literal):
+                        vocabulary.add_label(resource, kind, it.tag or self.given.lang, it.text)
+                    else:
+                        self.lose(resource.name, f"{property_name(predicate)} {it}, which is no text")
         if resource.kind == "scheme" and not resource.labels["pref"]:
             self.read_titles(resource)
         if resource.kind == "concept" and self.given.hidden_codes:
@@ -194,6 +224,15 @@ class SkosReader:
             ends = [] if notations and not self.given.all_codes else [short(resource.name)]
             for code in dict.fromkeys([*ends, *notations]):
                 vocabulary.add_label(resource, "hidden", self.given.hidden_codes, code)
+
+    def texts_of(self, node: Any, owner: str) -> list:
+        """Returns the texts of a note, which may be a resource; or the resource, if it has no text."""
+        if isinstance(node, Literal) or self.kind(node):
+            return [node]
+        found = [it for it in self.values.get(node, {}).get(RDF + "value", ()) if isinstance(it, Literal)]
+        if found:
+            self.notes[node] = owner
+        return found or [node]
 
     def read_titles(self, scheme: Resource) -> None:
         """Gives a scheme without preferred labels its title, or the text of --scheme."""
@@ -234,12 +273,28 @@ class SkosReader:
                 for member in self.members(subject):
                     if self.kind(member) == "concept":
                         links.append(("member", subject, member))
-                    else:
+                    elif not self.is_place(member, subject):
                         self.lose(subject, f"the member {member}, which is no concept of the file")
         if self.given.keep_iris:
-            links += [
-                ("exact", it.name, OUTSIDE + it.name) for it in self.vocabulary.of_kind("concept") if not it.is_dead
-            ]
+            links += self.old_iris()
+
+    def old_iris(self) -> Iterator[tuple[str, str, str]]:
+        """Yields the exact matches to the old IRIs: that of a dead concept is its successor's, as after a merge."""
+        for it in self.vocabulary.of_kind("concept"):
+            if end := self.successor(it):
+                yield "exact", end.name, OUTSIDE + it.name
+            else:
+                self.lose(it.name, "the old IRI, as nothing replaces it")
+
+    def successor(self, concept: Resource) -> Resource | None:
+        """Returns the live concept of its scheme that a concept is, or that replaces it, if there is one."""
+        scheme, way = concept.scheme, {concept.name}
+        while concept.is_dead:
+            if concept.replaced in way or self.kind(concept.replaced) != "concept":
+                return None
+            concept = self.vocabulary.resources[concept.replaced]
+            way.add(concept.name)
+        return concept if concept.scheme == scheme else None
 
     def declared_tops(self, subject: str) -> list[tuple]:
         """The top concepts that the triples of a subject declare, each with its scheme."""
@@ -251,23 +306,48 @@ class SkosReader:
     def read_link(self, subject: str, predicate: str, node: Any) -> None:
         kind, is_turned = LINKS[predicate]
         a, b = (node, subject) if is_turned else (subject, node)
+        name = property_name(predicate)
         if isinstance(node, Literal) or isinstance(a, Blank) or isinstance(b, Blank):
-            self.lose(
-                subject,
-                (
-                    f"{short(predicate)} {node[0] if isinstance(node, Literal) else node}, which is no "
-                    "resource with an IRI"
-                ),
-            )
+            found = node[0] if isinstance(node, Literal) else node
+            self.lose(subject, f"{name} {found}, which is no resource with an IRI")
             return
-        if kind in ("exact", "close", "relMatch", *OPPOSITE):
+        if kind in WITHIN and "collection" in (self.kind(a), self.kind(b)):
+            if self.is_place(a, b):
+                return
+            self.lose(subject, f"{name} {node}: a collection isn't above or below a concept, and keeps its members")
+            return
+        if kind in MAPPING:
             if self.kind(a) != "concept" and self.kind(b) == "concept":
                 kind, a, b = OPPOSITE.get(kind, kind), b, a
             if not self.kind(a):
-                self.lose(subject, f"{short(predicate)} {node}: neither is a concept of the file")
+                self.lose(subject, f"{name} {node}: neither is a concept of the file")
                 return
             b = b if self.kind(b) else OUTSIDE + b
         self.vocabulary.links.append((kind, a, b))
+
+    # --- Places of collections ---
+
+    def is_place(self, low: str, high: str) -> bool:
+        """Whether a collection gets its place by a concept that is above it, or a collection around it."""
+        return self.given.own and high in (self.places.superordinate(low), self.places.outer.get(low))
+
+    def read_places(self) -> None:
+        """Adds where collections are, and the orders in them."""
+        for it in self.vocabulary.of_kind("collection") if self.given.own else ():
+            it.places = {
+                SUPERORDINATE: [above] if (above := self.places.named.get(it.name)) else [],
+                WITHIN_FIELD: [outer] if (outer := self.places.outer.get(it.name)) else [],
+                ORDER: list(dict.fromkeys(self.places.orders.get(it.name, ()))),
+            }
+
+    def is_stated_place(self, subject: str, predicate: str, node: Any) -> bool:
+        """Whether a triple says of a collection where it is, or that it has an order, and that is kept."""
+        if not self.given.own or isinstance(node, Literal):
+            return False
+        if predicate == SKOS + "memberList":
+            return subject in self.places.orders
+        is_up = {**ABOVE, **AROUND}.get(predicate)
+        return is_up is not None and self.is_place(*((subject, node) if is_up else (node, subject)))
 
     # --- What is lost ---
 
@@ -283,13 +363,20 @@ class SkosReader:
         kept |= {OWL + "deprecated", DCTERMS + "isReplacedBy"} if self.kind(subject) == "concept" else set()
         kept |= self.is_title_label if self.kind(subject) == "scheme" else set()
         kept |= {SKOS + "notation"} if self.given.hidden_codes and self.kind(subject) == "concept" else set()
-        if isinstance(subject, Blank) and RDF + "first" in self.values[subject]:
+        if RDF + "first" in self.values[subject] and not self.kind(subject):
+            return
+        if self.given.own and self.says_a_source(subject):
+            return
+        if subject in self.notes:
+            self.read_rest_of_note(subject)
             return
         for predicate, nodes in self.values[subject].items():
             for node in nodes:
                 if not self.kind(subject):
-                    if predicate not in LINKS:
+                    if predicate not in LINKS and not (subject in self.outside and predicate == RDF + "type"):
                         self.lose_triple(subject, predicate, node)
+                elif self.is_stated_place(subject, predicate, node):
+                    continue
                 elif predicate == SKOS + "memberList":
                     self.lose(subject, "memberList: the order of its members")
                 elif predicate == RDF + "type" and node not in KINDS:
@@ -298,8 +385,55 @@ class SkosReader:
                     ("pref", it) for it in self.values[subject].get(SKOS + "prefLabel", ())
                 }:
                     continue
-                elif predicate not in kept:
+                elif predicate not in kept and not self.take_value(subject, predicate, node):
                     self.lose_triple(subject, predicate, node)
+
+    def says_a_source(self, subject: str) -> bool:
+        """Whether a resource is nothing but a statement of a source, about a note of the file."""
+        its = self.values[subject]
+        notes = [note for note, _ in stated(its)]
+        return {*its} == OF_STATEMENT and all(note in self.values[a].get(name, ()) for a, name, note in notes[:1])
+
+    def read_rest_of_note(self, note: str) -> None:
+        """Notes what is said of a note beside its text, and beside its source, if values of fields are wanted."""
+        kept = {RDF + "value", RDF + "type", *({DCTERMS + "source"} if self.given.own else ())}
+        for predicate, nodes in self.values[note].items():
+            for node in nodes if predicate not in kept else ():
+                self.lose_triple(self.notes[note], predicate, node)
+
+    def take_value(self, subject: str, predicate: str, node: Any) -> bool:
+        """Adds a value of a field, if values are wanted; returns whether it is one. A note may be a resource, with its
+        text and its source."""
+        field = self.fields.get(predicate)
+        if not self.given.own or field is None or self.kind(subject) not in field.owners:
+            return False
+        about = self.values.get(node, {}) if not isinstance(node, Literal) else {}
+        found = self.texts_of(node, subject)
+        sources = [it.text if isinstance(it, Literal) else it for it in about.get(DCTERMS + "source", ())]
+        if not all(self.has_form(field, it) for it in found):
+            return False
+        sources = sources or [it for it in (self.sources.get(Triple(Iri(subject), Iri(predicate), node)),) if it]
+        for it in found:
+            tag, text = self.value_of(field, it)
+            source = sources[0] if sources and field.has_source else ""
+            self.vocabulary.add_value(self.vocabulary.resources[subject], FieldValue(field.name, tag, text, source))
+        return True
+
+    @staticmethod
+    def has_form(field: Field, node: Any) -> bool:
+        """Whether a node may be a value of a field: an IRI or none, and a date, a number or a choice where it is to be
+        one."""
+        if isinstance(node, Blank) or field.name not in MAYBE_IRI and isinstance(node, Iri) != (field.kind == "link"):
+            return False
+        return field.kind in FREE or has_form(field, tidy(node.text if isinstance(node, Literal) else node, field.kind))
+
+    def value_of(self, field: Field, node: Any) -> tuple[str, str]:
+        """Returns the tag and the text of a value: its language, or the code that its datatype names."""
+        if not isinstance(node, Literal):
+            return "", str(node)
+        if field.tag == "language":
+            return (node.tag or self.given.lang or "").lower(), node.text
+        return code_of(node.datatype, "") if field.tag == "code" else "", node.text
 
     def compare_entailed(self) -> None:
         """Notes top concepts that have broader ones, and transitive links that no chain of links entails."""
@@ -313,4 +447,4 @@ class SkosReader:
             for predicate, is_turned in TRANSITIVE.items():
                 for node in values.get(predicate, ()):
                     if not rules.is_above(*((node, subject) if is_turned else (subject, node))):
-                        self.lose(subject, f"{short(predicate)} {node}")
+                        self.lose(subject, f"{property_name(predicate)} {node}")

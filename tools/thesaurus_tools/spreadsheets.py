@@ -1,8 +1,8 @@
 """Reads tables of cells from what spreadsheets save: CSV in its encodings, OpenDocument (ODS) and Excel (XLSX)."""
 from __future__ import annotations
 
+import datetime
 import io
-import re
 import zipfile
 from collections.abc import Iterable, Iterator
 from pathlib import Path
@@ -10,11 +10,12 @@ from typing import Any, NamedTuple
 
 from thesaurus_tools.command_line import USAGE, ToolError
 from thesaurus_tools.files import ARCHIVE, TableError, decode, read_table_file, rows_of_text
+from thesaurus_tools.formulas import remove_guard
+from thesaurus_tools.system_python import run_by_system_python
 
-# The most bytes that a compressed file unpacks to, and the most rows and columns that are read.
-MOST_UNPACKED, MOST_ROWS, MOST_COLUMNS = 256 << 20, 200_000, 1_000
-# A cell that would be a formula, had it no apostrophe before it; and what a formula that failed leaves in its cell.
-GUARDED = re.compile(r"'+[=+\-@]")
+# The most bytes that a compressed file unpacks to, and the most rows, columns and cells that are read.
+MOST_UNPACKED, MOST_ROWS, MOST_COLUMNS, MOST_CELLS = 256 << 20, 200_000, 1_000, 4_000_000
+# What a formula that failed leaves in its cell.
 FAILED = frozenset(("#REF!", "#NAME?", "#VALUE!", "#DIV/0!", "#N/A", "#NUM!", "#NULL!"))
 
 
@@ -42,16 +43,19 @@ def rows_of_table(path: Path, encoding: str, sheet: str) -> list[Row]:
     elif sheet:
         raise ToolError(f"{path}: --sheet is for ODS and XLSX files", USAGE)
     else:
-        advice = "save the table as UTF-8, or name its encoding by --encoding, as latin-1"
+        advice = "save the table as UTF-8, or name its encoding: --encoding cp1252 is that of Windows in the West"
         texts = rows_of_text(path, decode(path, data, encoding, advice))
-        cells = ((line, [without_guard(it.strip()) for it in row]) for line, row in texts)
+        cells = ((line, [remove_guard(it.strip()) for it in row]) for line, row in texts)
     rows: list[Row] = []
     for line, row in cells:
         if any(row):
             rows.append(Row(line, row))
             check_row(path, rows[-1], len(rows[0].cells))
-        if len(rows) > MOST_ROWS or len(row) > MOST_COLUMNS:
-            raise TableError("many", path, line, rows=MOST_ROWS, columns=MOST_COLUMNS)
+        is_many = (
+            len(rows) > MOST_ROWS or len(row) > MOST_COLUMNS or rows and len(rows) * len(rows[0].cells) > MOST_CELLS
+        )
+        if is_many:
+            raise TableError("many", path, line, rows=MOST_ROWS, columns=MOST_COLUMNS, cells=MOST_CELLS)
     if not rows:
         raise TableError("empty", path)
     width = len(rows[0].cells)
@@ -64,11 +68,6 @@ def check_row(path: Path, row: Row, width: int) -> None:
         raise TableError("wide", path, row.line)
     if failed := next((it for it in row.cells if it in FAILED), ""):
         raise TableError("failed_formula", path, row.line, cell=failed)
-
-
-def without_guard(text: str) -> str:
-    """Returns a cell without the apostrophe that keeps a spreadsheet from taking it for a formula."""
-    return text[1:] if GUARDED.match(text) else text
 
 
 def read_workbook(path: Path, data: bytes, sheet: str) -> Iterable[tuple[int, list[str]]]:
@@ -104,6 +103,7 @@ def read_xlsx(path: Path, data: bytes, sheet: str) -> Iterator[tuple[int, list[s
     try:
         import openpyxl  # (Debian's python3-openpyxl; only these files need it)
     except ImportError:
+        run_by_system_python("openpyxl")
         raise TableError("needs", path, status=USAGE, form="XLSX", package="python3-openpyxl") from None
     try:
         # (once for the values, and once for the formulas, which may lack their values)
@@ -125,6 +125,7 @@ def read_ods(path: Path, data: bytes, sheet: str) -> Iterator[tuple[int, list[st
     try:
         from odf import opendocument, table, teletype  # (Debian's python3-odf; only these files need it)
     except ImportError:
+        run_by_system_python("odf")
         raise TableError("needs", path, status=USAGE, form="ODS", package="python3-odf") from None
     try:
         pages = {
@@ -137,7 +138,11 @@ def read_ods(path: Path, data: bytes, sheet: str) -> Iterator[tuple[int, list[st
     for row in pages[choose_sheet(path, sheet, list(pages))].getElementsByType(table.TableRow):
         cells: list[str] = []
         for cell in row.getElementsByType(table.TableCell):
-            text = " ".join(teletype.extractText(it) for it in cell.childNodes if it.qname[1] == "p").strip()
+            # (between paragraphs there may be spaces, which are no elements)
+            paragraphs = [it for it in cell.childNodes if getattr(it, "qname", ("", ""))[1] == "p"]
+            text = "\n".join(map(teletype.extractText, paragraphs)).strip()
+            # (a day has its form of the sheet in the text)
+            text = day_of(cell.getAttribute("datevalue") or "") or text
             if not text and cell.getAttribute("formula") and not cell.getAttribute("valuetype"):
                 raise TableError("no_value", path, line)
             room = MOST_COLUMNS + bool(text) - len(cells)
@@ -171,4 +176,11 @@ def cell_text(value: object) -> str:
         return ""
     if isinstance(value, float) and value.is_integer():
         return str(int(value))
+    if isinstance(value, datetime.datetime):
+        return day_of(value.isoformat())
     return str(value).strip()
+
+
+def day_of(time: str) -> str:
+    """Returns a day without the midnight that spreadsheets give it; another time with a space before the hours."""
+    return time.removesuffix("T00:00:00").replace("T", " ")

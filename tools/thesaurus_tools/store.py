@@ -2,12 +2,16 @@
 from __future__ import annotations
 
 from collections import Counter, defaultdict
-from collections.abc import Collection, Iterable, Iterator, Mapping
+from collections.abc import Collection, Iterable, Iterator, Mapping, Sequence
 from functools import cached_property
+from types import MappingProxyType
 from typing import NamedTuple
 
 from thesaurus_tools.command_line import REFUSED, ToolError
+from thesaurus_tools.arrays import Places, no_places
+from thesaurus_tools.fields import Field
 from thesaurus_tools.kinds import BROADER, LABEL_KINDS, SYMMETRIC
+from thesaurus_tools.values import FieldValue
 
 # A resource of the store by its number, or another publisher's concept by its IRI.
 End = int | str
@@ -105,8 +109,21 @@ class Store:
     links: set[Link]
     # The numbers of outside concepts by their IRIs, as far as they are known.
     outside: dict[str, int]
+    # What a desk keeps beside the store, if that is read: its fields by their names, and the values of each resource.
+    fields: Mapping[str, Field] = MappingProxyType({})
+    values_of: Mapping[int, Sequence[FieldValue]] = MappingProxyType({})
+    # Where collections are, if that is read.
+    places: Places[int] = no_places()
     # Whether the links have their types; `has_plain`: also the plain broader link beside a typed one.
     has_types = has_plain = True
+
+    def values_in(self, number: int, lang: str) -> Iterator[tuple[Field, FieldValue]]:
+        """Yields the values of a resource in a language or in none, in the order of the fields."""
+        held = self.values_of.get(number, ())
+        for field in self.fields.values() if held else ():
+            for it in held:
+                if it.field == field.name and (field.tag != "language" or it.tag == lang):
+                    yield field, it
 
     def each_posting(self) -> Iterator[Posting]:
         """Yields the postings in the order of their numbers."""

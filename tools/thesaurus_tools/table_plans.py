@@ -7,14 +7,16 @@ from dataclasses import dataclass, replace
 
 from thesaurus_tools.command_line import USAGE, ToolError
 from thesaurus_tools.drafts import Draft, Reference
+from thesaurus_tools.exact_rows import IsSeen
 from thesaurus_tools.exchanges import Rename, Term, groups_of, ordered_renames, relabel
 from thesaurus_tools.finding import RowError
-from thesaurus_tools.headings import Column, fold_heading
+from thesaurus_tools.headings import OF_FIELD, Column, fold_heading
 from thesaurus_tools.row_changes import BY_DEED, RowReader
 from thesaurus_tools.row_running import RowPlan
 from thesaurus_tools.spreadsheets import Row
 from thesaurus_tools.store import Store
 
+NOTATION = f"{OF_FIELD}notation"
 # The kinds of tables: what each row asks for, and the columns that it needs.
 KINDS = {
     "new": ("new", "each row is a new concept: a preferred term; perhaps broader, other terms, notes and links"),
@@ -37,6 +39,9 @@ class TableOptions:
     # Whether renames drop the old term; and whether a filled cell replaces other terms and the note of its language.
     forget: bool = False
     replace: bool = False
+    # Whether each cell of a row of changes says exactly what its concept is to have, or only what is added to that;
+    # None: exactly in the rows with a mark of what was seen.
+    exact: bool | None = None
 
 
 class NewConceptsError(ToolError):
@@ -47,14 +52,15 @@ class NewConceptsError(ToolError):
 
 
 def plan_table(
-    store: Store, columns: list[Column], rows: list[Row], options: TableOptions
+    store: Store, columns: list[Column], rows: list[Row], options: TableOptions, is_seen: IsSeen | None = None
 ) -> tuple[Draft, list[RowPlan]]:
-    """Returns the store after the table, as far as its rows can be done, and each row with its requests."""
+    """Returns the store after the table, as far as its rows can be done, and each row with its requests. `is_seen` says
+    of the marks of rows whether what they stand for is as it was."""
     draft = Draft(store, [options.lang] if options.lang else [])
     schemes = [it.number for it in store.resources.values() if it.kind == "scheme"]
     if options.scheme is None and len(schemes) == 1:
         options = replace(options, scheme=schemes[0])
-    return draft, TableReader(RowReader(draft, columns, options), rows, options).read()
+    return draft, TableReader(RowReader(draft, columns, options, is_seen), rows, options).read()
 
 
 def deed_of(columns: list[Column], cells: list[str], options: TableOptions) -> str:
@@ -75,6 +81,9 @@ def deed_of(columns: list[Column], cells: list[str], options: TableOptions) -> s
         ("iri", "change"),
         ("code", "change"),
     )
+    languages = {it.tag for it in columns if it.role == "pref"}
+    if NOTATION in roles and not languages & {"", options.lang}:
+        return "change"  # (it says which concept is meant)
     return next((deed for role, deed in by_columns if role in roles), "new")
 
 
@@ -141,21 +150,24 @@ class TableReader:
             for place in places:
                 self.note(place, [], error)
         finally:
-            self.reader.known = None
+            self.reader.known, self.reader.exchanged = None, set()
 
     def read_exchange(self, places: list[int], renames: list[Rename]) -> None:
         """Notes what rows that exchange terms do: the last one has the requests of all. Raises RowError."""
-        draft, keep = self.reader.draft, not self.options.forget
-        requests = ordered_renames(draft, renames, keep)
+        draft = self.reader.draft
+        kept = {it.concept for it in renames if self.reader.keeps_term(it.old[1], self.rows[it.place].cells)}
+        requests = ordered_renames(draft, renames, len(kept) == len({it.concept for it in renames}))
         for request in requests:
             draft.apply(request)
+        for it in renames:
+            self.reader.check_free(it.concept, *it.new[1:])
         last = self.rows[places[-1]].line
         for place in places:
             own = [it for it in renames if it.place == place]
-            self.reader.known = own[0].concept
+            self.reader.known, self.reader.exchanged = own[0].concept, {it.new[2] for it in own}
             more = self.requests_of(place)
             requests += more
-            asked = [*(relabel(it, it.new[2], keep) for it in own), *more]
+            asked = [*(relabel(it, it.new[2], it.concept in kept) for it in own), *more]
             row = self.rows[place]
             is_last = row.line == last
             self.plans[place] = RowPlan(row.line, row.cells, requests if is_last else [], asked=asked, by=last)

@@ -5,7 +5,7 @@ import contextlib
 import shutil
 import sqlite3
 import tempfile
-from collections.abc import Iterator
+from collections.abc import Iterator, Sequence
 from functools import cached_property
 from pathlib import Path
 
@@ -48,6 +48,18 @@ def open_tables(path: Path | str) -> Iterator[sqlite3.Connection]:
         yield stack.enter_context(contextlib.closing(sqlite3.connect(address, uri=True)))
 
 
+def base_of(name: Path | str, rows: Sequence[tuple]) -> str:
+    """Returns what the IRIs of a store begin with, by the rows of its table `meta`: version and base. Raises ToolError
+    for tables of another version."""
+    if len(rows) != 1:
+        raise ToolError(f"{name}: not the store of a thesaurus")
+    ((version, base),) = rows
+    if version != TABLES_VERSION:
+        advice = "run `thesaurus migrate` on it first" if version < TABLES_VERSION else "these tools are older than it"
+        raise ToolError(f"{name}: its tables have version {version}, not {TABLES_VERSION}: {advice}")
+    return str(base)
+
+
 class TableStore(Store):
     """A store whose tables are read when they are asked for."""
 
@@ -56,15 +68,7 @@ class TableStore(Store):
 
     def read_base(self) -> TableStore:
         """Reads the version and the base, and returns itself. Raises ToolError for tables of another version."""
-        rows = list(self.rows("SELECT version, base FROM meta"))
-        if len(rows) != 1:
-            raise ToolError(f"{self.name}: not the store of a thesaurus")
-        ((version, self.base),) = rows
-        if version != TABLES_VERSION:
-            advice = (
-                "run `thesaurus migrate` on it first" if version < TABLES_VERSION else "these tools are older than it"
-            )
-            raise ToolError(f"{self.name}: its tables have version {version}, not {TABLES_VERSION}: {advice}")
+        self.base = base_of(self.name, list(self.rows("SELECT version, base FROM meta")))
         return self
 
     def rows(self, query: str, *values: object) -> Iterator[tuple]:

@@ -25,7 +25,7 @@ class TripleStore:
     query_url: str
     update_url: str
     graph: str
-    # Where whole graphs are put; without it they are removed and inserted by updates.
+    # Where many triples are added at a time; without it that is done by updates.
     graph_store_url: str = ""
     user: str = ""
     password: str = ""
@@ -69,14 +69,15 @@ class TripleStore:
         except (ValueError, KeyError, TypeError):
             raise ToolError(f"{self.query_url}: no answer to a query of SPARQL: {body[:SHOWN]!r}") from None
 
-    def put(self, triples: bytes) -> None:
-        """Puts a whole graph, in N-Triples, in place of the one there."""
-        url = f"{self.graph_store_url}?{urllib.parse.urlencode({'graph': self.graph})}"
-        self.send("PUT", url, triples, {"Content-Type": "application/n-triples"})
+    def post(self, triples: bytes, graph: str) -> None:
+        """Adds triples, in N-Triples, to a graph, by the Graph Store HTTP Protocol."""
+        url = f"{self.graph_store_url}?{urllib.parse.urlencode({'graph': graph})}"
+        self.send("POST", url, triples, {"Content-Type": "application/n-triples"})
 
-    def count(self) -> int:
-        """Returns the number of triples in the graph."""
-        (row,) = self.select(f"SELECT (COUNT(*) AS ?n) WHERE {{ GRAPH <{self.graph}> {{ ?s ?p ?o }} }}")
+    def count(self, subject: str = "") -> int:
+        """Returns the number of triples in the graph, or of those about a subject."""
+        about = f"<{subject}>" if subject else "?s"
+        (row,) = self.select(f"SELECT (COUNT(*) AS ?n) WHERE {{ GRAPH <{self.graph}> {{ {about} ?p ?o }} }}")
         found = row["n"]
         return int(found.text if isinstance(found, Literal) else found)
 

@@ -2,10 +2,11 @@
 from __future__ import annotations
 
 import re
-from collections.abc import Iterable
+from collections.abc import Iterable, Mapping
 from dataclasses import dataclass, field
 from typing import NamedTuple
 
+from thesaurus_tools.fields import ORDER, STANDARD, SUPERORDINATE, WITHIN, Field, is_tag, is_value, tidy
 from thesaurus_tools.kinds import BROADER, LABEL_KINDS
 from thesaurus_tools.link_rules import LINK_ORDER, LinkRules
 
@@ -35,12 +36,25 @@ class Finding(NamedTuple):
     resource: str
     what: str
 
+    def about(self) -> str:
+        """Returns what is concerned: what is lost, the rule that is broken, or that a scheme has no label."""
+        return self.group() or (f"{self.rule} of a scheme" if self.what.startswith("the scheme has no") else self.rule)
+
     def group(self) -> str:
         """Returns what kind of thing is lost, such as `notation`; "" for a rule that is broken."""
         words = self.what.split()
         return (
             " ".join(words[: 2 if words[0] in ("a", "the", "column") else 1]).strip(":") if self.rule == "lost" else ""
         )
+
+
+class FieldValue(NamedTuple):
+    """A value of a field, as a definition or a notation."""
+
+    field: str
+    tag: str
+    text: str
+    source: str = ""
 
 
 @dataclass
@@ -53,6 +67,10 @@ class Resource:
     labels: dict[str, list[tuple[str, str]]] = field(default_factory=lambda: {it: [] for it in LABEL_KINDS})
     is_dead: bool = False
     replaced: str = ""
+    # The values of fields that a desk keeps beside the store.
+    values: list[FieldValue] = field(default_factory=list)
+    # Of a collection: the names of the concept above it and of the collection around it, and of what is in order in it.
+    places: dict[str, list[str]] = field(default_factory=dict)
 
     def names(self) -> set[tuple[str, str]]:
         """Returns the tags and texts of its labels, but for notes."""
@@ -71,6 +89,9 @@ class Vocabulary:
     changed: int = 0
     tops: set[str] = field(default_factory=set)  # concepts that are said to be top concepts
     adopts: bool = False  # whether concepts below one that is left out get its broader concepts
+    second: str = ""  # the kind of labels that a second preferred label in a language becomes
+    terms: dict[str, str] = field(default_factory=dict)  # the first preferred label of each resource, as it is read
+    fields: Mapping[str, Field] = field(default_factory=lambda: STANDARD)
 
     def find(self, rule: str, resource: str, what: str) -> None:
         self.findings.append(Finding(rule, resource, what))
@@ -84,6 +105,8 @@ class Vocabulary:
         fitted = fit_text(text, MOST_BYTES.get(kind, 256), self.texts)
         label = tag.lower(), fitted or ""
         held = owner.labels[kind]
+        if kind == "pref":
+            self.terms.setdefault(owner.name, text)
         if not TAG_FORM.fullmatch(tag):
             self.find(
                 "BadTag",
@@ -99,12 +122,75 @@ class Vocabulary:
         elif label in held:
             return
         elif kind == "pref" and any(label[0] == it for it, _ in held):
+            if self.second:
+                self.add_label(owner, self.second, tag, text)
+                return
             self.find("S14", owner.name, f"{said} is a second preferred label in its language")
         elif kind != "scope" and label in owner.names():
             self.find("S13", owner.name, f"{said} is a label of another kind already")
         else:
             self.changed += label[1] != text
             held.append(label)
+
+    def add_value(self, owner: Resource, value: FieldValue) -> None:
+        """Adds a value of a field, unless the field doesn't take it, or another concept of the scheme has it."""
+        its = self.fields[value.field]
+        fitted = value._replace(text=tidy(value.text, its.kind), source=tidy(value.source, "line"))
+        said = f"{value.field} {value.text!r}" + (f"@{value.tag}" if value.tag else "")
+        if its.tag == "language" and not is_tag(its, fitted.tag):
+            wrong = "has no legal language tag" if fitted.tag else "has no language tag; --lang gives one"
+            self.find("BadTag", owner.name, f"{said} {wrong}")
+            return
+        if not is_value(its, fitted.tag, fitted.text):
+            self.find("BadText", owner.name, f"{said} is empty, too long, or has control characters")
+            return
+        held = [it for it in owner.values if it.field == fitted.field]
+        if held and not its.is_many and (fitted.tag, fitted.text) != held[0][1:3]:
+            self.find("lost", owner.name, f"{said}: it has {held[0].text!r} already")
+        elif (fitted.tag, fitted.text) not in [it[1:3] for it in held]:
+            owner.values.append(fitted)
+
+    def check_unique_values(self) -> None:
+        """Leaves out values that another resource in use has, where no two may have one."""
+        held: dict[tuple[str, FieldValue], str] = {}
+        for it in self.resources.values():
+            for value in list(it.values if not it.is_dead else ()):
+                if self.fields[value.field].is_unique:
+                    first = held.setdefault((it.scheme or it.name, value), it.name)
+                    if first != it.name:
+                        self.find("ValueTaken", it.name, f"{value.field} {value.text!r} is that of {first}")
+                        it.values.remove(value)
+
+    def check_places(self) -> None:
+        """Leaves out where a collection can't be, and what can't be in its order."""
+        for it in self.of_kind("collection"):
+            for name in it.places.get(SUPERORDINATE, ()):
+                above = self.resources.get(name)
+                while above is not None and above.is_dead and above.replaced:
+                    above = self.resources.get(above.replaced)
+                it.places[SUPERORDINATE] = [above.name] if above is not None else []
+                if above is None or above.kind != "concept" or above.is_dead or above.scheme != it.scheme:
+                    self.find("lost", it.name, f"superOrdinate {name}, which is no concept in use of its scheme")
+                    it.places[SUPERORDINATE] = []
+            for name in it.places.get(WITHIN, ()):
+                outer = self.resources.get(name)
+                if outer is None or outer.kind != "collection" or outer.scheme != it.scheme:
+                    self.find("lost", it.name, f"its place within {name}, which is no collection of its scheme")
+                    it.places[WITHIN] = []
+                elif self.is_within(name, it.name):
+                    self.find("lost", it.name, f"its place within {name}, which is within it")
+                    it.places[WITHIN] = []
+            there = [self.resources.get(name) for name in it.places.get(ORDER, ())]
+            it.places[ORDER] = [one.name for one in there if one is not None and one.scheme == it.scheme]
+
+    def is_within(self, inner: str, outer: str) -> bool:
+        """Whether a collection is another one, or within it."""
+        way = [inner]
+        while way[-1] != outer and way[-1] in self.resources and (around := self.resources[way[-1]].places.get(WITHIN)):
+            if around[0] in way:
+                break
+            way.append(around[0])
+        return way[-1] == outer
 
     def leave_out(self, names: Iterable[str]) -> None:
         """Leaves resources out, with the links at them, and what has no scheme then."""
@@ -152,7 +238,8 @@ class Vocabulary:
             self.qualify()
         lacking = [it for it in self.resources.values() if not it.labels["pref"]]
         for it in lacking:
-            self.find("NoLabel", it.name, f"the {it.kind} has no preferred label")
+            hint = "; --scheme gives one" if it.kind == "scheme" else ""
+            self.find("NoLabel", it.name, f"the {it.kind} has no preferred label{hint}")
         self.leave_out(it.name for it in lacking)
         self.check_unique()
         for it in self.resources.values():

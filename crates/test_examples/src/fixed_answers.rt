@@ -6,7 +6,8 @@ use std::io::{Read, Write};
 use thes_base::fault::{Fault, PipeFault, Refusal, Table};
 use thes_base::pipe::Pipe;
 use thes_base::request::{Answer, Command};
-use thes_plans::plan::{PlanOutcome, PlanRequest};
+use thes_plans::plan::{PlanOutcome, PlanRequest, PlanRun};
+use thes_plans::report::ChangeReport;
 use thes_requests::handler::{QueryAnswer, RequestHandler};
 use thes_requests::page::Page;
 use thes_requests::request::Query;
@@ -58,9 +59,11 @@ fn answer_to(number: u32) -> Result<Answer, Fault> {
 impl RequestHandler for FixedAnswers {
     ghost requests = { record {
       performs = λ _ _ _ _. Unit {0};
+      reports = λ _ _ _ _ _. Unit {0};
       shows = λ _ _ _ _. Unit {0};
       takes_plans = λ _. false;
       performs_plan = λ _ _ _ _. Unit {0};
+      reports_plan = λ _ _ _ _ _ _. Unit {0};
     } };
 
     ghost is_open = { λ handler. not handler.is_closed };
@@ -83,6 +86,26 @@ impl RequestHandler for FixedAnswers {
 
     // Never called, since this handler takes no plans.
     fn perform_plan(&mut self, plan: Vec<PlanRequest>) -> Result<PlanOutcome, Fault> {
+        let _ = plan;
+        Err(Fault::OutOfMemory)
+    }
+
+    // Never called, since this handler takes no plans.
+    fn report<R: ChangeReport>(
+        &mut self,
+        _command: &Command,
+        _report: &mut R,
+    ) -> Result<Answer, Fault> {
+        Err(Fault::OutOfMemory)
+    }
+
+    // Never called, since this handler takes no plans.
+    fn report_plan<R: ChangeReport>(
+        &mut self,
+        _run: PlanRun,
+        plan: Vec<PlanRequest>,
+        _report: &mut R,
+    ) -> Result<PlanOutcome, Fault> {
         let _ = plan;
         Err(Fault::OutOfMemory)
     }

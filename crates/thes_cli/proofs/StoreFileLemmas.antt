@@ -1,13 +1,15 @@
 -- Proves that after work over a store in files, the files hold the store to which the work led.
 use Rattle.std.proofs.Common.{◌≡◌, ◌∙◌, ◌⊎◌, inl, inr, refl, sym, ap, subst, ℕ, List, Option, Some, None, false}
 use Rattle.std.specs.Prelude.{IfSome, IsSomeAnd, MatchOption, string_bytes}
+use Rattle.sqlite.specs.Effect.{Database}
 use Rattle.sqlite.specs.Held.{Held, state}
 use Rattle.sqlite.specs.Schema.{Schema}
+use Rattle.sqlite.specs.State.{State}
 use Rattle.sqlite_trees.specs.declared.store.Store.{Ghosts}
 use Rattle.sqlite_wal.specs.Recovery.{Image}
 use Rattle.thes_base.specs.declared.data.Limits.{Limits}
 use Rattle.thes_tables.specs.Cells.{Raw, cells_of_tables}
-use Rattle.thes_tables.specs.Tables.{Tables, empty_tables}
+use Rattle.thes_tables.specs.Tables.{Tables}
 use Rattle.thes_tables.proofs.CellLemmas.{listed_one}
 use Rattle.thes_sql.specs.StoredRows.{KeepsIn}
 use Rattle.thes_office.specs.Office.{TablesAfterRun}
@@ -18,10 +20,10 @@ use Rattle.thes_sqlite.specs.Reopening.{ReopeningView, FindsStill, IsKeeperStill
 use Rattle.thes_sqlite.specs.Reopening.{IsStillOpen, ReturnsFirst, rows_of_first, rows_still, storage_still}
 use Rattle.thes_sqlite.specs.Reopening.{view_of_connection}
 use Rattle.thes_sqlite.specs.declared.reopening.Leaving.{Leaving}
-use Rattle.thes_jobs.specs.Databases.{ClosesStore}
+use Rattle.thes_jobs.specs.Databases.{ClosesDatabase, HoldsTables, was_shut, was_up}
 use Rattle.thes_jobs.specs.declared.work.DatabaseWork.{DatabaseWork}
 use Rattle.thes_cli.specs.Stores.{ClosesLeft, EndsIfClosed, LeadsInFiles, LeavesInFiles}
-use Rattle.thes_cli.specs.Stores.{RunsIfOpened, WorksInDatabase, WorksToClosing}
+use Rattle.thes_cli.specs.Stores.{RunsIfOpened, WereShut, WorksInDatabase, WorksToClosing}
 use Rattle.thes_cli.specs.Work.{ReportsUnopened, WorksOpened, WorksOverKeeper}
 use Rattle.thes_cli.specs.declared.closing.Closed.{Closed}
 use Rattle.thes_cli.specs.declared.streams.Streams.{Streams}
@@ -141,45 +143,59 @@ module _ {S : Type 0} (g : Ghosts S) where
       holds_after = x.holds_after;
     }
 
-    module _ {O P L C : Type 0} (is_clean : C → Type 0) (holds : C → Schema → Tables → Type 0)
+    module _ {O P L C : Type 0} (is_clean : C → Type 0) (holds : C → Database → Type 0) (finds : C → State → Type 0)
         (image : Image) (job : DatabaseWork S O P F L) (old new : Streams R W E) (status : ℕ) (left : Leaving S)
         (works : WorksInDatabase given remaining out err g image job old status left new)
         (serves : ServesTables (IsInitialStore image job.setting.base) (state g job.conn)) where
-      closed_leaves : (conn : Option (Held S)) (files : Option C) → conn ≡ left.conn → left.is_reopened ≡ false
-          → MatchOption conn (files ≡ None) (λ conn. IsSomeAnd files (λ files.
-          is_clean files → ClosesStore (holds files) (state g conn)))
-          → IfSome files (λ files. is_clean files → (schema : Schema) (t : Tables)
-          → IsInitialStore image job.setting.base schema t
-          → LeavesInFiles g works.works.0 job.setting.limits t works.keeper (holds files schema))
-      closed_leaves None None is kept closes = tt
-      closed_leaves None (Some files) is kept closes = absurd (cc)
-      closed_leaves (Some conn) None is kept closes = tt
-      closed_leaves (Some conn) (Some files) is kept closes = λ clean schema t begins.
-          let closing = closes clean in
+      -- What the files of a connection hold after the work.
+      abbrev Leaves : C → Type 0
+      Leaves files = (schema : Schema) (t : Tables) → IsInitialStore image job.setting.base schema t
+          → LeavesInFiles g works.works.0 job.setting.limits t works.keeper (HoldsTables (holds files) schema)
+
+      conn_leaves : (conn : Held S) (files : C) → left.conn ≡ Some conn → left.is_reopened ≡ false
+          → ClosesDatabase (holds files) (finds files) (state g conn) → Leaves files ⊎ WereShut g finds files
+      conn_leaves conn files is kept (was_shut clean shut found) = inr (conn, shut, found)
+      conn_leaves conn files is kept (was_up up sound held) = inl (λ schema t begins.
           let end = returned_serves image job.setting.base works.keeper left.conn conn schema t (works.returns kept)
-          (sym is) closing.was_up begins in record {
+          is up begins in record {
             is_up = end.is_up;
             tables_after = end.tables;
             rows_after = end.rows;
             run = tables_lead job old new status works.keeper (IsInitialStore image job.setting.base) schema t
                 end.tables begins serves end.is_up end.rows works.works;
-            holds_after = closing.leaves end.same schema end.tables end.keeps;
-          }
+            holds_after = record {
+              database = (state g conn).committed;
+              sound = sound;
+              held = held;
+              keeps = subst (λ (d : Database). KeepsIn schema d end.tables) end.same end.keeps;
+            };
+          })
+
+      closed_leaves : (conn : Option (Held S)) (files : Option C) → conn ≡ left.conn → left.is_reopened ≡ false
+          → MatchOption conn (files ≡ None) (λ conn. IsSomeAnd files (λ files.
+          is_clean files → ClosesDatabase (holds files) (finds files) (state g conn)))
+          → IfSome files (λ files. is_clean files → Leaves files ⊎ WereShut g finds files)
+      closed_leaves None None is kept closes = tt
+      closed_leaves None (Some files) is kept closes = absurd (cc)
+      closed_leaves (Some conn) None is kept closes = tt
+      closed_leaves (Some conn) (Some files) is kept closes =
+          λ clean. conn_leaves conn files (sym is) kept (closes clean)
 
       -- After work over a store in files, closing its database leaves the store after the work in the files.
-      pub works_to_closing : (closed : Closed C) → ClosesLeft g is_clean holds left None closed
-          → WorksToClosing given remaining out err g image is_clean holds job old status closed new
+      pub works_to_closing : (closed : Closed C) → ClosesLeft g is_clean holds finds left None closed
+          → WorksToClosing given remaining out err g image is_clean holds finds job old status closed new
       works_to_closing closed closes = record {
         leaving = left;
         works = works;
         closes = closes;
         certain = λ kept. closes.is_in_doubt ∙ works.certain (sym closes.is_reopened ∙ kept);
         leaves = leaves;
-        leads = λ kept. if_some_weaker closed.files _ _ (λ files leaves clean schema t begins.
-            to_leads job old new status works.keeper t (holds files schema) works.works.0
-            (leaves clean schema t begins)) (leaves kept);
+        leads = λ kept. if_some_weaker closed.files _ _ (λ files ends clean. elim (ends clean) [
+          | inl leaves ↦ inl (λ schema t begins. to_leads job old new status works.keeper t
+              (HoldsTables (holds files) schema) works.works.0 (leaves schema t begins))
+          | inr shut ↦ inr shut
+        ]) (leaves kept);
       }
         where
-          leaves : EndsIfClosed image job.setting.base is_clean closed (λ files schema t.
-              LeavesInFiles g works.works.0 job.setting.limits t works.keeper (holds files schema))
+          leaves : EndsIfClosed g is_clean finds closed Leaves
           leaves kept = closed_leaves left.conn closed.files refl (sym closes.is_reopened ∙ kept) closes.files

@@ -20,6 +20,7 @@ use Rattle.thes_import.specs.declared.import.ImportEnd.TheVariants as ended
 use Rattle.thes_import.specs.declared.import.ImportStop.{ImportStop}
 use Rattle.thes_service.proofs.ScriptRunLemmas.{led_kept, led_same, led_start}
 use Rattle.thes_service.specs.OfficeRequests.{IsReachedByRun}
+use Rattle.thes_http.specs.ConnectionCounts.{ConnectionCounts}
 use Rattle.thes_jobs.specs.declared.work.OutputWork.{OutputWork}
 use Rattle.thes_jobs.specs.declared.work.OutputWork.TheVariants.{Check, Export, Display, Import, Serve}
 use Rattle.thes_jobs.specs.declared.work.Work.{Work}
@@ -75,7 +76,7 @@ module _ {K : Type 0} (view : K → StorageView) where
     ]
 
   module _ {F W E : Type 0} (given : F → Option (List ℕ)) (out : W → Option (List ℕ)) (err : E → Option (List ℕ)) where
-    output_leads : {L : Type 0} (connections : ℕ) (work : OutputWork F L) (old new : OfficeView K)
+    output_leads : {L : Type 0} (connections : ConnectionCounts) (work : OutputWork F L) (old new : OfficeView K)
         (output output' : Pipe W) (errors errors' : Pipe E) (status : ℕ)
         → DoesOutputWork view given out err connections work old output output' errors errors' status new
         → IsReachedByRun view old old → IsReachedByRun view old new

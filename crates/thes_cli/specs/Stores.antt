@@ -1,8 +1,10 @@
 -- Work over a store in a database, and over a new store in memory.
 use mathlib.Core.Logic.{inl, inr}
 use Rattle.std.specs.Prelude.{◌≡◌, ◌⊎◌, ℕ, List, Option, None, Some, false, IfSome, IsTrue, string_bytes}
-use Rattle.sqlite.specs.Held.{Held}
+use Rattle.sqlite.specs.Effect.{Database}
+use Rattle.sqlite.specs.Held.{Held, state}
 use Rattle.sqlite.specs.Schema.{Schema}
+use Rattle.sqlite.specs.State.{State}
 use Rattle.sqlite_trees.specs.declared.store.Store.{Ghosts}
 use Rattle.sqlite_wal.specs.Recovery.{Image}
 use Rattle.thes_base.specs.State.{empty_state}
@@ -26,7 +28,7 @@ use Rattle.thes_office.specs.Office.{TablesAfterRun}
 use Rattle.thes_office.specs.TablesOfState.{TablesOfState}
 use Rattle.thes_command_line.specs.Printing.{Prints, fault_line, fault_lines}
 use Rattle.thes_command_line.specs.declared.trouble.StoreTrouble.TheVariants.{Unreadable}
-use Rattle.thes_jobs.specs.Databases.{ClosesIfOpen}
+use Rattle.thes_jobs.specs.Databases.{ClosesIfOpen, HoldsTables}
 use Rattle.thes_jobs.specs.Trouble.{trouble_of}
 use Rattle.thes_jobs.specs.declared.work.DatabaseWork.{DatabaseWork}
 use Rattle.thes_jobs.specs.declared.work.MemoryWork.{MemoryWork}
@@ -66,13 +68,16 @@ pub record LeadsInFiles {E : Type 0} (err : E → Option (List ℕ)) (old new : 
   pub run : RunLeads limits t tables_after ⊎ (PrintsUnopened err old new status × (tables_after ≡ t))
   pub holds_after : holds tables_after
 
--- If no failure has shut the database, and its files are clean now, `Ends` is true of the files and of the store with
--- which the work began: the one that the files held, or, in new files, an empty one with this base.
-abbrev pub EndsIfClosed : {C : Type 0} → Image → List ℕ → (C → Type 0) → Closed C → (C → Schema → Tables → Type 0)
+-- A failure had shut the database of this connection by the time it was to be closed, and what may be found in its
+-- files is what could be found of it then.
+abbrev pub WereShut : {S C : Type 0} → Ghosts S → (C → State → Type 0) → C → Type 0
+WereShut {S} g finds files = (conn : Held S) × ((state g conn).is_open ≡ false) × finds files (state g conn)
+
+-- If no failure has shut the database, and its files are clean now, `Ends` is true of them, also if closing failed.
+abbrev pub EndsIfClosed : {S C : Type 0} → Ghosts S → (C → Type 0) → (C → State → Type 0) → Closed C → (C → Type 0)
     → Type 0
-EndsIfClosed image base is_clean closed Ends =
-    closed.is_reopened ≡ false → IfSome closed.files (λ files. is_clean files → (schema : Schema) (t : Tables)
-    → IsInitialStore image base schema t → Ends files schema t)
+EndsIfClosed g is_clean finds closed Ends = closed.is_reopened ≡ false
+    → IfSome closed.files (λ files. is_clean files → Ends files ⊎ WereShut g finds files)
 
 -- The connection that a job leaves, if there is one, when no failure has shut its database.
 abbrev pub open_leaving : {S : Type 0} → Option (Held S) → Leaving S
@@ -80,11 +85,11 @@ open_leaving conn = record { conn = conn; is_in_doubt = false; is_reopened = fal
 
 module _ {S : Type 0} (store : Ghosts S) where
   -- The database was closed, if there is one. `rest` is what a failed opening has left of the files.
-  pub record ClosesLeft {C : Type 0} (is_clean : C → Type 0) (holds : C → Schema → Tables → Type 0)
-      (left : Leaving S) (rest : Option C) (closed : Closed C) : Type 0 where
+  pub record ClosesLeft {C : Type 0} (is_clean : C → Type 0) (holds : C → Database → Type 0)
+      (finds : C → State → Type 0) (left : Leaving S) (rest : Option C) (closed : Closed C) : Type 0 where
     pub is_reopened : closed.is_reopened ≡ left.is_reopened
     pub is_in_doubt : closed.is_in_doubt ≡ left.is_in_doubt
-    pub files : ClosesIfOpen store is_clean holds left.conn closed.files
+    pub files : ClosesIfOpen store is_clean holds finds left.conn closed.files
     pub rest_is : closed.rest ≡ rest
 
   -- The storage was up to the end of the work, so that all promises of the work hold, and the files hold the tables
@@ -137,17 +142,19 @@ module _ {F R W E : Type 0} (given : F → Option (List ℕ)) (remaining : R →
       -- A request is in doubt exactly if the storage has one in doubt at the end.
       pub doubt : left.is_in_doubt ≡ keeper.is_in_doubt
 
-    -- The work was done on the tables of the database, and the database was closed. If no failure has shut it, and the
-    -- closed files are clean, they hold the store after the work, and so after a run of the machine.
+    -- The work was done on the tables of the database, and the database was closed. If no failure has shut it, and its
+    -- files are clean, they hold the store after the work, and so after a run of the machine.
     pub record WorksToClosing {O P L C : Type 0} (image : Image) (is_clean : C → Type 0)
-        (holds : C → Schema → Tables → Type 0) (job : DatabaseWork S O P F L) (old : Streams R W E) (status : ℕ)
-        (closed : Closed C) (new : Streams R W E) : Type 0 where
+        (holds : C → Database → Type 0) (finds : C → State → Type 0) (job : DatabaseWork S O P F L)
+        (old : Streams R W E) (status : ℕ) (closed : Closed C) (new : Streams R W E) : Type 0 where
       pub leaving : Leaving S
       pub works : WorksInDatabase image job old status leaving new
-      pub closes : ClosesLeft store is_clean holds leaving None closed
+      pub closes : ClosesLeft store is_clean holds finds leaving None closed
       -- A request is in doubt only if a failure has shut the database.
       pub certain : closed.is_reopened ≡ false → closed.is_in_doubt ≡ false
-      pub leaves : EndsIfClosed image job.setting.base is_clean closed (λ files schema t.
-          LeavesInFiles store works.works.0 job.setting.limits t works.keeper (holds files schema))
-      pub leads : EndsIfClosed image job.setting.base is_clean closed (λ files schema t.
-          LeadsInFiles err old.errors new.errors status t (holds files schema))
+      pub leaves : EndsIfClosed store is_clean finds closed (λ files. (schema : Schema) (t : Tables)
+          → IsInitialStore image job.setting.base schema t
+          → LeavesInFiles store works.works.0 job.setting.limits t works.keeper (HoldsTables (holds files) schema))
+      pub leads : EndsIfClosed store is_clean finds closed (λ files. (schema : Schema) (t : Tables)
+          → IsInitialStore image job.setting.base schema t
+          → LeadsInFiles err old.errors new.errors status t (HoldsTables (holds files) schema))

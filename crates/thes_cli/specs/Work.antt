@@ -10,6 +10,7 @@ use Rattle.thes_store.specs.Storage.{StorageView}
 use Rattle.thes_office.specs.FoundStates.{FindsLegalState, IsFaultOfFound}
 use Rattle.thes_office.specs.Office.{OfficeView}
 use Rattle.thes_office.specs.Opening.{IsOpened, IsUnopened}
+use Rattle.thes_http.specs.ConnectionCounts.{ConnectionCounts}
 use Rattle.thes_cli.specs.Checking.{ChecksStore}
 use Rattle.thes_cli.specs.Displaying.{DisplaysStore}
 use Rattle.thes_command_line.specs.Printing.{Prints, fault_lines}
@@ -26,9 +27,10 @@ use Rattle.thes_jobs.specs.declared.work.Work.{Work}
 use Rattle.thes_jobs.specs.declared.work.Work.TheVariants.{Script, Output}
 
 module _ {K F W E : Type 0} (view : K → StorageView)
-    (given : F → Option (List ℕ)) (out : W → Option (List ℕ)) (err : E → Option (List ℕ)) (connections : ℕ) where
-  -- The effect over an open store of work that doesn't read standard input, by its command; `connections` is the number
-  -- of connections that were served.
+    (given : F → Option (List ℕ)) (out : W → Option (List ℕ)) (err : E → Option (List ℕ))
+    (connections : ConnectionCounts) where
+  -- The effect over an open store of work that doesn't read standard input, by its command; `connections` counts the
+  -- connections that were served.
   abbrev pub DoesOutputWork : {L : Type 0} → OutputWork F L → OfficeView K → Pipe W → Pipe W → Pipe E → Pipe E → ℕ
       → OfficeView K → Type 0
   DoesOutputWork Check old_office output output' errors errors' status new_office =

@@ -26,7 +26,7 @@ pub fn close_left<D: Databases>(
     left: Leaving<D::Engine>,
     rest: Option<D::Left>,
 ) -> Closed<D::Left>
-    ensures { ClosesLeft D.Engine.Store D.is_clean D.holds left rest result }
+    ensures { ClosesLeft D.Engine.Store D.is_clean D.holds D.finds left rest result }
 {
     let Leaving {
         conn,
@@ -49,7 +49,7 @@ pub fn close_open<D: Databases>(
     conn: Option<Connection<D::Engine>>,
     rest: Option<D::Left>,
 ) -> Closed<D::Left>
-    ensures { ClosesLeft D.Engine.Store D.is_clean D.holds (open_leaving conn) rest result }
+    ensures { ClosesLeft D.Engine.Store D.is_clean D.holds D.finds (open_leaving conn) rest result }
 {
     let left = Leaving {
         conn,

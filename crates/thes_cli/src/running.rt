@@ -1,7 +1,7 @@
 //! The run of a job, from opening its store to closing it.
 ghost use Rattle.std.specs.Prelude.{◌≡◌, false};
 ghost use Rattle.sqlite_wal.specs.Files.{image_at};
-ghost use Rattle.thes_jobs.specs.Databases.{AreCleanFiles, HoldTables, KeepsImage};
+ghost use Rattle.thes_jobs.specs.Databases.{AreCleanFiles, FindsLeft, HoldDatabase, KeepsImage};
 ghost use Rattle.thes_jobs.specs.declared.store_files.StoreFiles.{StoreFiles};
 ghost use Rattle.thes_cli.specs.Running.{LeadsIfClosed, LeavesNoFiles, MigratesInFile, ReportsNoJob, RunsPlan};
 ghost use Rattle.thes_cli.specs.Stores.{ClosesLeft, open_leaving};
@@ -34,7 +34,7 @@ fn migrate<T: Devices, D: Databases>(
     requires idle { conn.in_transaction ≡ false }
     requires streams { AreFresh given.old.streams }
     ensures { MigratesInFile T.Output.contents T.Errors.contents D.Engine.Store given.old.streams
-        result.0 given.new.streams D.is_clean D.holds file conn result.1 }
+        result.0 given.new.streams D.is_clean D.holds D.finds file conn result.1 }
 {
     let (output, errors) = (&mut given.streams.output, &mut given.streams.errors);
     let (status, conn) = migrate_in_database(given.alloc, file.as_str(), conn, output, errors);
@@ -51,8 +51,8 @@ fn report_no_job<T: Devices, D: Databases>(
     requires { AreFresh given.old.streams }
     ensures reports { ReportsNoJob T.Output.contents T.Errors.contents D.Engine.Store
         given.old.streams result.0 given.new.streams failed.failure }
-    ensures closes { ClosesLeft D.Engine.Store D.is_clean D.holds (open_leaving failed.conn)
-        failed.rest result.1 }
+    ensures closes { ClosesLeft D.Engine.Store D.is_clean D.holds D.finds
+        (open_leaving failed.conn) failed.rest result.1 }
 {
     let FailedStart {
         failure,
@@ -86,10 +86,10 @@ fn run_job<'r, C: Console, D: Databases>(
 ) -> (u8, Closed<D::Left>)
     requires { AreFresh given.old.streams }
     ensures runs { RunsPlan ⟦<File as Read>⟧.remaining C.Input.remaining C.Output.contents
-        C.Errors.contents D.Engine.Store D.Opener.image D.is_clean D.holds D.keeps D.Opener planned
-        given.old.streams result.0 result.1 given.new.streams }
-    ensures leads { LeadsIfClosed C.Errors.contents D.Opener.image D.is_clean D.holds planned
-        given.old.streams.errors given.new.streams.errors result.0 result.1 }
+        C.Errors.contents D.Engine.Store D.Opener.image D.is_clean D.holds D.finds D.keeps D.Opener
+        planned given.old.streams result.0 result.1 given.new.streams }
+    ensures leads { LeadsIfClosed C.Errors.contents D.Engine.Store D.Opener.image D.is_clean D.holds
+        D.finds planned given.old.streams.errors given.new.streams.errors result.0 result.1 }
 {
     match open_job(given.system, databases, image, planned) {
         Ok(OpenJob::InFile(job)) => work_in_database(given, databases, job),
@@ -108,7 +108,8 @@ fn run_job<'r, C: Console, D: Databases>(
 ///
 /// If the disk has returned what was written, and no failure has shut the database, then even after
 /// a crash the files hold the store to which the requests lead from the one that they held before,
-/// or from an empty one if they were new. Files whose database can't be opened hold what they held
+/// or from an empty one if they were new, also if closing failed. `migrate` leaves a store of
+/// version 1 migrated, or as it was. Files whose database can't be opened hold what they held
 /// before.
 pub fn run_in_files<'r, C: Console, S: Start + ReopenedImage>(
     given: &mut Given<'r, SystemDevices<'r, C>>,
@@ -118,11 +119,12 @@ pub fn run_in_files<'r, C: Console, S: Start + ReopenedImage>(
     requires { AreFresh given.old.streams }
     ensures runs { RunsPlan ⟦<File as Read>⟧.remaining C.Input.remaining C.Output.contents
         C.Errors.contents ⟦<FileStore<FileFrom<S>> as Store>⟧ (image_at S.Start)
-        (AreCleanFiles ⟦<FileFrom<S> as Disk>⟧) (HoldTables ⟦<FileFrom<S> as Disk>⟧)
-        (KeepsImage ⟦<FileFrom<S> as Disk>⟧ (image_at S.Start)) (StoreFiles S) planned
-        given.old.streams result.0 result.1 given.new.streams }
-    ensures leads { LeadsIfClosed C.Errors.contents (image_at S.Start)
-        (AreCleanFiles ⟦<FileFrom<S> as Disk>⟧) (HoldTables ⟦<FileFrom<S> as Disk>⟧) planned
+        (AreCleanFiles ⟦<FileFrom<S> as Disk>⟧) (HoldDatabase ⟦<FileFrom<S> as Disk>⟧)
+        (FindsLeft ⟦<FileFrom<S> as Disk>⟧) (KeepsImage ⟦<FileFrom<S> as Disk>⟧ (image_at S.Start))
+        (StoreFiles S) planned given.old.streams result.0 result.1 given.new.streams }
+    ensures leads { LeadsIfClosed C.Errors.contents ⟦<FileStore<FileFrom<S>> as Store>⟧
+        (image_at S.Start) (AreCleanFiles ⟦<FileFrom<S> as Disk>⟧)
+        (HoldDatabase ⟦<FileFrom<S> as Disk>⟧) (FindsLeft ⟦<FileFrom<S> as Disk>⟧) planned
         given.old.streams.errors given.new.streams.errors result.0 result.1 }
 {
     let databases = FileDatabases::<S>::new(given.system);

@@ -12,7 +12,7 @@ use std::net::Net;
 use thes_base::fault::{Fault, PipeFault};
 use thes_base::pipe::Pipe;
 use thes_command_line::printing::{print, report_fault, report_net_fault};
-use thes_http::connection_count::ConnectionCount;
+use thes_http::server::ServerEnd;
 use thes_jobs::work::Listening;
 use thes_office::Office;
 use thes_requests::short_line::ShortLine;
@@ -42,24 +42,16 @@ fn report_unserved<E: Write>(errors: &mut Pipe<E>, error: &io::Error) -> u8
     }
 }
 
-// Records the number of connections served, and returns the exit status 0; or, if a connection
-// couldn't be accepted or memory ran out, prints the fault and returns 3.
-fn report_served<E: Write>(
-    errors: &mut Pipe<E>,
-    connections: &mut ConnectionCount,
-    ended: io::Result<ConnectionCount>,
-) -> u8
+// Returns the exit status of a server: 0; or, if a connection couldn't be accepted or memory ran
+// out, prints the fault and returns 3.
+fn report_served<E: Write>(errors: &mut Pipe<E>, ended: io::Result<()>) -> u8
     requires { IsFresh errors.old }
-    ensures ok { IfOk ended
-        (λ served. EndsWell served errors.old errors.new connections.new result) }
+    ensures ok { IfOk ended (λ _. EndsWell errors.old errors.new result) }
     ensures err { IfErr ended
         (λ error. EndsUnserved E.contents error errors.old errors.new result) }
 {
     match ended {
-        Ok(served) => {
-            *connections = served;
-            0
-        }
+        Ok(()) => 0,
         Err(error) => report_unserved(errors, &error),
     }
 }
@@ -85,8 +77,15 @@ pub fn serve_store<T: Devices, K: Keeper, M: PlanMode + Copy>(
         let mut handler = OfficeHandler::new(office, mode);
         let (listener, count) = (&listening.listener, listening.count);
         let (alloc, system) = (given.alloc, given.system);
-        let ended = office_serve(alloc, system, listener, count, &mut handler);
-        let status = report_served(&mut streams.errors, &mut streams.connections, ended);
+        let ServerEnd { connections, ended } = office_serve(
+            alloc,
+            system,
+            listener,
+            count,
+            &mut handler,
+        );
+        streams.connections = connections;
+        let status = report_served(&mut streams.errors, ended);
         (status, handler.into_office())
     } else {
         (report_fault(&mut streams.errors, PipeFault::Write), office)

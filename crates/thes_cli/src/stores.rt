@@ -15,7 +15,8 @@ use thes_store::mem::MemKeeper;
 
 /// Does the work of a job over the store in a database, and closes the database. Returns the exit
 /// status with what is left of its files. If the disk has returned what was written, and no failure
-/// has shut the database, the files hold the store after the work. The fault of a store that can't
+/// has shut the database, the files hold the store after the work, also if closing failed. The
+/// fault of a store that can't
 /// be opened is printed after the name of its file.
 pub fn work_in_database<T: Devices, D: Databases>(
     given: &mut Given<'_, T>,
@@ -31,8 +32,8 @@ pub fn work_in_database<T: Devices, D: Databases>(
     requires ready { IsReadyConnection D.Engine.Store D.Opener.image job.setting.base job.conn }
     requires streams { AreFresh given.old.streams }
     ensures { WorksToClosing T.PostingFile.remaining T.Input.remaining T.Output.contents
-        T.Errors.contents D.Engine.Store D.Opener.image D.is_clean D.holds job given.old.streams
-        result.0 result.1 given.new.streams }
+        T.Errors.contents D.Engine.Store D.Opener.image D.is_clean D.holds D.finds job
+        given.old.streams result.0 result.1 given.new.streams }
 {
     let DatabaseWork {
         work,
@@ -63,7 +64,11 @@ pub fn work_in_memory<T: Devices>(
         setting,
         progress: _,
     } = job;
-    let StoreSetting { base, limits } = setting;
+    let StoreSetting {
+        base,
+        limits,
+        must_exist: _,
+    } = setting;
     // No effect; for the proof, states that the base has its form.
     let _ = base.as_str();
     let keeper = MemKeeper::new(given.alloc, base);

@@ -13,7 +13,7 @@ use Rattle.thes_base.specs.ReadResults.{IsReadResult}
 use Rattle.thes_base.specs.declared.fault.FormFault.TheVariants.{BadIri}
 use Rattle.thes_base.specs.declared.fault.ReadStop.{ReadStop}
 use Rattle.thes_command_line.specs.Commands.{program}
-use Rattle.thes_command_line.specs.CommandLine.{base_in, ExitsFor, PlanResult, MatchedPlanResult, RefusesArguments}
+use Rattle.thes_command_line.specs.CommandLine.{base_in, ExitsFor, PlanResult, MatchedPlanResult, ReadsJob, RefusesArguments}
 use Rattle.thes_command_line.specs.EarlyExit.{exit_of_stop}
 use Rattle.thes_command_line.specs.declared.arguments.Job.{Job}
 use Rattle.thes_command_line.specs.declared.early_exit.EarlyExit.{EarlyExit}
@@ -34,5 +34,5 @@ plan_found arguments m result found none by = grind (arith, common_steps)
 -- A base that lacks its form leads to the early exit for its form fault.
 pub exit_of_unread : (options : List Row) (command : Option (Text × List Row)) (stop : ReadStop)
     → IsReadResult {T = List ℕ} (IsBase (base_in options)) BadIri (λ t. Unit {0}) (Err stop)
-    → MatchedPlanResult options command (Err (exit_of_stop stop))
+    → ReadsJob options command (Err (exit_of_stop stop))
 exit_of_unread options command stop reports = grind (arith, common_steps)

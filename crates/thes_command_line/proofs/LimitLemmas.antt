@@ -45,13 +45,17 @@ has_limits arguments none =
     let rows = matches_of program arguments in
     let fit = finished_fit LimitNumbers top names given
     (and_rest ((refl, λ v e same. absurd (true≢false (sym same))), refl)
+    (and_rest (
+      (refl, codes "true", refl, λ same. absurd (true≢false (sym same))),
+      (codes "false", [], refl, λ same. absurd (true≢false (sym same))),
+    )
     (and_rest ((refl, λ v e same. absurd (true≢false (sym same))), refl)
     (and_rest ((refl, λ v e same. (refl, accepts-Accepts false (Unsigned 1 4294967295) v e)), refl)
     (and_rest ((refl, λ v e same. (refl, accepts-Accepts false (Unsigned 1 4294967295) v e)), refl)
     (and_rest ((refl, λ v e same. (refl, accepts-Accepts false (Unsigned 1 4294967295) v e)), refl)
     (and_rest ((refl, λ v e same. (refl, accepts-Accepts false (Unsigned 1 4294967295) v e)), refl)
     (and_rest ((refl, λ v e same. (refl, accepts-Accepts false (Unsigned 1 4294967295) v e)), refl)
-    (and_rest (tt, refl) (and_rest (tt, refl) tt)))))))))
+    (and_rest (tt, refl) (and_rest (tt, refl) tt))))))))))
     level.0 held.0 in
     record {
       resources = limit_found (codes "max-resources") rows refl

@@ -1,6 +1,7 @@
 -- The job that the arguments of the command line describe.
 use Rattle.std.specs.Prelude.{◌≡◌, ◌≢◌, ◌⊎◌, ◌≤◌, ℕ, List, [], Option, Some, IsSome, IfSome, IsSomeAnd, option_map}
-use Rattle.std.specs.Prelude.{unwrap_or, Result, Ok, Err, Bool, true, false, codes, string_bytes}
+use Rattle.std.specs.Prelude.{◌&&◌, not, is_some, unwrap_or, IsErrAnd, Result, Ok, Err, Bool, true, false}
+use Rattle.std.specs.Prelude.{codes, string_bytes}
 use Rattle.std.specs.Option.{option_map_or}
 use Rattle.std.specs.Str.{bytes_eq}
 use Rattle.std.specs.Str.Parse.{digits_value, without_leading_plus}
@@ -13,6 +14,7 @@ use Rattle.thes_base.specs.Forms.{IsBase, IsNumber, IsNumeral, IsTag, stored_tex
 use Rattle.thes_base.specs.declared.fault.FormFault.{FormFault}
 use Rattle.thes_base.specs.declared.fault.FormFault.TheVariants.{BadIri, BadNumber, BadTag}
 use Rattle.thes_command_line.specs.Commands.{program}
+use Rattle.thes_command_line.specs.EarlyExit.{IsUsageError}
 use Rattle.thes_command_line.specs.declared.early_exit.EarlyExit.{EarlyExit}
 use Rattle.thes_command_line.specs.declared.early_exit.EarlyExit.TheVariants.{Help, Usage, NotText, BadForm, OutOfMemory}
 use Rattle.thes_command_line.specs.declared.arguments.Job.{Job}
@@ -119,14 +121,6 @@ ReadsDisplayOptions arguments (Err NotText) = ⊥
 abbrev pub NamesDisplay : Text → Type 0
 NamesDisplay name = (name ≡ codes "alphabetical") ⊎ (name ≡ codes "hierarchical")
 
--- Whether a task only reads the store: a check, an export and the displays do.
-abbrev pub only_reads : Task → Bool
-only_reads Check = true
-only_reads Export = true
-only_reads (Alphabetical options) = true
-only_reads (Hierarchical options) = true
-only_reads _ = false
-
 -- Whether a task imports a posting file.
 abbrev pub is_import : Task → Bool
 is_import (Import file) = true
@@ -142,7 +136,7 @@ PlansTask name arguments (Err (Usage text)) = ⊥
 PlansTask name arguments (Err NotText) = ⊥
 
 -- The command and its arguments determine the task, and the options before the command determine
--- the store: its file, base and limits.
+-- the store: its file, base and limits, and whether it must exist.
 pub record IsJob (options : List Row) (command : Option (Text × List Row)) (job : Job) : Type 0 where
   pub arguments : List Row
   pub command_is : command ≡ Some (command_of job.task, arguments)
@@ -150,6 +144,7 @@ pub record IsJob (options : List Row) (command : Option (Text × List Row)) (job
   pub file : option_map string_bytes job.file ≡ first_of (codes "db") options
   pub base : job.setting.base ≡ base_in options
   pub limits : job.setting.limits ≡ limits_in options
+  pub must_exist : job.setting.must_exist ≡ is_set (codes "existing") options
 
 -- The fault is that of the base, or, if the base has its form, that of a display's option.
 abbrev pub HasFault : List Row → Option (Text × List Row) → FormFault → Type 0
@@ -157,14 +152,25 @@ HasFault options command fault =
     ((fault ≡ BadIri) × ¬ IsBase (base_in options))
     ⊎ (IsBase (base_in options) × IsSomeAnd command (λ c. NamesDisplay c.0 × LacksForm c.1 fault))
 
--- The result if `clap` finds no fault: the job, the first form fault, or running out of memory.
+-- The job that the options and the command describe, the first form fault, or running out of memory.
+abbrev pub ReadsJob : List Row → Option (Text × List Row) → Result Job EarlyExit → Type 0
+ReadsJob options command (Ok job) = IsJob options command job
+ReadsJob options command (Err (BadForm fault)) = HasFault options command fault
+ReadsJob options command (Err OutOfMemory) = Unit {0}
+ReadsJob options command (Err (Help text)) = ⊥
+ReadsJob options command (Err (Usage text)) = ⊥
+ReadsJob options command (Err NotText) = ⊥
+
+-- Whether a store must exist that isn't in a file.
+abbrev pub lacks_file : List Row → Bool
+lacks_file options = is_set (codes "existing") options && not (is_some (first_of (codes "db") options))
+
+-- The result if `clap` finds no fault: a usage error if a store must exist that isn't in a file; otherwise the job or
+-- the first form fault.
 abbrev pub MatchedPlanResult : List Row → Option (Text × List Row) → Result Job EarlyExit → Type 0
-MatchedPlanResult options command (Ok job) = IsJob options command job
-MatchedPlanResult options command (Err (BadForm fault)) = HasFault options command fault
-MatchedPlanResult options command (Err OutOfMemory) = Unit {0}
-MatchedPlanResult options command (Err (Help text)) = ⊥
-MatchedPlanResult options command (Err (Usage text)) = ⊥
-MatchedPlanResult options command (Err NotText) = ⊥
+MatchedPlanResult options command result =
+    ((lacks_file options ≡ true) × IsErrAnd result IsUsageError)
+    ⊎ ((lacks_file options ≡ false) × ReadsJob options command result)
 
 -- The early exit for a kind of error from `clap`: help, version, usage error, or running out of memory.
 abbrev pub ExitsFor : ErrorKind → EarlyExit → Type 0

@@ -55,7 +55,8 @@ serve =
 abbrev pub limit : Text → Rule
 limit name = number_option name 4294967295
 
--- The program without its limits and commands: the options `--db` and `--base`, a version, and a required command.
+-- The program without its other options and its commands: the options `--db` and `--existing`, a version, and a
+-- required command.
 abbrev pub file_options : App
 file_options =
     with_rule
@@ -63,7 +64,7 @@ file_options =
     (on_top (λ s. record s { disable_help_subcommand = true; subcommand_required = true; has_version = true })
     (new_app (codes "thesaurus")))
     (option (codes "db")))
-    (option (codes "base"))
+    (flag (codes "existing"))
 
 -- The program with all its options, without its commands.
 abbrev pub program_options : App
@@ -72,7 +73,9 @@ program_options =
     (with_rule
     (with_rule
     (with_rule
+    (with_rule
     (with_rule file_options
+    (option (codes "base")))
     (limit (codes "max-resources")))
     (limit (codes "max-labels")))
     (limit (codes "max-links")))

@@ -20,6 +20,12 @@ exit_status NotText = 2
 exit_status (BadForm fault) = 2
 exit_status OutOfMemory = 3
 
+-- The early exit is a usage error, or running out of memory.
+abbrev pub IsUsageError : EarlyExit → Type 0
+IsUsageError (Usage text) = Unit {0}
+IsUsageError OutOfMemory = Unit {0}
+IsUsageError _ = ⊥
+
 -- The early exit for an error of reading the arguments.
 abbrev pub exit_of_error : ErrorKind → EarlyExit
 exit_of_error kinds.OutOfMemory = OutOfMemory

@@ -3,10 +3,10 @@ ghost use Rattle.std.specs.Prelude.{◌≡◌, ◌↔◌, IsTrue, codes, map, op
 ghost use Rattle.std.specs.Vec.Iter.{into_iter_items};
 ghost use Rattle.clap.specs.Words.{first_of, found_of, rows_of, subcommand_rows_of};
 ghost use Rattle.thes_command_line.specs.CommandLine as tasks;
-ghost use Rattle.thes_command_line.specs.CommandLine.{base_in, command_of, NamesDisplay, IsCompleteCommand, HasCommand, HasLimit, HasLimits, HasOptions, HasPort, IsServeOptions, is_set, limits_in, number_of_option, PlanResult, MatchedPlanResult, PlansTask, ReadsDisplayOptions};
+ghost use Rattle.thes_command_line.specs.CommandLine.{base_in, command_of, NamesDisplay, IsCompleteCommand, HasCommand, HasLimit, HasLimits, HasOptions, HasPort, IsServeOptions, is_set, limits_in, number_of_option, PlanResult, MatchedPlanResult, PlansTask, ReadsDisplayOptions, ReadsJob, lacks_file};
 
 use crate::commands::program;
-use crate::early_exit::{EarlyExit, early_exit_of};
+use crate::early_exit::{EarlyExit, early_exit_of, exit_without_file};
 use clap::ArgMatches;
 use std::alloc::{AllocError, Global};
 use std::env::Args;
@@ -74,16 +74,6 @@ pub fn is_display(task: &Task) -> bool
     matches!(task, Task::Alphabetical(_) | Task::Hierarchical(_))
 }
 
-/// Returns whether a task only reads the store, and so makes none.
-pub fn only_reads(task: &Task) -> bool
-    ensures { result ≡ tasks.only_reads task.now }
-{
-    match task {
-        Task::Check | Task::Export | Task::Alphabetical(_) | Task::Hierarchical(_) => true,
-        Task::Script(_) | Task::Import(_) | Task::Serve(_) | Task::Migrate => false,
-    }
-}
-
 /// Returns whether a task imports a posting file: the rows done are reported for an import alone.
 pub fn is_import(task: &Task) -> bool
     ensures { result ≡ tasks.is_import task.now }
@@ -91,13 +81,15 @@ pub fn is_import(task: &Task) -> bool
     matches!(task, Task::Import(_))
 }
 
-/// The base and the limits of a store, from the options of the command line.
+/// What the options of the command line say of a store.
 #[derive(Debug, Drop)]
 pub struct StoreSetting {
     /// The base of the IRIs of a new store.
     pub base: Base,
     /// The limits above which requests are refused.
     pub limits: Limits,
+    /// Whether the store must exist: then none is made.
+    pub must_exist: bool,
 }
 
 /// A job: a task, and the store on which it works.
@@ -183,7 +175,7 @@ fn display_options(alloc: Global, arguments: &ArgMatches<'_>) -> Result<DisplayO
     }
 }
 
-// Returns whether a flag of a command, such as `--plans`, is given.
+// Returns whether a flag, such as `--plans`, is given.
 #[tactic(auto, using(crate::proofs::ReadingLemmas::values_read))]
 fn is_set(arguments: &ArgMatches<'_>, name: &str) -> bool
     ensures { result ≡ is_set name.now (rows_of (found_of arguments.now)) }
@@ -238,8 +230,7 @@ fn task_of(alloc: Global, name: &str, arguments: &ArgMatches<'_>) -> Result<Task
 fn job_of(alloc: Global, options: &ArgMatches<'_>) -> Result<Job, EarlyExit>
     requires command { HasCommand (subcommand_rows_of options.now) }
     requires limits { HasLimits (rows_of (found_of options.now)) }
-    ensures { MatchedPlanResult (rows_of (found_of options.now)) (subcommand_rows_of options.now)
-        result }
+    ensures { ReadsJob (rows_of (found_of options.now)) (subcommand_rows_of options.now) result }
 {
     let base = match Base::read(alloc, base_argument(options)) {
         Ok(base) => base,
@@ -248,7 +239,11 @@ fn job_of(alloc: Global, options: &ArgMatches<'_>) -> Result<Job, EarlyExit>
     let (name, arguments) = options.subcommand().unwrap();
     let task = task_of(alloc, name, arguments)?;
     let limits = limits_argument(options);
-    let setting = StoreSetting { base, limits };
+    let setting = StoreSetting {
+        base,
+        limits,
+        must_exist: is_set(options, "existing"),
+    };
     match file_argument(alloc, options) {
         Ok(file) => Ok(Job {
             task,
@@ -259,6 +254,28 @@ fn job_of(alloc: Global, options: &ArgMatches<'_>) -> Result<Job, EarlyExit>
     }
 }
 
+// Returns whether a store must exist that isn't in a file: `--existing` is given, and `--db` isn't.
+#[tactic(auto, using(crate::proofs::ReadingLemmas::values_read))]
+fn lacks_file(options: &ArgMatches<'_>) -> bool
+    ensures { result ≡ lacks_file (rows_of (found_of options.now)) }
+{
+    is_set(options, "existing") && options.get_str("db").is_none()
+}
+
+// Returns the job that the options and the command found by `clap` describe, the first form fault,
+// or the usage error of `--existing` without `--db`.
+fn matched_job(alloc: Global, options: &ArgMatches<'_>) -> Result<Job, EarlyExit>
+    requires command { HasCommand (subcommand_rows_of options.now) }
+    requires limits { HasLimits (rows_of (found_of options.now)) }
+    ensures { MatchedPlanResult (rows_of (found_of options.now)) (subcommand_rows_of options.now)
+        result }
+{
+    if lacks_file(options) {
+        return Err(exit_without_file(alloc));
+    }
+    job_of(alloc, options)
+}
+
 /// Parses the arguments, of which the first is the program's name, into a job. An error is help,
 /// the version, a fault of the command line, or running out of memory.
 pub fn plan(alloc: Global, arguments: &[String]) -> Result<Job, EarlyExit>
@@ -266,7 +283,7 @@ pub fn plan(alloc: Global, arguments: &[String]) -> Result<Job, EarlyExit>
 {
     match program(alloc)?.try_get_matches_from(arguments) {
         // `clap` has checked that all required commands and arguments are given.
-        Ok(options) => job_of(alloc, &options),
+        Ok(options) => matched_job(alloc, &options),
         Err(error) => Err(early_exit_of(alloc, &error)),
     }
 }

@@ -15,6 +15,8 @@ const ABOUT: &str = "Maintains thesauri and the postings of catalogue records to
 const DB: &str =
     "The file that keeps the store; without one it is in memory while the program runs";
 
+const EXISTING: &str = "The store must be in the file: none is made";
+
 const BASE_HELP: &str =
     "What the IRIs of a new store begin with [default: https://thesaurus.example/id/]";
 
@@ -74,7 +76,7 @@ museum.db, which is made if it doesn't exist:
   {\"done\":true}
   {\"ok\":1}
 
-  thesaurus --db museum.db hierarchical --scheme 1 --lang en
+  thesaurus --db museum.db --existing hierarchical --scheme 1 --lang en
 
   Mammals
     Cats
@@ -99,7 +101,7 @@ const SCRIPT_USAGE: &str = "thesaurus [--db <FILE>] script [--plans]";
 const SCRIPT_EXAMPLE: &str = "\
 An example. A merge takes the postings of its source along, and they show the move:
 
-  thesaurus --db museum.db script <<'END'
+  thesaurus --db museum.db --existing script <<'END'
   {\"do\":\"merge\",\"source\":2,\"target\":3}
   {\"get\":\"posting\",\"number\":1}
   END
@@ -115,7 +117,7 @@ const IMPORT_EXAMPLE: &str = "\
 An example. Each posting is performed once, however often its file is imported:
 
   printf 'key,record,concept\\nk1,r1,2\\nk2,r2,3\\n' > postings.csv
-  thesaurus --db museum.db import postings.csv
+  thesaurus --db museum.db --existing import postings.csv
 
   row,outcome,number
   1,again,1
@@ -128,7 +130,7 @@ const EXPORT_USAGE: &str = "thesaurus [--db <FILE>] export";
 const EXPORT_EXAMPLE: &str = "\
 An example. The triples of the whole store, for other programs:
 
-  thesaurus --db museum.db export > museum.nt
+  thesaurus --db museum.db --existing export > museum.nt
 
 Options before the command, as --db, choose the store: thesaurus --help lists them.";
 
@@ -137,7 +139,7 @@ const ALPHABETICAL_USAGE: &str = "thesaurus [--db <FILE>] alphabetical --scheme 
 const ALPHABETICAL_EXAMPLE: &str = "\
 An example. A term that was merged into another one refers to it:
 
-  thesaurus --db museum.db alphabetical --scheme 1 --lang en
+  thesaurus --db museum.db --existing alphabetical --scheme 1 --lang en
 
   Cats
     USE Mammals
@@ -151,7 +153,7 @@ const HIERARCHICAL_USAGE: &str = "thesaurus [--db <FILE>] hierarchical --scheme 
 const HIERARCHICAL_EXAMPLE: &str = "\
 An example. Narrower terms are indented below broader ones; a term that was merged isn't shown:
 
-  thesaurus --db museum.db hierarchical --scheme 1 --lang en
+  thesaurus --db museum.db --existing hierarchical --scheme 1 --lang en
 
   Mammals
 
@@ -166,7 +168,7 @@ const SERVE_EXAMPLE: &str = "\
 An example. The store for other programs on this machine, at http://127.0.0.1:8080/; docs/HTTP.md in the
 repository lists the paths:
 
-  thesaurus --db museum.db serve --port 8080
+  thesaurus --db museum.db --existing serve --port 8080
 
 Options before the command, as --db, choose the store: thesaurus --help lists them.";
 
@@ -175,7 +177,7 @@ const CHECK_USAGE: &str = "thesaurus [--db <FILE>] check";
 const CHECK_EXAMPLE: &str = "\
 An example. A store that breaks a rule is reported by its first faulty table:
 
-  thesaurus --db museum.db check
+  thesaurus --db museum.db --existing check
 
   ok resources=3 labels=4 links=0 accepted=2 withdrawn=0 moves=1
 
@@ -186,7 +188,7 @@ const MIGRATE_USAGE: &str = "thesaurus [--db <FILE>] migrate";
 const MIGRATE_EXAMPLE: &str = "\
 An example. A store that has version 2 already stays as it is:
 
-  thesaurus --db museum.db migrate
+  thesaurus --db museum.db --existing migrate
 
   version 2
 
@@ -306,8 +308,8 @@ fn serve<'a>(alloc: Global) -> Result<Command<'a>, AllocError>
         .arg(flag(alloc, "plans", SERVE_PLANS))
 }
 
-// Returns the program with the options `--db` and `--base`, before any other option or command is
-// added.
+// Returns the program with the options `--db` and `--existing`, before any other option or command
+// is added.
 fn file_options<'a>(
     alloc: Global,
     about: &'a str,
@@ -323,7 +325,7 @@ fn file_options<'a>(
         .disable_help_subcommand(true)
         .subcommand_required(true)
         .arg(option(alloc, "db", "FILE", DB))?
-        .arg(option(alloc, "base", "IRI", BASE_HELP))
+        .arg(flag(alloc, "existing", EXISTING))
 }
 
 // Adds an option to a program, or returns the error of making the program. So its caller can add
@@ -344,6 +346,7 @@ fn program_options<'a>(alloc: Global) -> Result<Command<'a>, AllocError>
     ensures { IfOk result (λ c. app_of c ≡ line.program_options) }
 {
     let program = file_options(alloc, ABOUT, EXAMPLE);
+    let program = with_option(program, option(alloc, "base", "IRI", BASE_HELP));
     let program = with_option(program, limit(alloc, "max-resources", MAX_RESOURCES));
     let program = with_option(program, limit(alloc, "max-labels", MAX_LABELS));
     let program = with_option(program, limit(alloc, "max-links", MAX_LINKS));

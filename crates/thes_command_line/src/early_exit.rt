@@ -1,11 +1,12 @@
 //! Early exits: help, the version, and faults of the command line.
-ghost use Rattle.std.specs.Prelude.{◌≡◌};
+ghost use Rattle.std.specs.Prelude.{◌≡◌, IfOk};
 ghost use Rattle.std.specs.IoError.{error_kind};
 ghost use Rattle.clap.specs.Words.{kind_of};
 ghost use Rattle.thes_command_line.specs.CommandLine.{ExitsFor};
-ghost use Rattle.thes_command_line.specs.EarlyExit.{ExitsEarly, exit_status};
+ghost use Rattle.thes_command_line.specs.EarlyExit.{ExitsEarly, IsUsageError, exit_status};
 ghost use Rattle.thes_command_line.specs.Printing.{AreFreshOutputs};
 
+use crate::commands::program;
 use crate::printing::{print_error, print_out, report_fault, report_form_fault};
 use clap::Error;
 use clap::error::ErrorKind;
@@ -15,6 +16,8 @@ use thes_base::fault::{Fault, FormFault, PipeFault, ReadStop};
 use thes_base::pipe::Pipe;
 
 const NOT_TEXT: &str = "thesaurus: a word of the command line is not UTF-8\n";
+
+const NO_FILE: &str = "the option '--existing' needs '--db <FILE>'";
 
 /// The reason for an early exit: help, the version, a fault of the command line, or running out of
 /// memory.
@@ -96,6 +99,23 @@ pub(crate) fn early_exit_of(alloc: Global, error: &Error) -> EarlyExit
     match error.to_string(alloc) {
         Ok(text) if error.use_stderr() => EarlyExit::Usage(text),
         Ok(text) => EarlyExit::Help(text),
+        Err(_) => EarlyExit::OutOfMemory,
+    }
+}
+
+// Returns the error for a store that must exist and isn't in a file, as one of `clap`.
+fn error_without_file(alloc: Global) -> Result<Error, AllocError>
+    ensures { IfOk result (λ error. kind_of error ≡ ErrorKind.MissingRequiredArgument) }
+{
+    program(alloc)?.error(ErrorKind::MissingRequiredArgument, NO_FILE)
+}
+
+/// Returns the usage error for `--existing` without `--db`, or `OutOfMemory`.
+pub(crate) fn exit_without_file(alloc: Global) -> EarlyExit
+    ensures { IsUsageError result }
+{
+    match error_without_file(alloc) {
+        Ok(error) => early_exit_of(alloc, &error),
         Err(_) => EarlyExit::OutOfMemory,
     }
 }

@@ -1,9 +1,8 @@
-//! Decides whether a task makes a store or uses the one in its file.
+//! Decides whether a store is made or the one in its file is used.
 ghost use Rattle.std.specs.Prelude.{◌≡◌};
 ghost use Rattle.thes_command_line.specs.Opening as choices;
 ghost use Rattle.thes_command_line.specs.Opening.{IsFileState};
 
-use crate::arguments::{Task, only_reads};
 use crate::trouble::StoreTrouble;
 use std::fs::Metadata;
 use std::io;
@@ -37,11 +36,10 @@ pub enum Opening {
 pub enum Preparation {
     /// Makes the tables of a new store, and removes the mark of an unfinished one.
     MakeTables,
-    /// Removes the mark of an unfinished store, if the file has one. A database without tables is
-    /// then refused.
+    /// Removes the mark of an unfinished store, if the file has one: the store has its tables.
     RemoveMark,
-    /// Changes nothing. A database without tables is then refused.
-    Nothing,
+    /// Refuses a database without tables, and changes nothing.
+    RefuseBlank,
 }
 
 /// Returns the state of a file from its metadata. Only the error NotFound means that there is no
@@ -57,11 +55,11 @@ pub fn file_state(found: &io::Result<Metadata>) -> FileState
     }
 }
 
-// Returns `New`, or this trouble for a task that only reads.
-fn new_store(task: &Task, trouble: StoreTrouble) -> Result<Opening, StoreTrouble>
-    ensures { result ≡ choices.new_store task.now trouble }
+// Returns `New`, or this trouble if the store must exist.
+fn new_store(must_exist: bool, trouble: StoreTrouble) -> Result<Opening, StoreTrouble>
+    ensures { result ≡ choices.new_store must_exist trouble }
 {
-    if only_reads(task) {
+    if must_exist {
         Err(trouble)
     } else {
         Ok(Opening::New)
@@ -76,12 +74,12 @@ fn is_unfinished(size: u64, is_marked: bool) -> bool
     is_marked && size <= BLANK_SIZE
 }
 
-// Returns the way to open a file of this size in bytes, which isn't empty, for a task. `is_marked`
-// says that the file has the mark of an unfinished store.
-fn opening_of_file(task: &Task, size: u64, is_marked: bool) -> Result<Opening, StoreTrouble>
-    ensures { result ≡ choices.opening_of_file task.now size is_marked }
+// Returns the way to open a file of this size in bytes, which isn't empty. `is_marked` says that
+// the file has the mark of an unfinished store.
+fn opening_of_file(must_exist: bool, size: u64, is_marked: bool) -> Result<Opening, StoreTrouble>
+    ensures { result ≡ choices.opening_of_file must_exist size is_marked }
 {
-    if !only_reads(task) && is_unfinished(size, is_marked) {
+    if !must_exist && is_unfinished(size, is_marked) {
         Ok(Opening::New)
     } else if size == 1 {
         Err(StoreTrouble::NotDatabase)
@@ -90,30 +88,33 @@ fn opening_of_file(task: &Task, size: u64, is_marked: bool) -> Result<Opening, S
     }
 }
 
-/// Chooses how a store is opened for a task. A task that only reads makes no store. Other tasks
-/// make none in a file of one byte, which SQLite takes for an empty database, unless the file is
-/// marked as that of an unfinished store.
-pub fn opening_of(task: &Task, found: FileState, is_marked: bool) -> Result<Opening, StoreTrouble>
-    ensures { result ≡ choices.opening_of task.now found is_marked }
+/// Chooses how a store is opened. None is made if the store must exist, nor in a file of one byte,
+/// which SQLite takes for an empty database, unless the file is marked as that of an unfinished
+/// store.
+pub fn opening_of(
+    must_exist: bool,
+    found: FileState,
+    is_marked: bool,
+) -> Result<Opening, StoreTrouble>
+    ensures { result ≡ choices.opening_of must_exist found is_marked }
 {
     match found {
-        FileState::Absent => new_store(task, StoreTrouble::NoFile),
-        FileState::Bytes(0) => new_store(task, StoreTrouble::NotDatabase),
-        FileState::Bytes(size) => opening_of_file(task, size, is_marked),
+        FileState::Absent => new_store(must_exist, StoreTrouble::NoFile),
+        FileState::Bytes(0) => new_store(must_exist, StoreTrouble::NotDatabase),
+        FileState::Bytes(size) => opening_of_file(must_exist, size, is_marked),
         FileState::Other => Ok(Opening::Existing),
     }
 }
 
-/// Returns what to do with the database of a store once it is open: make its tables, if it was
-/// opened for a new store and has none (`is_blank`), or else remove the mark of an unfinished
-/// store, unless the task only reads (`reads_only`).
-pub fn preparation_of(opening: Opening, is_blank: bool, reads_only: bool) -> Preparation
-    ensures { result ≡ choices.preparation_of opening is_blank reads_only }
+/// Returns what to do with the database of a store once it is open. If it has no tables
+/// (`is_blank`), it gets them if it was opened for a new store, and is refused otherwise.
+pub fn preparation_of(opening: Opening, is_blank: bool) -> Preparation
+    ensures { result ≡ choices.preparation_of opening is_blank }
 {
-    match opening {
-        Opening::New if is_blank => Preparation::MakeTables,
-        Opening::New | Opening::Existing if reads_only => Preparation::Nothing,
-        Opening::New | Opening::Existing => Preparation::RemoveMark,
+    match (opening, is_blank) {
+        (Opening::New, true) => Preparation::MakeTables,
+        (Opening::Existing, true) => Preparation::RefuseBlank,
+        (Opening::New | Opening::Existing, false) => Preparation::RemoveMark,
     }
 }
 

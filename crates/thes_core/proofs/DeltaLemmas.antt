@@ -17,6 +17,7 @@ use Rattle.thes_base.specs.Links.{Holds, links_after_deprecation, HasEnd}
 use Rattle.thes_base.specs.Machine.{next_state}
 use Rattle.thes_base.proofs.ForwardingLemmas.{along_led}
 use Rattle.thes_base.proofs.LinkSetLemmas.{links_total, links_exact, without_node_from, without_node_to}
+use Rattle.thes_base.proofs.RefusalRuleLemmas.{passed_unless}
 use Rattle.thes_base.proofs.ListMemberLemmas.{Contains-head, Contains-later, Contains-cons_cases, Contains-none}
 use Rattle.thes_links.specs.Reading.{IsRow}
 use Rattle.thes_links.proofs.NormLemmas.{ends_or_not}
@@ -27,7 +28,7 @@ use Rattle.thes_tables.specs.Changes.{changes_of, changes_of_new_resource, move_
 use Rattle.thes_tables.specs.ChangeLaw.{AreChangesBetween}
 use Rattle.thes_tables.specs.Tables.{IsIn, AreDistinct, IsUnsortedListing}
 use Rattle.thes_tables.proofs.ChangeLawLemmas.{changes_of_request_lead, leads_deprecate}
-use Rattle.thes_tables.proofs.RowSetLemmas.{absent_by, turn_into_by}
+use Rattle.thes_tables.proofs.RowSetLemmas.{absent_by, present_by, turn_into_by}
 use Rattle.thes_core.specs.declared.thesaurus.Thesaurus.{Thesaurus}
 use Rattle.thes_core.specs.Deltas.{move_rows, place_change}
 use Rattle.thes_core.specs.declared.facts.Facts.{Facts}
@@ -174,7 +175,10 @@ module _ (t : Thesaurus) (hs : List History) (concept : ℕ) (ok : PartsAccept t
       subst (λ d. AreChangesBetween t.vocab.base d (parts_state t hs)
       (state_after_deprecation concept (parts_state t hs)))
       (ap (λ l. change.Retire concept ∷ l) (append-nil (map drop_link gone)))
-      (leads_deprecate t.vocab.base (parts_state t hs) ok.kept.legal concept gone []
+      (leads_deprecate t.vocab.base (parts_state t hs) ok.kept.legal concept
+      (passed_unless (passed_unless (passed_unless ok.accepts.row).1).1).0 gone []
+      (present_by links_total links_exact t.graph.links (links_after_deprecation concept t.graph.links) gone
+      links_removed)
       (absent_by links_total links_exact t.graph.links (links_after_deprecation concept t.graph.links) gone []
       links_inserted)
       (turn_into_by links_total links_exact t.graph.links (links_after_deprecation concept t.graph.links) gone []

@@ -26,7 +26,7 @@ use Rattle.thes_tables.specs.Changes.{add_link, drop_link, new_moves}
 use Rattle.thes_tables.specs.ChangeLaw.{AreChangesBetween}
 use Rattle.thes_tables.specs.Tables.{IsUnsortedListing}
 use Rattle.thes_tables.proofs.ChangeLawLemmas.{leads_merge}
-use Rattle.thes_tables.proofs.RowSetLemmas.{absent_by, turn_into_by}
+use Rattle.thes_tables.proofs.RowSetLemmas.{absent_by, present_by, turn_into_by}
 use Rattle.thes_core.specs.declared.thesaurus.Thesaurus.{Thesaurus}
 use Rattle.thes_core.specs.Deltas.{move_rows}
 use Rattle.thes_core.specs.Facts.{assigned_posting_numbers}
@@ -101,10 +101,13 @@ module _ (t : Thesaurus) (hs : List History) (source target : ℕ) (ok : PartsAc
       (parts_state t hs) (state_after_merge source target (parts_state t hs))
   merged_leads =
       let law = leads_merge t.vocab.base (parts_state t hs) ok.kept.legal source target
+      (passed_unless (passed_unless (passed_unless ok.accepts.row).1).1).0.0
       (map (owned_label target) copies)
       (missing_absent t.vocab.labels source target ok.kept.legal.labels.disjoint copies missing)
       (missing_same t.vocab.labels source target ok.kept.legal.labels.disjoint copies missing)
       gone come
+      (present_by links_total links_exact t.graph.links (links_after_contract (is_outside t.vocab.resources)) gone
+      links_removed)
       (absent_by links_total links_exact t.graph.links (links_after_contract (is_outside t.vocab.resources)) gone come
       links_inserted)
       (turn_into_by links_total links_exact t.graph.links (links_after_contract (is_outside t.vocab.resources)) gone

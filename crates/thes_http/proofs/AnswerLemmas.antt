@@ -9,7 +9,10 @@ use Rattle.thes_base.specs.declared.fault.Fault.TheVariants.{OutOfMemory}
 use Rattle.thes_base.specs.declared.fault.FormFault.TheVariants.{BadShape, BadNumber, BadTag}
 use Rattle.thes_base.specs.declared.fault.FormFault.{FormFault}
 use Rattle.thes_base.specs.declared.request.Command.{Command}
+use Rattle.serde_json.specs.Data.{Data}
+use Rattle.thes_requests.specs.Laws.{EndsInFault, SameReply}
 use Rattle.thes_requests.specs.Requests.{json_in, request_of}
+use Rattle.thes_requests.specs.declared.plan_reply.PlanReply.{PlanReply}
 use Rattle.thes_requests.specs.Serving.{ServesPlan}
 use Rattle.thes_requests.specs.declared.request.Query.{Query}
 use Rattle.thes_requests.specs.declared.request.Query.TheVariants as asks
@@ -37,7 +40,8 @@ use Rattle.thes_http.specs.Serving.{RespondsUnchanged, CommandEffect, QueryEffec
 use Rattle.thes_http.specs.Serving.{DisplayEffect, DisplayQueryEffect, EndpointEffect, AnswersHead, Answers}
 use Rattle.thes_http.specs.Laws.{AnswerOneCall, command_answers, plan_answers, query_answers, import_answers, export_answers}
 use Rattle.thes_http.specs.Laws.{display_answers, no_call, RunsOut, HasOneAnswerToACall, IsFaultResponse, HasOneCall}
-use Rattle.thes_http.specs.Laws.{HasOneAnswer, CutHasNoAnswer}
+use Rattle.thes_http.specs.Laws.{HasOneAnswer, CutHasNoAnswer, SameResponse}
+use Rattle.thes_http.proofs.SameResponseLemmas.{same_reply_responses, same_responses}
 
 whole_is_not_bad : (bytes rest : List ℕ) (h : RequestHead) → HasHead bytes h rest → IsBadHead bytes → ⊥
 whole_is_not_bad bytes rest h has bad =
@@ -150,7 +154,7 @@ module _ {S : Type 0} (d : ServiceBehaviour S) where
   one_call old x y r q bytes more a b = same_answer old x y r q bytes more a b
 
   Determined : S → Response → S → Response → Type 0
-  Determined x r y q = ((r ≡ q) × (x ≡ y)) ⊎ (IsFaultResponse r ⊎ IsFaultResponse q)
+  Determined x r y q = (SameResponse r q × (x ≡ y)) ⊎ (IsFaultResponse r ⊎ IsFaultResponse q)
 
   -- Two results of one call are the same, unless one of them is a fault.
   same_results : {A : Type 0} (response : Result A Fault → Response) (P : Result A Fault → S → Type 0) (x y : S)
@@ -159,9 +163,25 @@ module _ {S : Type 0} (d : ServiceBehaviour S) where
       → r ≡ response a → q ≡ response b → Determined x r y q
   unfolding Determined
   same_results response P x y r q fault one (Ok a) (Ok b) p p' e e' =
-      let same = one a b p p' in inl (e ∙ (ap (λ c. response (Ok c)) same.0 ∙ sym e'), same.1)
-  same_results response P x y r q fault one (Err f) b p p' e e' = inr (inl (f, e ∙ fault f))
-  same_results response P x y r q fault one (Ok a) (Err f) p p' e e' = inr (inr (f, e' ∙ fault f))
+      let same = one a b p p' in
+      inl (same_responses r q (e ∙ (ap (λ c. response (Ok c)) same.0 ∙ sym e')), same.1)
+  same_results response P x y r q fault one (Err f) b p p' e e' = inr (inl (inl (f, e ∙ fault f)))
+  same_results response P x y r q fault one (Ok a) (Err f) p p' e e' = inr (inr (inl (f, e' ∙ fault f)))
+
+  -- Two replies to several requests are the same, but for the changes listed, unless one of them has a fault.
+  same_replies : (value : Option Data) (old x y : S) (r q : Response)
+      → ((a b : PlanReply) → ServesPlan d.requests old value (Ok a) x → ServesPlan d.requests old value (Ok b) y
+      → (SameReply a b × (x ≡ y)) ⊎ (EndsInFault a ⊎ EndsInFault b))
+      → (a b : Result PlanReply Fault) → ServesPlan d.requests old value a x → ServesPlan d.requests old value b y
+      → r ≡ plan_response a → q ≡ plan_response b → Determined x r y q
+  unfolding Determined
+  same_replies value old x y r q one (Ok a) (Ok b) p p' e e' = elim (one a b p p') [
+    | inl same ↦ inl (same_reply_responses a b r q same.0 e e', same.1)
+    | inr (inl fails) ↦ inr (inl (inr (a, fails, e)))
+    | inr (inr fails) ↦ inr (inr (inr (b, fails, e')))
+  ]
+  same_replies value old x y r q one (Err f) b p p' e e' = inr (inl (inl (f, e)))
+  same_replies value old x y r q one (Ok a) (Err f) p p' e e' = inr (inr (inl (f, e')))
 
   same_call : (old x y : S) (r q : Response) → HasOneAnswerToACall d old → AnswerOneCall d old r x q y
       → Determined x r y q
@@ -169,9 +189,8 @@ module _ {S : Type 0} (d : ServiceBehaviour S) where
   same_call old x y r q one (command_answers command a b p p' e e') = same_results command_response
       (λ c. d.requests.performs old command c) x y r q (λ f. refl) (λ a' b'. one.performs command a' b' x y) a b p p' e
       e'
-  same_call old x y r q one (plan_answers body a b p p' e e') = same_results plan_response
-      (λ c. ServesPlan d.requests old (json_in body) c) x y r q (λ f. refl) (λ a' b'. one.plans body a' b' x y) a b p p'
-      e e'
+  same_call old x y r q one (plan_answers body a b p p' e e') =
+      same_replies (json_in body) old x y r q (λ a' b'. one.plans body a' b' x y) a b p p' e e'
   same_call old x y r q one (query_answers query a b p p' e e') = same_results (query_response Json)
       (λ c. d.requests.shows old query c) x y r q (λ f. refl) (λ a' b'. one.shows query a' b' x y) a b p p' e e'
   same_call old x y r q one (import_answers file a b p p' e e') = same_results import_response
@@ -181,14 +200,14 @@ module _ {S : Type 0} (d : ServiceBehaviour S) where
   same_call old x y r q one (display_answers which scheme tag a b p p' e e') = same_results (query_response Plain)
       (λ c. d.displays old which scheme tag c) x y r q (λ f. refl)
       (λ a' b'. one.displays which scheme tag a' b' x y) a b p p' e e'
-  same_call old x y r q one (no_call e s t) = inl (e, s ∙ sym t)
+  same_call old x y r q one (no_call e s t) = inl (same_responses r q e, s ∙ sym t)
 
   pub one_answer : HasOneAnswer d
   unfolding Determined
   one_answer old x y r q bytes more one a b = elim (one_call old x y r q bytes more a b) [
     | inl call ↦ same_call old x y r q one call
-    | inr (inl out) ↦ inr (inl (OutOfMemory, out.0))
-    | inr (inr out) ↦ inr (inr (OutOfMemory, out.0))
+    | inr (inl out) ↦ inr (inl (inl (OutOfMemory, out.0)))
+    | inr (inr out) ↦ inr (inr (inl (OutOfMemory, out.0)))
   ]
 
   cut_head_answered : (old new : S) (response : Response) (h : RequestHead) (rest : List ℕ) (w : EndpointRequest)

@@ -20,6 +20,13 @@ abbrev pub is_complete : ConnectionEnd → Bool
 is_complete (Answered status) = true
 is_complete outcome = false
 
+-- The number of exchanges in a connection, by its outcome: one, if a request was answered, also if the response
+-- couldn't be written.
+abbrev pub exchange_count : ConnectionEnd → ℕ
+exchange_count (Answered status) = 1
+exchange_count WriteFault = 1
+exchange_count outcome = 0
+
 -- The service answers the bytes consumed with this response.
 pub record IsConnectionAnswer {S : Type 0} (d : ServiceBehaviour S) (known left : Option (List ℕ))
     (old : S) (response : Response) (new : S) : Type 0 where

@@ -7,9 +7,12 @@ use Rattle.thes_base.specs.declared.request.Answer.{Answer}
 use Rattle.thes_requests.specs.declared.handler.QueryAnswer.{QueryAnswer}
 use Rattle.thes_requests.specs.declared.request.Query.{Query}
 use Rattle.thes_requests.specs.declared.plan_reply.PlanReply.{PlanReply}
+use Rattle.thes_requests.specs.Laws.{EndsInFault, SameReply}
 use Rattle.thes_requests.specs.Requests.{json_in}
 use Rattle.thes_requests.specs.Serving.{ServesPlan}
 use Rattle.thes_http.specs.declared.response.MediaType.TheVariants.{Json, Plain}
+use Rattle.thes_http.specs.declared.response.Body.{Body}
+use Rattle.thes_http.specs.declared.response.Body.TheVariants as body
 use Rattle.thes_http.specs.declared.response.Response.{Response}
 use Rattle.thes_requests.specs.declared.request.Display.{Display}
 use Rattle.thes_http.specs.Responses.{fault_response, command_response, plan_response, query_response, import_response}
@@ -50,8 +53,10 @@ module _ {S : Type 0} (d : ServiceBehaviour S) (old : S) where
         → d.requests.performs old command (Ok a) x → d.requests.performs old command (Ok b) y → (a ≡ b) × (x ≡ y)
     pub shows : (query : Query) (a b : QueryAnswer) (x y : S)
         → d.requests.shows old query (Ok a) x → d.requests.shows old query (Ok b) y → (a ≡ b) × (x ≡ y)
+    -- A list of changes may have another order, so that reports may differ there.
     pub plans : (body : List ℕ) (a b : PlanReply) (x y : S) → ServesPlan d.requests old (json_in body) (Ok a) x
-        → ServesPlan d.requests old (json_in body) (Ok b) y → (a ≡ b) × (x ≡ y)
+        → ServesPlan d.requests old (json_in body) (Ok b) y
+        → (SameReply a b × (x ≡ y)) ⊎ (EndsInFault a ⊎ EndsInFault b)
     pub imports : (file : List ℕ) (a b : Option (List ℕ)) (x y : S)
         → d.imports old file (Ok a) x → d.imports old file (Ok b) y → (a ≡ b) × (x ≡ y)
     pub exports : (a b : List ℕ) (x y : S)
@@ -60,9 +65,22 @@ module _ {S : Type 0} (d : ServiceBehaviour S) (old : S) where
         → d.displays old which scheme tag (Ok a) x → d.displays old which scheme tag (Ok b) y
         → (a ≡ b) × (x ≡ y)
 
--- The response reports a fault.
+-- The response reports a fault, alone or as the last answer.
 abbrev pub IsFaultResponse : Response → Type 0
-IsFaultResponse response = (fault : Fault) × (response ≡ fault_response fault)
+IsFaultResponse response =
+    ((fault : Fault) × (response ≡ fault_response fault))
+    ⊎ ((reply : PlanReply) × EndsInFault reply × (response ≡ plan_response (Ok reply)))
+
+-- Two bodies are the same, but for the changes of rows that their reports list.
+abbrev pub SameBody : Body → Body → Type 0
+SameBody (body.Plan a) (body.Plan b) = SameReply a b
+SameBody a b = a ≡ b
+
+-- Two responses are the same, but for the changes of rows that their reports list.
+pub record SameResponse (r q : Response) : Type 0 where
+  pub status : r.status ≡ q.status
+  pub media : r.media ≡ q.media
+  pub body : SameBody r.body q.body
 
 module _ {S : Type 0} (d : ServiceBehaviour S) where
   -- Two answers to the same bytes in the same state answer one call of the service, unless memory
@@ -79,7 +97,7 @@ module _ {S : Type 0} (d : ServiceBehaviour S) where
   HasOneAnswer =
       (old x y : S) (r q : Response) (bytes more : List ℕ) → HasOneAnswerToACall d old
       → Answers d old r x bytes → Answers d old q y (bytes ++ more)
-      → ((r ≡ q) × (x ≡ y)) ⊎ (IsFaultResponse r ⊎ IsFaultResponse q)
+      → (SameResponse r q × (x ≡ y)) ⊎ (IsFaultResponse r ⊎ IsFaultResponse q)
 
   -- A request that was cut off has no answer, unless memory ran out.
   abbrev pub CutHasNoAnswer : Type 0

@@ -16,6 +16,7 @@ use Rattle.thes_requests.specs.declared.handler.QueryAnswer.{QueryAnswer}
 use Rattle.thes_requests.specs.declared.handler.QueryAnswer.TheVariants as view
 use Rattle.thes_requests.specs.declared.plan_reply.PlanReply.{PlanReply}
 use Rattle.thes_requests.specs.declared.plan_reply.PlanReply.TheVariants as plan
+use Rattle.thes_requests.specs.declared.plan_reply.Report.{Report}
 use Rattle.thes_requests.specs.AnswerTexts.{reply_text}
 use Rattle.thes_requests.specs.PlanTexts.{plan_reply_text}
 use Rattle.thes_http_request.specs.declared.endpoint.Endpoint.{Endpoint}
@@ -162,9 +163,15 @@ command_response (Ok (No r)) = reply_response status.Conflict (reply.Answer (No 
 command_response (Ok a) = reply_response status.Fine (reply.Answer a)
 command_response (Err f) = fault_response f
 
--- The status for the reply to a plan: 200 for answers, 409 for a refusal, 400 for a text that isn't a plan.
+-- The status for a report: 200, or 503 if the last answer is a fault.
+abbrev pub report_status : Report → Status
+report_status report = elim report.end.fault [ None ↦ status.Fine | Some fault ↦ status.ServiceUnavailable ]
+
+-- The status for the reply to a plan: 200 for answers, 503 if they end in a fault, 409 for a refusal, 400 for a text
+-- that isn't a plan.
 abbrev pub plan_status : PlanReply → Status
 plan_status (plan.Done line) = status.Fine
+plan_status (plan.Reported report) = report_status report
 plan_status (plan.Refused place refusal) = status.Conflict
 plan_status (plan.Bad fault) = status.BadRequest
 

@@ -1,5 +1,5 @@
 -- The connections of a server, one after another.
-use Rattle.std.specs.Prelude.{ℕ, ◌≡◌, ◌≤◌, List, [], ◌∷◌, length, Bool, true, false, Option, None, Some, Result, Ok, Err}
+use Rattle.std.specs.Prelude.{ℕ, ◌≡◌, ◌+◌, List, [], ◌∷◌, length, Bool, true, false, Option, None, Some, Result, Ok, Err}
 use Rattle.std.specs.IoError.{error_kind}
 use Rattle.std.specs.declared.io.Error.{Error}
 use Rattle.std.specs.declared.io.ErrorKind.{ErrorKind}
@@ -7,10 +7,12 @@ use Rattle.std.specs.declared.io.ErrorKind.TheVariants.{ConnectionAborted, Inter
 use Rattle.thes_base.specs.Pipe.{IsFresh, device_of}
 use Rattle.thes_base.specs.declared.pipe.Pipe.{Pipe}
 use Rattle.thes_requests.specs.Script.{session}
-use Rattle.thes_http.specs.Connection.{EndsAs}
+use Rattle.thes_http.specs.Connection.{EndsAs, exchange_count}
+use Rattle.thes_http.specs.ConnectionCounts.{ConnectionCounts}
+use Rattle.thes_http.specs.declared.connection.ConnectionEnd.{ConnectionEnd}
+use Rattle.thes_http.specs.declared.connection_count.Ends.{Ends}
 use Rattle.thes_http.specs.declared.timed_stream.TimedStream.{TimedStream}
 use Rattle.thes_http.specs.declared.response.Response.{Response}
-use Rattle.thes_http.specs.declared.timed_connection.Ends.{Ends}
 use Rattle.thes_http.specs.declared.timed_connection.ServedStream.{ServedStream}
 use Rattle.thes_http.specs.ServiceBehaviour.{ServiceBehaviour}
 use Rattle.thes_http.specs.Serving.{Answers}
@@ -59,8 +61,13 @@ AreAnswered d old [] new = new ≡ old
 AreAnswered {S} d old (e ∷ before) new =
     (mid : S) × AreAnswered d old before mid × Answers d mid e.response new e.bytes
 
--- At most `most` exchanges take the service from the state `old` to `new`.
-pub record LeadsBy {S : Type 0} (d : ServiceBehaviour S) (most : ℕ) (old new : S) : Type 0 where
+-- `count` exchanges take the service from the state `old` to `new`.
+pub record LeadsBy {S : Type 0} (d : ServiceBehaviour S) (count : ℕ) (old new : S) : Type 0 where
   pub exchanges : List Exchange
-  pub few : length exchanges ≤ most
+  pub counted : length exchanges ≡ count
   pub answered : AreAnswered d old exchanges new
+
+-- The numbers after a connection that was served.
+abbrev pub counts_after_close : ConnectionCounts → ConnectionEnd → ConnectionCounts
+counts_after_close old end =
+    record { finished = old.finished + 1; exchanges = old.exchanges + exchange_count end }

@@ -5,6 +5,8 @@ use Rattle.thes_base.specs.declared.request.Command.{Command}
 use Rattle.thes_base.specs.declared.request.Answer.{Answer}
 use Rattle.thes_plans.specs.declared.plan.PlanOutcome.{PlanOutcome}
 use Rattle.thes_plans.specs.declared.plan.PlanRequest.{PlanRequest}
+use Rattle.thes_plans.specs.declared.plan.PlanRun.{PlanRun}
+use Rattle.thes_tables.specs.declared.change.Change.{Change}
 use Rattle.thes_requests.specs.RequestBehaviour.{RequestBehaviour}
 use Rattle.thes_requests.specs.declared.handler.QueryAnswer.{QueryAnswer}
 use Rattle.thes_requests.specs.declared.request.Query.{Query}
@@ -23,8 +25,13 @@ pub record ServiceBehaviour (S : Type 0) : Type 1 where
 pub record DoesRequests {S : Type 0} (handler : RequestBehaviour S) (service : ServiceBehaviour S) : Type 0 where
   pub performs : (old : S) (command : Command) (result : Result Answer Fault) (new : S)
       → handler.performs old command result new → service.requests.performs old command result new
+  pub reports : (old : S) (command : Command) (result : Result Answer Fault) (changes : List Change) (new : S)
+      → handler.reports old command result changes new → service.requests.reports old command result changes new
   pub shows : (old : S) (query : Query) (result : Result QueryAnswer Fault) (new : S)
       → handler.shows old query result new → service.requests.shows old query result new
   pub takes_plans : (s : S) → handler.takes_plans s ≡ service.requests.takes_plans s
   pub performs_plan : (old : S) (plan : List PlanRequest) (result : Result PlanOutcome Fault) (new : S)
       → handler.performs_plan old plan result new → service.requests.performs_plan old plan result new
+  pub reports_plan : (old : S) (run : PlanRun) (plan : List PlanRequest) (result : Result PlanOutcome Fault)
+      (changes : List Change) (new : S) → handler.reports_plan old run plan result changes new
+      → service.requests.reports_plan old run plan result changes new

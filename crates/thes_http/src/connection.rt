@@ -3,7 +3,7 @@
 ghost use Rattle.std.specs.Prelude.{◌≡◌, true};
 ghost use Rattle.thes_base.specs.Pipe.{IsFresh, KeepsSharedCallLimit};
 ghost use Rattle.thes_requests.specs.Script.{session, IsFreshSession};
-ghost use Rattle.thes_http.specs.Connection.{RequestOutcome, EndsAs, is_complete};
+ghost use Rattle.thes_http.specs.Connection.{RequestOutcome, EndsAs, exchange_count, is_complete};
 
 use crate::act::act;
 use crate::response::{Response, Status};
@@ -41,6 +41,17 @@ impl ConnectionEnd {
         match self {
             ConnectionEnd::Answered(_) => true,
             ConnectionEnd::WriteFault | ConnectionEnd::Cut | ConnectionEnd::ReadFault => false,
+        }
+    }
+
+    /// Returns the number of exchanges in the connection: 1 if a request was answered, also if the
+    /// response couldn't be written, or 0.
+    pub(crate) fn exchange_count(self) -> u32
+        ensures { result ≡ exchange_count self }
+    {
+        match self {
+            ConnectionEnd::Answered(_) | ConnectionEnd::WriteFault => 1,
+            ConnectionEnd::Cut | ConnectionEnd::ReadFault => 0,
         }
     }
 }

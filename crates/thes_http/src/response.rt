@@ -1,7 +1,7 @@
 //! Responses, each with a status, a media type and a body, and their bytes.
-ghost use Rattle.std.specs.Prelude.{◌≡◌, ◌≤◌, false, length};
+ghost use Rattle.std.specs.Prelude.{◌≡◌, ◌≤◌, ◌++◌, false, length};
 ghost use Rattle.thes_base.specs.Pipe.{failed_of};
-ghost use Rattle.thes_http.specs.Responses.{status_code, status_line, media_type, problem_text, problem_status, allow_line, allow_text, body_text, head_text, ResponseWriteOutcome, reply_response, page_response, problem_response, form_response, fault_response, command_response, plan_response, plan_status, query_response, import_response, export_response};
+ghost use Rattle.thes_http.specs.Responses.{status_code, status_line, media_type, problem_text, problem_status, allow_line, allow_text, body_text, head_text, ResponseWriteOutcome, reply_response, page_response, problem_response, form_response, fault_response, command_response, plan_response, plan_status, report_status, query_response, import_response, export_response};
 
 use crate::head_text::HeadText;
 use arrayvec::ArrayVec;
@@ -15,7 +15,7 @@ use thes_http_request::problem::Problem;
 use thes_requests::answer::{Reply, reply_line};
 use thes_requests::handler::QueryAnswer;
 use thes_requests::page::Page;
-use thes_requests::plan_reply::{PlanReply, plan_fault_line, plan_refusal_line};
+use thes_requests::plan_reply::{PlanReply, Report, plan_fault_line, plan_refusal_line};
 
 /// The status of a response: one of nine codes of HTTP.
 #[derive(Clone, Copy, Debug, PartialEq, Eq)]
@@ -132,13 +132,24 @@ fn allow_line(endpoint: Endpoint) -> &'static str
     }
 }
 
-// Returns the status for the reply to a plan: 200 for answers, 409 for a refusal, or 400 for a text
-// that isn't a plan.
+// Returns the status for a report: 200, or 503 if the last answer is a fault.
+fn report_status(report: &Report) -> Status
+    ensures { result ≡ report_status report.now }
+{
+    match report.end.fault {
+        None => Status::Fine,
+        Some(_) => Status::ServiceUnavailable,
+    }
+}
+
+// Returns the status for the reply to a plan: 200 for answers, 503 if they end in a fault, 409 for
+// a refusal, or 400 for a text that isn't a plan.
 fn plan_status(reply: &PlanReply) -> Status
     ensures { result ≡ plan_status reply.now }
 {
     match reply {
         PlanReply::Done(_) => Status::Fine,
+        PlanReply::Reported(report) => report_status(report),
         PlanReply::Refused(..) => Status::Conflict,
         PlanReply::Bad(_) => Status::BadRequest,
     }
@@ -306,27 +317,31 @@ impl Response {
         head
     }
 
-    // Writes the head and the body, with one call to the writer if both fit into 512 bytes.
+    // Writes the head and the body, which is given in two parts, with one call to the writer if all
+    // fit into 512 bytes.
     fn write_with<W: Write>(
         &self,
         writer: &mut Pipe<W>,
         budget: &mut Budget,
         body: &[u8],
+        rest: &[u8],
     ) -> Result<(), Stop>
         requires fresh { failed_of writer.old ≡ false }
-        requires body { body.now ≡ body_text self.now.body }
+        requires body { body.now ++ rest.now ≡ body_text self.now.body }
         ensures { ResponseWriteOutcome W.contents self.now writer.old writer.new
             budget.old budget.new result }
     {
-        let head = self.head(body.len() as u64);
+        let head = self.head(body.len() as u64 + rest.len() as u64);
         let mut whole = ArrayVec::<u8, 512>::new();
         if whole.try_extend_from_slice(head.as_bytes()).is_ok()
             && whole.try_extend_from_slice(body).is_ok()
+            && whole.try_extend_from_slice(rest).is_ok()
         {
             return writer.write_all(budget, whole.as_slice());
         }
         writer.write_all(budget, head.as_bytes())?;
-        writer.write_all(budget, body)
+        writer.write_all(budget, body)?;
+        writer.write_all(budget, rest)
     }
 
     /// Writes the response; allocates nothing.
@@ -336,24 +351,31 @@ impl Response {
             budget.old budget.new result }
     {
         match &self.body {
-            Body::Problem(problem) => self.write_with(
+            Body::Problem(problem) => {
+                self.write_with(writer, budget, problem_line(*problem).as_bytes(), b"")
+            }
+            Body::Reply(reply) => {
+                self.write_with(writer, budget, reply_line(*reply).as_bytes(), b"")
+            }
+            Body::Plan(PlanReply::Done(line)) => {
+                self.write_with(writer, budget, line.as_bytes(), b"")
+            }
+            Body::Plan(PlanReply::Reported(report)) => self.write_with(
                 writer,
                 budget,
-                problem_line(*problem).as_bytes(),
+                report.changes.as_bytes(),
+                report.answers.as_bytes(),
             ),
-            Body::Reply(reply) => self.write_with(writer, budget, reply_line(*reply).as_bytes()),
-            Body::Plan(PlanReply::Done(line)) => self.write_with(writer, budget, line.as_bytes()),
             Body::Plan(PlanReply::Refused(place, refusal)) => self.write_with(
                 writer,
                 budget,
                 plan_refusal_line(*place, *refusal).as_bytes(),
+                b"",
             ),
-            Body::Plan(PlanReply::Bad(fault)) => self.write_with(
-                writer,
-                budget,
-                plan_fault_line(*fault).as_bytes(),
-            ),
-            Body::Page(page) => self.write_with(writer, budget, page.as_bytes()),
+            Body::Plan(PlanReply::Bad(fault)) => {
+                self.write_with(writer, budget, plan_fault_line(*fault).as_bytes(), b"")
+            }
+            Body::Page(page) => self.write_with(writer, budget, page.as_bytes(), b""),
         }
     }
 }

@@ -2,9 +2,11 @@
 //! the client still sends after the response.
 ghost use Rattle.std.specs.Prelude.{◌≡◌, ◌↔◌, ◌≤◌, true, IsTrue};
 ghost use Rattle.std.specs.Duration.{as_nanos};
+ghost use Rattle.thes_http.specs.Connection.{exchange_count};
 ghost use Rattle.thes_http.specs.Server.{IsServedBy, LeadsBy, is_wait};
 
 use crate::connection::{ConnectionEnd, serve_one};
+use crate::connection_count::Ends;
 use crate::service::Service;
 use crate::timed_stream::TimedStream;
 use std::alloc::Global;
@@ -24,13 +26,6 @@ const DRAIN_WAITS: u32 = 256;
 // The greatest time for all of these reads, in seconds.
 const DRAIN_SECONDS: u64 = 2;
 
-/// The two ends of a connection: one to read from, and one to write to.
-#[derive(Drop)]
-pub(crate) struct Ends<T> {
-    pub(crate) input: T,
-    pub(crate) output: T,
-}
-
 /// A connection that was served: its outcome, and its reader and writer. Only `serve_ends` makes
 /// one.
 #[derive(Drop)]
@@ -38,6 +33,15 @@ pub(crate) struct ServedStream<'c, C, T> {
     end: ConnectionEnd,
     reader: Pipe<TimedStream<'c, C, T>>,
     writer: Pipe<TimedStream<'c, C, T>>,
+}
+
+impl<'c, C, T> ServedStream<'c, C, T> {
+    /// Returns the number of exchanges in the connection: 1 or 0.
+    pub(crate) fn exchange_count(&self) -> u32
+        ensures { result ≡ exchange_count self.now.end }
+    {
+        self.end.exchange_count()
+    }
 }
 
 /// Reads a request from one end of a connection, performs it, and writes the response to the other
@@ -52,9 +56,9 @@ pub(crate) fn serve_ends<'c, C: Clock, T: Read + Write + OpenStream + Drop, S: S
     requires { S.is_open service.old ≡ true }
     ensures served { IsServedBy T.remaining T.contents S.behaviour ends service.old result
         service.new }
-    ensures leads { LeadsBy S.behaviour 1 service.old service.new }
+    ensures leads { LeadsBy S.behaviour (exchange_count result.end) service.old service.new }
 {
-    let Ends { input, output } = ends;
+    let (input, output) = ends.into_parts();
     let mut reader = Pipe::new(TimedStream::new(input, clock));
     let mut writer = Pipe::new(TimedStream::new(output, clock));
     let end = serve_one(alloc, Some(routes), &mut reader, &mut writer, service);

@@ -33,10 +33,8 @@ pub same_job : (job : Job) (task : Task) (file : String Global) (setting : Store
 same_job job task file setting a b c = rw (a, b, c) refl
 
 -- Tables are made only in a blank database.
-pub makes_in_blank : (opening : Opening) (is_blank reads_only : Bool)
-    → preparation_of opening is_blank reads_only ≡ MakeTables → IsTrue is_blank
-makes_in_blank New true reads_only is = refl
-makes_in_blank New false true is = absurd cc
-makes_in_blank New false false is = absurd cc
-makes_in_blank Existing is_blank true is = absurd cc
-makes_in_blank Existing is_blank false is = absurd cc
+pub makes_in_blank : (opening : Opening) (is_blank : Bool) → preparation_of opening is_blank ≡ MakeTables
+    → IsTrue is_blank
+makes_in_blank New true is = refl
+makes_in_blank Existing true is = absurd cc
+makes_in_blank opening false is = absurd cc

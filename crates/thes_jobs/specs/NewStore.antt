@@ -1,5 +1,5 @@
 -- The making of a store's tables, if its database was opened for a new store and has none.
-use Rattle.std.specs.Prelude.{◌≡◌, ◌↔◌, IsTrue, Bool, true, false, List, ℕ, Result, Ok, Err}
+use Rattle.std.specs.Prelude.{◌≡◌, ◌↔◌, IsTrue, Bool, List, ℕ, Result, Ok, Err}
 use Rattle.sqlite.specs.Held.{Held, state}
 use Rattle.sqlite.specs.State.{HasCleanDisk}
 use Rattle.sqlite.specs.declared.error.Error.{Error}
@@ -18,16 +18,14 @@ use Rattle.thes_sqlite.specs.MigrationEffects.{IsUnwritten}
 use Rattle.thes_command_line.specs.Opening.{preparation_of}
 use Rattle.thes_command_line.specs.declared.opening.Opening.{Opening}
 use Rattle.thes_command_line.specs.declared.opening.Preparation.{Preparation}
-use Rattle.thes_command_line.specs.declared.opening.Preparation.TheVariants.{MakeTables, RemoveMark, Nothing}
+use Rattle.thes_command_line.specs.declared.opening.Preparation.TheVariants.{MakeTables, RemoveMark, RefuseBlank}
 use Rattle.thes_command_line.specs.declared.trouble.StoreTrouble.{StoreTrouble}
 use Rattle.thes_command_line.specs.declared.trouble.StoreTrouble.TheVariants.{Unreadable, Unwritable}
 use Rattle.thes_jobs.specs.Trouble.{trouble_of}
 
--- The verdict on a database in which no tables are to be made: one without tables (`true`) is refused, with the fault
--- of a store that lacks table meta.
-abbrev pub verdict_of_blank : Bool → Result (Unit {0}) (StoreTrouble × Fault)
-verdict_of_blank true = Err (Unreadable, BadStore table.Meta)
-verdict_of_blank false = Ok tt
+-- The fault of a database without tables in which none are to be made, with its reason: a store that lacks table meta.
+abbrev pub blank_fault : StoreTrouble × Fault
+blank_fault = (Unreadable, BadStore table.Meta)
 
 module _ {S : Type 0} (store : Ghosts S) where
   -- The tables couldn't be made: the fault and its reason are those of an error, and a database that is up is
@@ -47,17 +45,16 @@ module _ {S : Type 0} (store : Ghosts S) where
       × KeepsIn store_schema (state store new).now (empty_tables base)
   MakesStore base old (Err reported) new = IsUnmade old reported.0 reported.1 new
 
-  -- The effect of a preparation: MakeTables makes the tables of a new store; every other one leaves the database as it
-  -- is, and refuses a blank one.
-  abbrev pub Prepares : Preparation → Bool → List ℕ → Held S → Result (Unit {0}) (StoreTrouble × Fault) → Held S → Type 0
-  Prepares MakeTables is_blank base old result new = MakesStore base old result new
-  Prepares RemoveMark is_blank base old result new = (result ≡ verdict_of_blank is_blank) × (new ≡ old)
-  Prepares Nothing is_blank base old result new = (result ≡ verdict_of_blank is_blank) × (new ≡ old)
+  -- The effect of a preparation: MakeTables makes the tables of a new store; the others leave the database as it is,
+  -- and RefuseBlank refuses it.
+  abbrev pub Prepares : Preparation → List ℕ → Held S → Result (Unit {0}) (StoreTrouble × Fault) → Held S → Type 0
+  Prepares MakeTables base old result new = MakesStore base old result new
+  Prepares RemoveMark base old result new = (result ≡ Ok tt) × (new ≡ old)
+  Prepares RefuseBlank base old result new = (result ≡ Err blank_fault) × (new ≡ old)
 
-  -- The database of a store was prepared as it had to be, by how it was opened, whether it has tables, and whether the
-  -- task only reads.
-  pub record PreparesStore (opening : Opening) (reads_only : Bool) (base : List ℕ) (old : Held S)
+  -- The database of a store was prepared as it had to be, by how it was opened and whether it has tables.
+  pub record PreparesStore (opening : Opening) (base : List ℕ) (old : Held S)
       (result : Result (Unit {0}) (StoreTrouble × Fault)) (new : Held S) : Type 0 where
     pub is_blank : Bool
     pub blank : IsTrue is_blank ↔ ((state store old).now.schema ≡ empty_schema)
-    pub prepares : Prepares (preparation_of opening is_blank reads_only) is_blank base old result new
+    pub prepares : Prepares (preparation_of opening is_blank) base old result new

@@ -1,14 +1,14 @@
 -- The jobs that the program opens.
-use Rattle.std.specs.Prelude.{◌≡◌, Bool, false, List, ℕ, IfSome, is_some, Option, Some, None, Result, Ok, Err}
+use Rattle.std.specs.Prelude.{◌≡◌, Bool, false, IfSome, is_some, Option, Some, None, Result, Ok, Err}
 use Rattle.std.specs.Global.{Global}
 use Rattle.std.specs.declared.fs.File.{File}
 use Rattle.std.specs.declared.net.tcp.TcpListener.{TcpListener}
 use Rattle.std.specs.declared.string.String.{String}
-use Rattle.sqlite.specs.Held.{Held}
+use Rattle.sqlite.specs.Held.{Held, state}
 use Rattle.sqlite_trees.specs.declared.store.Store.{Ghosts}
 use Rattle.sqlite_wal.specs.Recovery.{Image}
 use Rattle.thes_base.specs.declared.fault.Fault.{Fault}
-use Rattle.thes_command_line.specs.CommandLine.{is_import, only_reads}
+use Rattle.thes_command_line.specs.CommandLine.{is_import}
 use Rattle.thes_command_line.specs.declared.early_exit.EarlyExit.{EarlyExit}
 use Rattle.thes_command_line.specs.declared.arguments.Job.{Job}
 use Rattle.thes_command_line.specs.declared.arguments.Task.{Task}
@@ -18,8 +18,9 @@ use Rattle.thes_command_line.specs.declared.start_failure.StartFailure.{StartFai
 use Rattle.thes_command_line.specs.declared.start_failure.StartFailure.TheVariants as failures
 use Rattle.thes_command_line.specs.declared.trouble.StoreTrouble.{StoreTrouble}
 use Rattle.thes_command_line.specs.declared.trouble.StoreTrouble.TheVariants.{Unreadable}
+use Rattle.thes_sqlite.specs.Faults.{IsKeeperFault}
 use Rattle.thes_sqlite.specs.declared.cause.Cause.{Cause}
-use Rattle.thes_jobs.specs.Databases.{IsReadyConnection, OpensFrom}
+use Rattle.thes_jobs.specs.Databases.{IsReadyConnection, OpensFrom, ServesOldTables}
 use Rattle.thes_jobs.specs.NewStore.{PreparesStore}
 use Rattle.thes_jobs.specs.OpenStore.{IsOpenedFor, IsUnopenedStore}
 use Rattle.thes_jobs.specs.PlannedWork.{OpensPlanned, planned_work}
@@ -32,11 +33,11 @@ use Rattle.thes_jobs.specs.declared.work.DatabaseWork.{DatabaseWork}
 use Rattle.thes_jobs.specs.declared.work.MemoryWork.{MemoryWork}
 
 -- If the job is work over a store in files with these contents, its connection is ready for the work; if it is a
--- migration, its connection is in no transaction.
+-- migration, its connection is in no transaction, and serves a store of version 1 that the files held.
 abbrev pub IsReadyJob : {S O : Type 0} → Ghosts S → Image → OpenJob S O → Type 0
 IsReadyJob g image (InFile work) = IsReadyConnection g image work.setting.base work.conn
 IsReadyJob g image (InMemory work) = Unit {0}
-IsReadyJob g image (Migration file conn) = conn.in_transaction ≡ false
+IsReadyJob g image (Migration file conn) = (conn.in_transaction ≡ false) × ServesOldTables image (state g conn)
 IsReadyJob g image Version = Unit {0}
 
 -- A listener for progress, if there is one, reports the rows of an import exactly when the task is one.
@@ -52,21 +53,22 @@ abbrev pub job_in_memory : Task → StoreSetting → Job
 job_in_memory task setting = record { task = task; file = None; setting = setting }
 
 module _ {S : Type 0} (store : Ghosts S) (image : Image) where
-  -- The connection is that of a database that was opened for the task, and is ready for it. Nothing was done in the
-  -- database, except that it got the tables of a new store with this base, if it was to have them.
-  pub record IsPreparedFor (task : Task) (base : List ℕ) (conn : Held S) : Type 0 where
+  -- The connection is that of a database that was opened with this setting, and is ready for work. Nothing was done in
+  -- the database, except that it got the tables of a new store with the setting's base, if it was to have them.
+  pub record IsPreparedFor (setting : StoreSetting) (conn : Held S) : Type 0 where
     pub database : StoreDatabase S
-    pub opens_it : IsOpenedFor task database
+    pub opens_it : IsOpenedFor setting.must_exist database
     pub is_opened : OpensFrom store image database.conn
-    pub prepares : PreparesStore store database.opening (only_reads task) base database.conn (Ok tt) conn
-    pub ready : IsReadyConnection store image base conn
+    pub prepares : PreparesStore store database.opening setting.base database.conn (Ok tt) conn
+    pub ready : IsReadyConnection store image setting.base conn
 
   -- The work is that of this job, over the store in its file.
-  pub record IsDatabaseWork {O R F L : Type 0} (job : Job) (work : DatabaseWork S O (Option (Screen R)) F L) : Type 0 where
+  pub record IsDatabaseWork {O R F L : Type 0} (job : Job)
+      (work : DatabaseWork S O (Option (Screen R)) F L) : Type 0 where
     pub does : OpensPlanned (planned_work job.task) (is_some work.progress) (Ok (Some work.work))
     pub file : job.file ≡ Some work.file
     pub setting : work.setting ≡ job.setting
-    pub connects : IsPreparedFor job.task job.setting.base work.conn
+    pub connects : IsPreparedFor job.setting work.conn
     pub listens : ListensTo job.task work.progress
 
   -- The work is that of this job, over a new store in memory.
@@ -81,29 +83,30 @@ module _ {S : Type 0} (store : Ghosts S) (image : Image) where
   IsOpenJob job (InFile work) = IsDatabaseWork job work
   IsOpenJob job (InMemory work) = IsMemoryWork job work
   IsOpenJob job (Migration file conn) =
-      (job.task ≡ Migrate) × (job.file ≡ Some file) × IsPreparedFor job.task job.setting.base conn
+      (job.task ≡ Migrate) × (job.file ≡ Some file) × IsPreparedFor job.setting conn
   IsOpenJob job Version = (job.task ≡ Migrate) × (job.file ≡ None)
 
-  -- The connection is that of a database that was opened for the task, and in which nothing was done; there is none if
-  -- the store isn't in a file.
-  abbrev pub LeavesUnused : Option (String Global) → Task → Option (Held S) → Type 0
-  LeavesUnused None task left = left ≡ None
-  LeavesUnused (Some file) task left = (database : StoreDatabase S) × IsOpenedFor task database
+  -- The connection is that of a database that was opened with this setting, and in which nothing was done; there is
+  -- none if the store isn't in a file.
+  abbrev pub LeavesUnused : Option (String Global) → StoreSetting → Option (Held S) → Type 0
+  LeavesUnused None setting left = left ≡ None
+  LeavesUnused (Some file) setting left = (database : StoreDatabase S) × IsOpenedFor setting.must_exist database
       × OpensFrom store image database.conn × (left ≡ Some database.conn)
 
   module _ {L : Type 0} (keeps : Cause → L → Type 0) where
-    -- The trouble and the fault of a store that couldn't be opened or prepared for a task, or whose file's full path
-    -- wasn't found; and the connection to its database, if that was opened, or what is left of its files.
-    pub data IsUnpreparedStore (task : Task) (base : List ℕ) (reported : StoreTrouble × Fault) (left : Option (Held S))
+    -- The trouble and the fault of a store that couldn't be opened or prepared with this setting, or whose file's full
+    -- path wasn't found; and the connection to its database, if that was opened, or what is left of its files.
+    pub data IsUnpreparedStore (setting : StoreSetting) (reported : StoreTrouble × Fault) (left : Option (Held S))
         (rest : Option L) : Type 0 where
-      unopened : IsUnopenedStore keeps task reported rest → left ≡ None
-          → IsUnpreparedStore task base reported left rest
-      unprepared : (database : StoreDatabase S) → IsOpenedFor task database → OpensFrom store image database.conn
-          → (back : Held S) → left ≡ Some back → rest ≡ None
-          → PreparesStore store database.opening (only_reads task) base database.conn (Err reported) back
-          → IsUnpreparedStore task base reported left rest
-      lost : reported.0 ≡ Unreadable → (conn : Held S) → left ≡ Some conn → rest ≡ None → IsPreparedFor task base conn
-          → IsUnpreparedStore task base reported left rest
+      unopened : IsUnopenedStore keeps setting.must_exist reported rest → left ≡ None
+          → IsUnpreparedStore setting reported left rest
+      unprepared : (database : StoreDatabase S) → IsOpenedFor setting.must_exist database
+          → OpensFrom store image database.conn → (back : Held S) → left ≡ Some back → rest ≡ None
+          → PreparesStore store database.opening setting.base database.conn (Err reported) back
+          → IsUnpreparedStore setting reported left rest
+      lost : reported.0 ≡ Unreadable → IsKeeperFault reported.1 → (conn : Held S) → left ≡ Some conn → rest ≡ None
+          → IsPreparedFor setting conn
+          → IsUnpreparedStore setting reported left rest
 
     -- The reason why a job couldn't be opened: its posting file or socket, or its store; and the connection to its
     -- database, or what is left of its files.
@@ -111,9 +114,9 @@ module _ {S : Type 0} (store : Ghosts S) (image : Image) where
     IsOpenFailure job (failures.EarlyExit early_exit) left rest = ⊥
     IsOpenFailure job (failures.Unopened failure) left rest =
         ((prints_it : Bool) × OpensPlanned {F = File} {L = TcpListener} (planned_work job.task) prints_it (Err failure))
-        × LeavesUnused job.file job.task left × (rest ≡ None)
+        × LeavesUnused job.file job.setting left × (rest ≡ None)
     IsOpenFailure job (failures.InStore file trouble fault) left rest =
-        (job.file ≡ Some file) × IsUnpreparedStore job.task job.setting.base (trouble, fault) left rest
+        (job.file ≡ Some file) × IsUnpreparedStore job.setting (trouble, fault) left rest
 
     -- The job is opened, or the failure says why not.
     abbrev pub OpensJob : {O : Type 0} → Job → Result (OpenJob S O) (FailedStart S L) → Type 0

@@ -1,9 +1,10 @@
 //! The trait by which the databases of stores are opened and closed, and its implementation for
 //! files.
 ghost use Rattle.std.specs.Prelude.{IfErr, IfOk};
-ghost use Rattle.sqlite.specs.Schema.{Schema};
+ghost use Rattle.sqlite.specs.Effect.{Database};
+ghost use Rattle.sqlite.specs.State.{State};
 ghost use Rattle.sqlite_wal.specs.Files.{image_at};
-ghost use Rattle.thes_tables.specs.Tables.{Tables};
+ghost use Rattle.thes_sqlite.specs.Faults.{IsKeeperFault};
 ghost use Rattle.thes_sqlite.specs.declared.cause.Cause.{Cause};
 ghost use Rattle.thes_jobs.specs.Databases.{ClosesIfOpen, OpensFrom};
 
@@ -34,12 +35,14 @@ pub trait Databases {
     /// them.
     type Image: Drop;
 
-    // The files were closed, and the disk has returned what was written.
+    // The disk has returned what was written to the files.
     ghost is_clean: { Self.Left → Type 0 };
 
-    // The files hold a store with this schema and these tables, as they read now and whatever a
-    // crash leaves of them.
-    ghost holds: { Self.Left → Schema → Tables → Type 0 };
+    // The files hold this database, as they read now and whatever a crash leaves of them.
+    ghost holds: { Self.Left → Database → Type 0 };
+
+    // The files, which couldn't be closed, hold only what this state says that a crash may leave.
+    ghost finds: { Self.Left → State → Type 0 };
 
     // The files of a database that couldn't be opened, for this cause, hold what they held.
     ghost keeps: { Cause → Self.Left → Type 0 };
@@ -58,13 +61,15 @@ pub trait Databases {
     /// Returns a value that can open the database in a file again. The call takes the database's
     /// connection, since only a database that is open may be opened again. The fault is `Store` if
     /// the file's full path isn't found.
-    fn reopener(&self, conn: &Connection<Self::Engine>, file: &str) -> Result<Self::Opener, Fault>;
+    fn reopener(&self, conn: &Connection<Self::Engine>, file: &str) -> Result<Self::Opener, Fault>
+        ensures { IfErr result IsKeeperFault };
 
     /// Takes the connection out of `conn`, if there is one, closes it, and returns what is left of
-    /// its files, which hold its store. The parameter is a reference since Rattle proves no `impl`
-    /// of a method that takes a connection to an associated type by value.
+    /// its files, which hold its database, also if closing failed. The parameter is a reference
+    /// since Rattle proves no `impl` of a method that takes a connection to an associated type by
+    /// value.
     fn close(&self, conn: &mut Option<Connection<Self::Engine>>) -> Option<Self::Left>
-        ensures { ClosesIfOpen Self.Engine.Store is_clean holds conn.old result };
+        ensures { ClosesIfOpen Self.Engine.Store is_clean holds finds conn.old result };
 }
 
 /// Databases in files of this system. In contracts, `S` gives the contents of the files before they
@@ -85,7 +90,7 @@ impl<'r, S> FileDatabases<'r, S> {
     }
 }
 
-/// What is left of a database is its two files; None if they weren't opened, or couldn't be closed.
+/// What is left of a database is its two files; None if they weren't opened.
 impl<'r, S: Start + ReopenedImage> Databases for FileDatabases<'r, S> {
     type Engine = FileStore<FileFrom<S>>;
 
@@ -95,11 +100,13 @@ impl<'r, S: Start + ReopenedImage> Databases for FileDatabases<'r, S> {
 
     type Image = S;
 
-    ghost use Rattle.thes_jobs.specs.Databases.{AreCleanFiles, HoldTables, KeepsImage};
+    ghost use Rattle.thes_jobs.specs.Databases.{AreCleanFiles, FindsLeft, HoldDatabase, KeepsImage};
 
     ghost is_clean = { AreCleanFiles ⟦<FileFrom<S> as Disk>⟧ };
 
-    ghost holds = { HoldTables ⟦<FileFrom<S> as Disk>⟧ };
+    ghost holds = { HoldDatabase ⟦<FileFrom<S> as Disk>⟧ };
+
+    ghost finds = { FindsLeft ⟦<FileFrom<S> as Disk>⟧ };
 
     ghost keeps = { KeepsImage ⟦<FileFrom<S> as Disk>⟧ (image_at S.Start) };
 
@@ -124,7 +131,7 @@ impl<'r, S: Start + ReopenedImage> Databases for FileDatabases<'r, S> {
         conn: &mut Option<Connection<FileStore<FileFrom<S>>>>,
     ) -> Option<Option<Files<FileFrom<S>>>> {
         match conn.take() {
-            Some(conn) => Some(close_database_files(conn)),
+            Some(conn) => Some(Some(close_database_files(conn))),
             None => None,
         }
     }

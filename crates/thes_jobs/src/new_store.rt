@@ -3,7 +3,8 @@ ghost use Rattle.std.specs.Prelude.{◌≡◌, ◌↔◌, false, IsTrue};
 ghost use Rattle.sqlite.specs.Held.{state};
 ghost use Rattle.thes_sql.specs.Schema.{empty_schema};
 ghost use Rattle.thes_jobs.specs.Databases.{KeepsTables, Settles};
-ghost use Rattle.thes_jobs.specs.NewStore.{MakesStore, verdict_of_blank};
+ghost use Rattle.thes_jobs.specs.NewStore as choices;
+ghost use Rattle.thes_jobs.specs.NewStore.{MakesStore};
 
 use crate::trouble::trouble_of;
 use sqlite::{Alter, Connection};
@@ -22,16 +23,12 @@ pub fn is_blank<S: Alter>(conn: &Connection<S>) -> bool
     schema.tables.is_empty() && schema.indexes.is_empty() && schema.views.is_empty()
 }
 
-/// Refuses a blank database in which no tables are to be made; the fault is that of a store without
-/// table meta.
-pub fn check_blank(is_blank: bool) -> Result<(), (StoreTrouble, Fault)>
-    ensures { result ≡ verdict_of_blank is_blank }
+/// Returns the fault of a blank database in which no tables are to be made, with its reason: that
+/// of a store without table meta.
+pub fn blank_fault() -> (StoreTrouble, Fault)
+    ensures { result ≡ choices.blank_fault }
 {
-    if is_blank {
-        Err((StoreTrouble::Unreadable, Fault::BadStore(Table::Meta)))
-    } else {
-        Ok(())
-    }
+    (StoreTrouble::Unreadable, Fault::BadStore(Table::Meta))
 }
 
 /// Makes the tables of a new store with this base in a database without tables, atomically. An

@@ -13,7 +13,7 @@ ghost use Rattle.thes_jobs.specs.Opening.{IsReadyJob, ListensTo, OpensJob, Opens
 
 use crate::databases::Databases;
 use crate::making::MakingMark;
-use crate::new_store::{check_blank, is_blank, make_store};
+use crate::new_store::{blank_fault, is_blank, make_store};
 use crate::screen::Screen;
 use crate::store_files::has_long_name;
 use crate::trouble::trouble_of;
@@ -27,7 +27,7 @@ use std::io::IsTerminal;
 use std::net::{Ipv4Addr, TcpListener};
 use thes_base::fault::Fault;
 use thes_base::text::Base;
-use thes_command_line::arguments::{Job, StoreSetting, Task, is_import, only_reads};
+use thes_command_line::arguments::{Job, StoreSetting, Task, is_import};
 use thes_command_line::early_exit::EarlyExit;
 use thes_command_line::opening::{
     FileState, Opening, Preparation, file_state, is_mark_void, opening_of, preparation_of,
@@ -104,20 +104,20 @@ fn open_database<D: Databases>(
     }
 }
 
-// Chooses how the store in a file is opened for a task. An error is the fault with its reason.
+// Chooses how the store in a file is opened. An error is the fault with its reason.
 fn opening_for(
     rt: &HostRuntime,
-    task: &Task,
+    must_exist: bool,
     found: FileState,
     mark: &MakingMark<'_>,
     file: &str,
 ) -> Result<Opening, (StoreTrouble, Fault)>
-    ensures { ChoosesOpening task.now found result }
+    ensures { ChoosesOpening must_exist found result }
 {
     if let Some(reported) = name_trouble(has_long_name(rt, file)) {
         return Err(reported);
     }
-    match opening_of(task, found, mark.is_there()) {
+    match opening_of(must_exist, found, mark.is_there()) {
         Ok(opening) => Ok(opening),
         Err(trouble) => Err((trouble, Fault::Store)),
     }
@@ -156,16 +156,16 @@ fn without_files<L>(trouble: StoreTrouble, fault: Fault) -> UnopenedStore<L>
     }
 }
 
-// Opens the database of the store in a file for a task. If the store is to be made, first marks it
-// as unfinished (`MakingMark`).
+// Opens the database of the store in a file, which is made unless it must exist. If it is to be
+// made, first marks it as unfinished (`MakingMark`).
 fn open_store<'r, D: Databases>(
     rt: &'r HostRuntime,
     databases: &D,
     image: D::Image,
-    task: &Task,
+    must_exist: bool,
     file: &str,
 ) -> Result<StoreDatabase<'r, D::Engine>, UnopenedStore<D::Left>>
-    ensures opens { OpensStore D.keeps task.now result }
+    ensures opens { OpensStore D.keeps must_exist result }
     ensures opened { IfOk result (λ store. OpensFrom D.Engine.Store D.Opener.image store.conn) }
 {
     let mark = match MakingMark::new(rt, file) {
@@ -173,7 +173,7 @@ fn open_store<'r, D: Databases>(
         Err(fault) => return Err(without_files(StoreTrouble::Unreadable, fault)),
     };
     let found = file_state(&fs::metadata(rt, file));
-    let opening = match opening_for(rt, task, found, &mark, file) {
+    let opening = match opening_for(rt, must_exist, found, &mark, file) {
         Ok(opening) => opening,
         Err((trouble, fault)) => return Err(without_files(trouble, fault)),
     };
@@ -212,31 +212,29 @@ fn make_marked_store<S: Alter>(
     Ok(())
 }
 
-// Makes the tables in a database that was opened for a new store and has none. Any other store
-// loses its mark, unless the task only reads, and is refused if its database has no tables. An
-// error is the fault with its reason.
+// Makes the tables in a database that was opened for a new store and has none. Any other database
+// without tables is refused, and one with tables loses its mark. An error is the fault with its
+// reason.
 fn prepare_store<S: Alter>(
     store: &mut StoreDatabase<'_, S>,
-    reads_only: bool,
     screen: Option<Screen<'_, HostRuntime>>,
     file: &str,
     base: &Base,
 ) -> Result<(), (StoreTrouble, Fault)>
     requires { store.old.conn.in_transaction ≡ false }
-    ensures prepares { PreparesStore S.Store store.old.opening reads_only base.now store.old.conn
-        result store.new.conn }
+    ensures prepares { PreparesStore S.Store store.old.opening base.now store.old.conn result
+        store.new.conn }
     ensures idle { store.new.conn.in_transaction ≡ false }
     ensures keeps { KeepsTables (state S.Store store.old.conn) (state S.Store store.new.conn) }
     ensures settles { Settles (state S.Store store.old.conn) (state S.Store store.new.conn) }
 {
-    let blank = is_blank(&store.conn);
-    match preparation_of(store.opening, blank, reads_only) {
+    match preparation_of(store.opening, is_blank(&store.conn)) {
         Preparation::MakeTables => make_marked_store(store, screen, file, base),
         Preparation::RemoveMark => {
             store.mark.remove();
-            check_blank(blank)
+            Ok(())
         }
-        Preparation::Nothing => check_blank(blank),
+        Preparation::RefuseBlank => Err(blank_fault()),
     }
 }
 
@@ -333,7 +331,7 @@ fn open_over<'r, D: Databases>(
     mut store: StoreDatabase<'r, D::Engine>,
     job: FileJob,
 ) -> Result<OpenJob<'r, D::Engine, D::Opener>, FailedStart<D::Engine, D::Left>>
-    requires opens { IsOpenedFor job.task store }
+    requires opens { IsOpenedFor job.setting.must_exist store }
     requires opened { OpensFrom D.Engine.Store D.Opener.image store.conn }
     ensures opens { OpensJob D.Engine.Store D.Opener.image D.keeps
         (job_in_file job.task job.file job.setting) result }
@@ -347,13 +345,12 @@ fn open_over<'r, D: Databases>(
         setting,
     } = job;
     let progress = screen_of(rt, &task);
-    let reads_only = only_reads(&task);
     let work = match open_work(rt, task, &progress) {
         Ok(work) => work,
         Err(unopened) => return Err(failed_over(StartFailure::Unopened(unopened), store)),
     };
     let base = &setting.base;
-    match prepare_store(&mut store, reads_only, progress, file.as_str(), base) {
+    match prepare_store(&mut store, progress, file.as_str(), base) {
         Ok(()) => {}
         Err((trouble, fault)) => {
             return Err(failed_over(StartFailure::InStore(file, trouble, fault), store));
@@ -381,7 +378,7 @@ fn open_over<'r, D: Databases>(
 }
 
 // Opens the job of a task over the store in a file. If the file is absent or empty, or making its
-// store was cut short, every task that doesn't only read makes the store.
+// store was cut short, the store is made, unless it must exist.
 fn open_in_file<'r, D: Databases>(
     rt: &'r HostRuntime,
     databases: &D,
@@ -394,7 +391,13 @@ fn open_in_file<'r, D: Databases>(
     ensures serves { IfErr result (λ failed.
         ServesIfOpen D.Engine.Store D.Opener.image failed.conn) }
 {
-    match open_store(rt, databases, image, &job.task, job.file.as_str()) {
+    match open_store(
+        rt,
+        databases,
+        image,
+        job.setting.must_exist,
+        job.file.as_str(),
+    ) {
         Ok(store) => open_over(rt, databases, store, job),
         Err(UnopenedStore { report, rest }) => {
             let FileJob {

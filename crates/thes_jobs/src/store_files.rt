@@ -2,6 +2,7 @@
 ghost use Rattle.std.specs.Prelude.{◌≡◌, IfErr, IfOk, option_map};
 ghost use Rattle.sqlite.specs.Files.{over_files};
 ghost use Rattle.sqlite_wal.specs.Files.{image_at};
+ghost use Rattle.thes_sqlite.specs.Faults.{IsKeeperFault};
 ghost use Rattle.thes_jobs.specs.Databases.{ClosesFrom, KeepsImage, OpensFrom, files_of_left};
 
 use sqlite::{Connection, FileFrom, FileStore, Leftover, Start, Unknown};
@@ -60,17 +61,14 @@ pub fn open_database_files<S: Start>(
     }
 }
 
-/// Closes a database and returns its files; None after an error. The log holds the changes of every
-/// request that was answered; if it can't be copied into the file now, the next run copies it.
-pub fn close_database_files<D: Disk + Drop>(conn: Connection<FileStore<D>>) -> Option<Files<D>>
+/// Closes a database and returns its files. The log holds the changes of every request that was
+/// answered; if it can't be copied into the file now, the next run copies it.
+pub fn close_database_files<D: Disk + Drop>(conn: Connection<FileStore<D>>) -> Files<D>
     ensures { ClosesFrom D.Disk conn result }
 {
     match close_files(conn) {
-        Ok(files) => Some(files),
-        Err(left) => {
-            drop(left);
-            None
-        }
+        Ok(files) => files,
+        Err((_, store)) => store.close(),
     }
 }
 
@@ -85,7 +83,9 @@ fn identity_of(rt: &HostRuntime, path: &str) -> Option<(u64, u64)> {
 
 /// Returns whether the names of the files next to a store's file are too long for the system. The
 /// longest of these names, that of SQLite's journal, decides.
-pub fn has_long_name(rt: &HostRuntime, file: &str) -> Result<bool, Fault> {
+pub fn has_long_name(rt: &HostRuntime, file: &str) -> Result<bool, Fault>
+    ensures { IfErr result (λ fault. fault ≡ Fault.OutOfMemory) }
+{
     let journal = format!(in rt.alloc(); "{file}-journal")?;
     match fs::symlink_metadata(rt, journal.as_str()) {
         Ok(_) => Ok(false),
@@ -107,7 +107,9 @@ pub struct StoreFiles<'r, S> {
 impl<'r, S> StoreFiles<'r, S> {
     /// Records the identities of the store's files, which the caller's connection has open. The
     /// fault `Store` means that the file's full path isn't found.
-    pub(crate) fn new(rt: &'r HostRuntime, file: &str) -> Result<StoreFiles<'r, S>, Fault> {
+    pub(crate) fn new(rt: &'r HostRuntime, file: &str) -> Result<StoreFiles<'r, S>, Fault>
+        ensures { IfErr result IsKeeperFault }
+    {
         let Ok(path) = fs::canonicalize(rt, file) else {
             return Err(Fault::Store);
         };

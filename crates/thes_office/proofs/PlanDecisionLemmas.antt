@@ -3,9 +3,10 @@
 use Rattle.std.proofs.lemmas.Grind.{common_steps}
 use Rattle.std.proofs.Common.{◌≡◌, ◌<◌, ◌≤◌, ◌+◌, ◌++◌, ◌∷◌, [], ◌∙◌, ℕ, suc, List, false, refl, sym, ap}
 use Rattle.std.proofs.Common.{subst, take, drop, length, length-append, arith, inl}
-use Rattle.std.specs.Prelude.{None, Some, slice_get}
+use Rattle.std.specs.Prelude.{None, Some, slice_get, Bool, Result, Ok, Err, OnErr}
 use Rattle.std.specs.List.{AllByRecursion}
 use Rattle.thes_base.specs.declared.data.Limits.{Limits}
+use Rattle.thes_base.specs.declared.fault.Fault.{Fault}
 use Rattle.thes_base.specs.declared.fault.Refusal.{Refusal}
 use Rattle.thes_base.specs.declared.request.Answer.{Answer}
 use Rattle.thes_base.specs.declared.request.Answer.TheVariants as reply
@@ -19,7 +20,10 @@ use Rattle.thes_base.proofs.MachineLemmas.{legal_is_consistent}
 use Rattle.thes_plans.specs.declared.plan.PlanOutcome.{PlanOutcome}
 use Rattle.thes_plans.specs.declared.plan.PlanOutcome.TheVariants.{Done, Refused}
 use Rattle.thes_plans.specs.declared.plan.PlanRequest.{PlanRequest}
+use Rattle.thes_plans.specs.declared.plan.PlanRun.{PlanRun}
+use Rattle.thes_plans.specs.declared.plan.PlanRun.TheVariants.{Perform, Try}
 use Rattle.thes_plans.specs.Plans.{IsNoRefusal, PlanAccepted}
+use Rattle.thes_plans.specs.Reports.{IsReported}
 use Rattle.thes_plans.specs.Resolving.{resolved_command, resolved_commands}
 use Rattle.thes_plans.proofs.PlanLemmas.{all_push, refused_stays, resolved_push}
 use Rattle.thes_tables.specs.declared.change.Change.{Change}
@@ -28,17 +32,20 @@ use Rattle.thes_tables.specs.Cells.{Raw, cells_of_tables}
 use Rattle.thes_tables.specs.ChangeLaw.{AreChangesBetween}
 use Rattle.thes_tables.specs.Rows.{tables_after_delta}
 use Rattle.thes_tables.specs.Tables.{IsRowsOf, Tables}
+use Rattle.thes_tables.proofs.CellLemmas.{listed_one}
 use Rattle.thes_tables.proofs.DeltaAppendLemmas.{all_append}
 use Rattle.thes_store.specs.Storage.{StorageView}
 use Rattle.thes_core.specs.CoreView.{CoreView, with_histories}
 use Rattle.thes_core.specs.UndoLogs.{IsLogOf, IsTakenBack, IsUndoStep, StepsLead}
 use Rattle.thes_core.specs.declared.undo_log.UndoStep.{UndoStep}
 use Rattle.thes_plan_postings.specs.PlanPostings.{AreNumbered, ArePlanRows}
+use Rattle.thes_office.specs.declared.plan.AskedPlan.{AskedPlan}
 use Rattle.thes_office.specs.declared.plan.PlanProgress.{PlanProgress}
-use Rattle.thes_office.specs.Office.{ChangesNothing, IsConsistent, IsCopy}
-use Rattle.thes_office.specs.PlanDecisions.{DecidesRequest, IsDecidedInPlan, PlanDecided, PlanDecidedSoFar}
-use Rattle.thes_office.specs.PlanDecisions.{PlanIsRefused, refusal_in}
+use Rattle.thes_office.specs.Office.{ChangesNothing, IsConsistent, IsCopy, OfficeView}
+use Rattle.thes_office.specs.PlanDecisions.{DecidesRequest, EndsPlan, IsDecidedInPlan, PlanDecided}
+use Rattle.thes_office.specs.PlanDecisions.{PlanDecidedSoFar, PlanIsAccepted, PlanIsRefused, ReportsPlan, refusal_in}
 use Rattle.thes_office.specs.Plans.{TablesAfterPlan}
+use Rattle.thes_office.specs.Reports.{PlanWithChanges, ReportPlanResult, tables_after_run}
 use Rattle.thes_office.specs.TablesOfState.{TablesOfState}
 use Rattle.thes_office.proofs.GroupLemmas.{changes_then, no_changes}
 use Rattle.thes_office.proofs.OfficeViewLemmas.{all_parts, run_push}
@@ -225,6 +232,17 @@ module _ (old new : Raw) (setting : Setting) (plan : List PlanRequest) (answers 
   }
   plan_is_done (Refused place refusal) all = absurd all
 
+  -- The rows of the tables after the plan are those before it with its changes.
+  pub plan_with_changes : (outcome : PlanOutcome) → PlanAnswers outcome answers
+      → PlanWithChanges setting.limits old plan outcome changes new
+  unfolding plan_is_done
+  plan_with_changes (Done given) all = record {
+    performs = plan_is_done (Done given) all;
+    rows = made g.shows.tables g.shows.rows;
+    none = λ nothing. g.same (subst (AllByRecursion ChangesNothing) all nothing);
+  }
+  plan_with_changes (Refused place refusal) all = absurd all
+
   pub copy_after_plan : IsCopy new setting.limits copy
   copy_after_plan = record {
     limits_are = ap (λ (q : Setting). q.limits) is;
@@ -248,6 +266,14 @@ module _ (old new : Raw) (setting : Setting) (plan : List PlanRequest) (place : 
     same = λ none. same;
   }
 
+  pub refusal_without_changes : PlanWithChanges setting.limits old plan (Refused place refusal) [] new
+  unfolding plan_is_refused
+  refusal_without_changes = record {
+    performs = plan_is_refused;
+    rows = same ∙ g.shows.rows;
+    none = λ nothing. refl;
+  }
+
   pub copy_after_refusal : copy.spent ≡ false → copy.setting ≡ setting → IsCopy new setting.limits copy
   copy_after_refusal unspent is = record {
     limits_are = ap (λ (q : Setting). q.limits) is;
@@ -257,6 +283,70 @@ module _ (old new : Raw) (setting : Setting) (plan : List PlanRequest) (place : 
         (same_tables_same_state old new setting.base g.state_before same g.shows);
   }
 
+-- Assumes that a plan is accepted, and then ended: its changes are committed, or it is only tried and taken back.
+module _ (old mid new : StorageView) (setting : Setting) (plan : List PlanRequest) (answers : List Answer)
+    (changes : List Change) (log : List UndoStep) (copy copy' : CoreView)
+    (g : PlanIsAccepted old.rows setting plan answers changes log copy) (is : copy.setting ≡ setting)
+    (same : mid.rows ≡ old.rows) (up : new.is_up) where
+  -- The rows that a commit would leave.
+  abbrev next : Raw
+  next = cells_of_tables (tables_after_delta changes g.decided.shows.tables)
+
+  made_next : (t : Tables) → old.rows ≡ cells_of_tables t → next ≡ cells_of_tables (tables_after_delta changes t)
+  made_next t at = ap (λ (u : Tables). cells_of_tables (tables_after_delta changes u))
+      (listed_one g.decided.shows.tables t (sym g.decided.shows.rows ∙ at))
+
+  pub plan_ends : (run : PlanRun) → EndsPlan run mid new changes log copy copy' → (outcome : PlanOutcome)
+      → PlanAnswers outcome answers → (later : Raw) × PlanWithChanges setting.limits old.rows plan outcome changes later
+      × (new.rows ≡ tables_after_run run old.rows later)
+  plan_ends Perform ends outcome all = (
+    new.rows,
+    plan_with_changes old.rows new.rows setting plan answers changes copy g.decided is
+        (λ t at. ends.1 up t (same ∙ at)) outcome all,
+    refl,
+  )
+  plan_ends Try ends outcome all = (
+    next,
+    plan_with_changes old.rows next setting plan answers changes copy g.decided is made_next outcome all,
+    ends.1 up ∙ same,
+  )
+
+  pub copy_after_end : (run : PlanRun) → EndsPlan run mid new changes log copy copy' → copy'.spent ≡ false
+      → IsCopy new.rows setting.limits copy'
+  copy_after_end Perform ends unspent = subst (IsCopy new.rows setting.limits) (sym ends.0)
+      (copy_after_plan old.rows new.rows setting plan answers changes copy g.decided is
+      (λ t at. ends.1 up t (same ∙ at)))
+  copy_after_end Try ends unspent = let back = ends.0 unspent in record {
+    limits_are = ap (λ (q : Setting). q.limits) (back.0 ∙ is);
+    state = g.decided.state_before;
+    holds = back.1 g.decided.state_before g.decided.state_after
+        (subst (λ (q : Setting). StepsLead (IsUndoStep q) g.decided.state_before log g.decided.state_after) (sym is)
+        g.steps) g.decided.holds;
+    shows = subst (λ (q : Setting). TablesOfState new.rows q.base g.decided.state_before) (sym (back.0 ∙ is))
+        (same_tables_same_state old.rows new.rows setting.base g.decided.state_before (ends.1 up ∙ same)
+        g.decided.shows);
+  }
+
+-- The tables after a plan encode a state, whether it is performed or only tried.
+pub tables_after_report : (limits : Limits) (old later new : Raw) (run : PlanRun) (plan : List PlanRequest)
+    (outcome : PlanOutcome) (changes : List Change) → PlanWithChanges limits old plan outcome changes later
+    → new ≡ tables_after_run run old later → (base : List ℕ) × (s : State) × TablesOfState new base s
+tables_after_report limits old later new Perform plan outcome changes p is = (
+  p.performs.base,
+  p.performs.state_after,
+  same_tables_same_state later new p.performs.base p.performs.state_after is p.performs.shows,
+)
+tables_after_report limits old later new Try plan outcome changes p is = (
+  p.performs.base,
+  p.performs.state_before,
+  same_tables_same_state old new p.performs.base p.performs.state_before is p.performs.tables_before,
+)
+
+-- A refused plan leaves the tables unchanged, whether it is performed or only tried.
+pub refusal_leaves : (run : PlanRun) (old new : Raw) → new ≡ old → new ≡ tables_after_run run old new
+refusal_leaves Perform old new same = refl
+refusal_leaves Try old new same = same
+
 -- The place of a request in its plan, counted from 1, is at least 1 and at most the length of the plan.
 pub place_counts : (place n i : ℕ) → place ≡ n + 1 → n ≡ i → (plan : List PlanRequest) → i < length plan
     → (0 < place) × (place ≤ length plan)
@@ -264,15 +354,34 @@ place_counts place n i is count plan within = (omega arith, omega arith)
 
 module _ {K : Type 0} (view : K → StorageView) where
   -- After a plan the office is consistent: its copy is stale exactly if the core is unusable.
-  pub consistent_after_plan : (old new : K) (copy : CoreView) (limits own : Limits) (plan : List PlanRequest)
-      (outcome : PlanOutcome) → AreLimits limits
-      → ((view new).is_up → TablesAfterPlan own (view old).rows plan outcome (view new).rows)
+  pub consistent_after_plan : (old new : K) (copy : CoreView) (limits own : Limits) (asked : AskedPlan)
+      (outcome : PlanOutcome) (changes : List Change) → AreLimits limits
+      → ReportsPlan asked (view old) (view new) own (Ok outcome) changes
       → (copy.spent ≡ false → (view new).is_up → IsCopy (view new).rows limits copy)
       → IsConsistent view new copy limits copy.spent
-  consistent_after_plan old new copy limits own plan outcome limits_fit performs copies = record {
+  consistent_after_plan old new copy limits own asked outcome changes limits_fit reports copies = record {
     limits_fit = limits_fit;
-    shows = λ up. let p = performs up in (p.base, p.state_after, p.shows);
+    shows = λ up. let p = reports up in tables_after_report own (view old).rows p.0 (view new).rows asked.run
+        asked.requests.items outcome changes p.1 p.2;
     unspent = λ fresh. fresh;
     copies = copies;
     why = λ spent. inl spent;
   }
+
+  -- What is reported of a plan over a reloaded copy is also so of the office before the reload.
+  pub report_since : {R : Type 0} (adds : R → List Change → R → Type 0) (report report' : R) (old : OfficeView K)
+      (keeper new : K) (limits own : Limits) (stale : Bool) (asked : AskedPlan) (result : Result PlanOutcome Fault)
+      → limits ≡ old.limits → ((view new).is_up → own ≡ limits)
+      → ((view new).is_up → (view keeper).rows ≡ (view old.keeper).rows)
+      → (OnErr result ((view new).is_up → (view new).rows ≡ (view keeper).rows))
+      → IsReported adds report result report' (ReportsPlan asked (view keeper) (view new) own result)
+      → IsReported adds report result report' (λ changes. ReportPlanResult view old asked.run asked.requests.items
+      result changes (record { keeper = new; limits = limits; stale = stale }))
+  report_since adds report report' old keeper new limits own stale asked (Ok outcome) are fits same unchanged x = (
+    x.0,
+    x.1,
+    λ up. subst (λ (p : Limits × Raw). (later : Raw) × PlanWithChanges p.0 p.1 asked.requests.items outcome x.0 later
+        × ((view new).rows ≡ tables_after_run asked.run p.1 later)) (λ i. ((fits up ∙ are) i, same up i)) (x.2 up),
+  )
+  report_since adds report report' old keeper new limits own stale asked (Err fault) are fits same unchanged x =
+      (x.0, λ up. unchanged up ∙ same up)

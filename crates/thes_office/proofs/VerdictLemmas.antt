@@ -1,6 +1,6 @@
 -- Proves what follows from a verdict on a request, decided on a current copy with the facts in the tables.
 use Rattle.std.proofs.lemmas.Grind.{common_steps}
-use Rattle.std.proofs.Common.{◌≡◌, false, inl, refl, sym, ap, subst, ◌∙◌, Bool, List, arith}
+use Rattle.std.proofs.Common.{◌≡◌, false, inl, refl, [], sym, ap, subst, ◌∙◌, Bool, List, arith}
 use Rattle.std.specs.Prelude.{Result, Ok, OnOk}
 use Rattle.thes_base.specs.declared.data.Limits.{Limits}
 use Rattle.thes_base.specs.declared.fault.Fault.{Fault}
@@ -23,9 +23,11 @@ use Rattle.thes_core.specs.CoreView as core
 use Rattle.thes_core.specs.CoreView.{IsViewOf}
 use Rattle.thes_core.specs.Facts.{AreFacts}
 use Rattle.thes_office.specs.QueryFrames.{FactsInTables}
-use Rattle.thes_office.specs.Office.{IsConsistent, IsCopy, OfficeView, PerformResult, SameTables, TablesAfterStep}
+use Rattle.thes_office.specs.Office.{ChangesNothing, IsConsistent, IsCopy, OfficeView, PerformResult, SameTables}
+use Rattle.thes_office.specs.Office.{TablesAfterStep}
+use Rattle.thes_office.specs.Reports.{ReportResult}
 use Rattle.thes_office.proofs.StateTableLemmas.{changes_fit}
-use Rattle.thes_office.proofs.StepLemmas.{copies_accepted, steps_accepted, steps_settled}
+use Rattle.thes_office.proofs.StepLemmas.{accepted_changes, copies_accepted, steps_accepted, steps_settled}
 
 module _ {K : Type 0} (view : K → StorageView) (keeper : K) (copy : core.CoreView)
     (limits : Limits) (stale : Bool) (office : OfficeView K)
@@ -66,6 +68,13 @@ module _ {K : Type 0} (view : K → StorageView) (keeper : K) (copy : core.CoreV
       (steps_settled copy.setting (view keeper).rows (current_copy up).state command answer (current_copy up).shows
       (subst (IsVerdict copy.setting (current_copy up).state command) settles (right up)))))
 
+  pub reported_when_settled : (old : OfficeView K) (answer : Answer) → office.limits ≡ old.limits
+      → SameTables view old office → verdict ≡ Settled answer
+      → ReportResult view old command (Ok answer) [] office
+  reported_when_settled old answer limits_are same settles up =
+      let step = performed_when_settled old answer limits_are same settles up in
+      record { step = step; rows = same up ∙ step.tables_before.rows; none = λ nothing. refl }
+
   module _ (answer : Answer) (changes : List Change) (accepts : verdict ≡ Accepted answer changes) where
     grants : (up : (view keeper).is_up) → AcceptedVerdict copy.setting (current_copy up).state command answer changes
     grants up = subst (IsVerdict copy.setting (current_copy up).state command) accepts (right up)
@@ -96,6 +105,23 @@ module _ {K : Type 0} (view : K → StorageView) (keeper : K) (copy : core.CoreV
           → PerformResult view old command (Ok answer) (record { keeper = new; limits = limits; stale = later })
       performed_when_accepted old later limits_are same up =
           step_since old answer (view new).rows limits_are same (was up) (step_when_accepted up)
+
+      -- The tables since before a call that left them unchanged.
+      rows_since : (old : OfficeView K) → SameTables view old office → (view new).is_up
+          → (view keeper).rows ≡ (view old.keeper).rows
+      rows_since old same up = subst (λ (d : OfficeView K). (view d.keeper).is_up → (view d.keeper).rows
+          ≡ (view old.keeper).rows) (sym is) same (was up)
+
+      pub reported_when_accepted : (old : OfficeView K) (later : Bool) → office.limits ≡ old.limits
+          → SameTables view old office
+          → ReportResult view old command (Ok answer) changes (record { keeper = new; limits = limits; stale = later })
+      reported_when_accepted old later limits_are same up =
+          let step = performed_when_accepted old later limits_are same up in record {
+            step = step;
+            rows = made up step.tables_before.tables (rows_since old same up ∙ step.tables_before.rows);
+            none = λ nothing. absurd (accepted_changes command (current_copy (was up)).state
+                (subst ChangesNothing (grants (was up)).answer_is nothing));
+          }
 
       -- After the commit and the change of the copy, a usable copy holds the next state.
       pub consistent_when_accepted : {A : Type 0} (copy' : core.CoreView) (result : Result A Fault) (later : Bool)

@@ -6,8 +6,9 @@ pub mod FoundStates
 pub mod Opening
 pub mod Groups
 pub mod PlanFacts
-pub mod PlanDecisions
 pub mod Plans
+pub mod Reports
+pub mod PlanDecisions
 pub mod LoaderView
 pub mod LoadedCore
 pub mod LoaderFeed

@@ -1,10 +1,11 @@
 //! The commit of what a group or a plan has decided: its answers and changes of rows (`Decided`).
-ghost use Rattle.std.specs.Prelude.{◌≡◌, ◌++◌, ◌∷◌, [], OnOk};
+ghost use Rattle.std.specs.Prelude.{◌≡◌, ◌++◌, ◌∷◌, [], OnOk, OnErr, IfErr};
 ghost use Rattle.thes_store.specs.Storage.{CommitFrame, DeltaFitsStorage, RawAfterChanges};
 
 use std::alloc::AllocError;
 use thes_base::fault::Fault;
 use thes_base::request::Answer;
+use thes_plans::report::ChangeReport;
 use thes_store::keeper::Keeper;
 use thes_tables::delta::Delta;
 
@@ -37,6 +38,16 @@ fn append_changes(delta: &mut Delta, more: Delta) -> Result<(), AllocError>
     for change in more.into_changes() {
         delta.push(change)?;
     }
+    Ok(())
+}
+
+/// Adds changes of rows to a report; if memory runs out, the report is unchanged.
+pub fn report_changes<R: ChangeReport>(report: &mut R, delta: &Delta) -> Result<(), Fault>
+    ensures ok { OnOk result (R.adds report.old delta.now report.new) }
+    ensures err { OnErr result (report.new ≡ report.old) }
+    ensures fault { IfErr result (λ fault. fault ≡ Fault.OutOfMemory) }
+{
+    report.add(delta.as_slice())?;
     Ok(())
 }
 

@@ -7,8 +7,11 @@ ghost use Rattle.thes_office.specs.FoundStates.{FindsLegalState, IsFaultOfFound}
 ghost use Rattle.thes_office.specs.Groups.{GroupResult, IsGroup};
 ghost use Rattle.thes_office.specs.Opening.{IsOpened, IsUnopened};
 ghost use Rattle.thes_office.specs.QueryFrames.{FactsInTables};
+ghost use Rattle.thes_office.specs.Reports.{ReportResult};
+ghost use Rattle.thes_plans.specs.Reports.{IsReported};
 ghost use Rattle.thes_office.specs.TablesOfState.{TablesOfState};
 
+use crate::commit::report_changes;
 use crate::facts::facts_of;
 use crate::group::{group_length, perform_group};
 use crate::keeper_load::load;
@@ -18,6 +21,7 @@ use thes_base::data::Limits;
 use thes_base::fault::Fault;
 use thes_base::request::{Answer, Command};
 use thes_core::{Core, Facts, Verdict};
+use thes_plans::report::{ChangeReport, NoReport};
 use thes_store::keeper::Keeper;
 
 /// The storage of the tables, with a copy of their vocabulary, links and counts in memory.
@@ -135,10 +139,26 @@ impl<K: Keeper> Office<K> {
         ensures fault_behaviour { FaultBehaviour K.view self.old self.new result }
         ensures performed { PerformResult K.view self.old command.now result self.new }
     {
+        self.report(command, &mut NoReport)
+    }
+
+    /// Performs a request, as `perform` does, and reports its changes of rows, in the order in
+    /// which they are made, before they are committed; so memory for the report never runs out
+    /// after the commit. If it runs out before, nothing is changed.
+    pub fn report<R: ChangeReport>(
+        &mut self,
+        command: &Command,
+        report: &mut R,
+    ) -> Result<Answer, Fault>
+        ensures fault_behaviour { FaultBehaviour K.view self.old self.new result }
+        ensures reported { IsReported R.adds report.old result report.new
+            (λ changes. ReportResult K.view self.old command.now result changes self.new) }
+    {
         let facts = self.gather_facts(command)?;
         match self.core.decide(command, &facts)? {
             Verdict::Settled(answer) => Ok(answer),
             Verdict::Accepted(answer, delta) => {
+                report_changes(report, &delta)?;
                 if let Err(fault) = self.keeper.commit(delta) {
                     self.stale = fault == Fault::Store;
                     return Err(fault);

@@ -1,13 +1,16 @@
-//! `Office::run_plan`, which performs a plan and answers it.
+//! `Office::run_plan` and `Office::report_plan`, which perform plans or try them, and answer them.
 ghost use Rattle.std.specs.Prelude.{IfOk};
 ghost use Rattle.thes_plans.specs.Plans.{HasEachAnswer};
+ghost use Rattle.thes_plans.specs.Reports.{IsReported};
 ghost use Rattle.thes_office.specs.Office.{FaultBehaviour};
 ghost use Rattle.thes_office.specs.Plans.{RunPlanResult};
+ghost use Rattle.thes_office.specs.Reports.{ReportPlanResult};
 
 use crate::office::Office;
-use crate::plan::perform_plan;
+use crate::plan::{AskedPlan, perform_plan};
 use thes_base::fault::Fault;
-use thes_plans::plan::{PlanOutcome, PlanRequest};
+use thes_plans::plan::{PlanOutcome, PlanRequest, PlanRun};
+use thes_plans::report::{ChangeReport, NoReport};
 use thes_store::keeper::Keeper;
 
 impl<K: Keeper> Office<K> {
@@ -21,8 +24,30 @@ impl<K: Keeper> Office<K> {
         ensures performed { RunPlanResult K.view self.old plan.items result self.new }
         ensures each { IfOk result (λ outcome. HasEachAnswer plan.items outcome) }
     {
+        self.report_plan(PlanRun::Perform, plan, &mut NoReport)
+    }
+
+    /// Performs a plan, as `run_plan` does, or only tries it: then its outcome and its changes are
+    /// those that it would have, and the tables are unchanged. The changes of rows, in the order in
+    /// which they are made, are reported before they are committed, so that memory for the report
+    /// never runs out after a commit; if it runs out before, nothing is changed.
+    pub fn report_plan<R: ChangeReport>(
+        &mut self,
+        run: PlanRun,
+        plan: Vec<PlanRequest>,
+        report: &mut R,
+    ) -> Result<PlanOutcome, Fault>
+        ensures fault_behaviour { FaultBehaviour K.view self.old self.new result }
+        ensures reported { IsReported R.adds report.old result report.new
+            (λ changes. ReportPlanResult K.view self.old run plan.items result changes self.new) }
+        ensures each { IfOk result (λ outcome. HasEachAnswer plan.items outcome) }
+    {
         self.refresh()?;
-        match perform_plan(self.alloc, &mut self.keeper, &mut self.core, plan) {
+        let asked = AskedPlan {
+            run,
+            requests: plan,
+        };
+        match perform_plan(self.alloc, &mut self.keeper, &mut self.core, asked, report) {
             Ok(outcome) => {
                 self.stale = self.core.is_spent();
                 Ok(outcome)

@@ -8,20 +8,22 @@ ghost use Rattle.thes_base.specs.State.{State};
 ghost use Rattle.thes_core.specs.CoreView.{IsViewOf};
 ghost use Rattle.thes_core.specs.Facts.{AreFacts};
 ghost use Rattle.thes_core.specs.UndoLogs.{IsLogOf};
-ghost use Rattle.thes_store.specs.Storage.{CommitFrame, QueryFrame};
+ghost use Rattle.thes_plans.specs.Reports.{IsReported};
+ghost use Rattle.thes_store.specs.Storage.{CommitFrame, DeltaFitsStorage, QueryFrame};
 ghost use Rattle.thes_office.specs.Office.{IsCopy};
-ghost use Rattle.thes_office.specs.PlanDecisions.{DecidesRequest, HasEachDecision, IsDecidedAndLogged};
-ghost use Rattle.thes_office.specs.PlanDecisions.{IsPlanDecision, IsUsableAfter, MayDecidePlan, refusal_in};
-ghost use Rattle.thes_office.specs.Plans.{TablesAfterPlan};
+ghost use Rattle.thes_office.specs.PlanDecisions.{DecidesRequest, EndsPlan, HasEachDecision, HasLogOf};
+ghost use Rattle.thes_office.specs.PlanDecisions.{IsDecidedAndLogged, IsPlanDecision, IsUsableAfter};
+ghost use Rattle.thes_office.specs.PlanDecisions.{MayDecidePlan, ReportsPlan, refusal_in};
 
-use crate::commit::{Decided, commit_changes};
+use crate::commit::{Decided, commit_changes, report_changes};
 use crate::plan_facts::facts_in_plan;
 use std::alloc::Global;
 use thes_base::fault::{Fault, Refusal};
 use thes_base::request::{Answer, Command};
 use thes_core::{Core, Facts, UndoLog, Verdict};
 use thes_plan_postings::plan_postings::PlanPostings;
-use thes_plans::plan::{PlanOutcome, PlanRequest};
+use thes_plans::plan::{PlanOutcome, PlanRequest, PlanRun};
+use thes_plans::report::ChangeReport;
 use thes_plans::resolving::resolve;
 use thes_store::keeper::Keeper;
 use thes_tables::change::Change;
@@ -38,11 +40,19 @@ pub struct PlanProgress {
     log: UndoLog,
 }
 
+/// A plan, and whether it is performed or only tried.
+#[derive(Drop)]
+pub struct AskedPlan {
+    pub run: PlanRun,
+    pub requests: Vec<PlanRequest>,
+}
+
 /// The decision on a plan, before anything is committed.
 #[derive(Drop)]
 pub enum PlanDecision {
-    /// The answers to all requests, and their changes of rows.
-    Accepted(Vec<Answer>, Delta),
+    /// The answers to all requests, their changes of rows, and the log by which the core can take
+    /// them back.
+    Accepted(Vec<Answer>, Delta, UndoLog),
     /// The place of the first refused request, counted from 1, and its refusal.
     Refused(usize, Refusal),
 }
@@ -185,6 +195,7 @@ fn decide_plan<K: Keeper>(
         → IsPlanDecision (K.view keeper.old).rows core.old.setting plan.items decision core.new) }
     ensures each { IfOk result (HasEachDecision plan.items) }
     ensures usable { IfOk result (IsUsableAfter core.old core.new) }
+    ensures logs { IfOk result (HasLogOf core.new) }
     ensures asks { QueryFrame (K.view keeper.old) (K.view keeper.new) result }
 {
     let answers = Vec::with_capacity(alloc, plan.len())?;
@@ -210,37 +221,67 @@ fn decide_plan<K: Keeper>(
     let PlanProgress {
         decided,
         postings: _,
-        log: _,
+        log,
     } = progress;
     let Decided { answers, delta } = decided;
-    Ok(PlanDecision::Accepted(answers, delta))
+    Ok(PlanDecision::Accepted(answers, delta, log))
 }
 
-/// Performs the requests of a plan in order: each is decided in the state that the core holds after
-/// those before it. If none is refused, their changes are committed in one transaction. If one is
-/// refused, those before it are taken back in the core, or the core is unusable until reloaded. On
-/// a fault the core is unusable. After a refusal or a fault the tables are unchanged, if the
+// Commits the changes of an accepted plan, or, if the plan is only tried, takes it back in the
+// core, which is unusable if that fails.
+fn end_plan<K: Keeper>(
+    keeper: &mut K,
+    core: &mut Core,
+    run: PlanRun,
+    delta: Delta,
+    log: &UndoLog,
+) -> Result<(), Fault>
+    requires fits { DeltaFitsStorage delta (K.view keeper.old) }
+    requires unspent { core.old.spent ≡ false }
+    requires logged { IsLogOf log.now core.old }
+    ensures ends { OnOk result (EndsPlan run (K.view keeper.old) (K.view keeper.new) delta log.now
+        core.old core.new) }
+    ensures keeps { CommitFrame (K.view keeper.old) (K.view keeper.new) result }
+{
+    match run {
+        PlanRun::Perform => commit_changes(keeper, delta),
+        PlanRun::Try => {
+            core.take_back(log);
+            Ok(())
+        }
+    }
+}
+
+/// Performs or tries the requests of a plan in order: each is decided in the state that the core
+/// holds after those before it. If none is refused, their changes are reported, and then committed
+/// in one transaction; if the plan is only tried, the requests are taken back in the core. If one
+/// is refused, those before it are taken back. The core is unusable until reloaded if taking back
+/// fails, or after a fault. After a refusal, a fault or a try the tables are unchanged, if the
 /// storage is still up.
-pub fn perform_plan<K: Keeper>(
+pub fn perform_plan<K: Keeper, R: ChangeReport>(
     alloc: Global,
     keeper: &mut K,
     core: &mut Core,
-    plan: Vec<PlanRequest>,
+    asked: AskedPlan,
+    report: &mut R,
 ) -> Result<PlanOutcome, Fault>
     requires { MayDecidePlan (K.view keeper.old) core.old }
-    ensures ok { let limits = core.old.setting.limits in
-        IfOk result (λ outcome. (K.view keeper.new).is_up
-        → TablesAfterPlan limits (K.view keeper.old).rows plan.items outcome
-        (K.view keeper.new).rows) }
+    ensures reported { IsReported R.adds report.old result report.new
+        (ReportsPlan asked (K.view keeper.old) (K.view keeper.new) core.old.setting.limits result) }
     ensures copies { OnOk result (core.new.spent ≡ false → (K.view keeper.new).is_up
         → IsCopy (K.view keeper.new).rows core.old.setting.limits core.new) }
-    ensures each { IfOk result (HasEachAnswer plan.items) }
+    ensures each { IfOk result (HasEachAnswer asked.requests.items) }
     ensures spent { OnErr result (core.new.spent ≡ true) }
     ensures keeps { CommitFrame (K.view keeper.old) (K.view keeper.new) result }
 {
-    match decide_plan(alloc, keeper, core, plan) {
-        Ok(PlanDecision::Accepted(answers, delta)) => {
-            if let Err(fault) = commit_changes(keeper, delta) {
+    let AskedPlan { run, requests } = asked;
+    match decide_plan(alloc, keeper, core, requests) {
+        Ok(PlanDecision::Accepted(answers, delta, log)) => {
+            if let Err(fault) = report_changes(report, &delta) {
+                core.mark_spent();
+                return Err(fault);
+            }
+            if let Err(fault) = end_plan(keeper, core, run, delta, &log) {
                 core.mark_spent();
                 return Err(fault);
             }

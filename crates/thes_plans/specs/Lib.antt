@@ -3,3 +3,4 @@ pub mod Resolving
 pub mod Plans
 pub mod Entries
 pub mod Laws
+pub mod Reports

@@ -8,4 +8,5 @@
 pub mod laws;
 pub mod plan;
 pub mod references;
+pub mod report;
 pub mod resolving;

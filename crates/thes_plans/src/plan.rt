@@ -1,4 +1,4 @@
-//! The requests of a plan, and its outcome.
+//! The requests of a plan, whether it is performed or only tried, and its outcome.
 use thes_base::fault::Refusal;
 use thes_base::request::{Answer, Command};
 
@@ -21,6 +21,16 @@ pub struct PlanRequest {
     /// For each posting that a Split lists, the place of the request that makes the posting, or
     /// `None` if the listed number stays; empty for any other command.
     pub postings: Vec<Option<u32>>,
+}
+
+/// Whether a plan is performed or only tried.
+#[derive(Clone, Copy, Debug, PartialEq, Eq)]
+pub enum PlanRun {
+    /// The plan is performed: its changes are committed if no request is refused.
+    Perform,
+    /// The plan is tried: its outcome and its changes are those that it would have if it were
+    /// performed, and nothing is changed.
+    Try,
 }
 
 /// The outcome of a plan, which is accepted or refused as a whole.

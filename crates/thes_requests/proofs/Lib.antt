@@ -2,6 +2,8 @@ pub mod GrammarLemmas
 pub mod ObjectLemmas
 pub mod TreeLemmas
 pub mod PlanTextLemmas
+pub mod ChangeTextLemmas
+pub mod ReportWriteLemmas
 pub mod ReferenceLemmas
 pub mod UnchangedLemmas
 pub mod MemberLemmas
@@ -12,3 +14,5 @@ pub mod LineBufferLemmas
 pub mod LineLemmas
 pub mod ScriptLemmas
 pub mod NumeralLemmas
+pub mod EachLemmas
+pub mod ElementLemmas

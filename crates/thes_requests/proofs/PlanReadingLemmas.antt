@@ -45,7 +45,7 @@ same_items (d ∷ ds) (e ∷ es) h =
     let one = same_item d e (items_of ds) (items_of es) h in
     let rest = same_items ds es one.1 in cc
 
-same_array : (ds es : Items) → array ds ≡ array es → ds ≡ es
+pub same_array : (ds es : Items) → array ds ≡ array es → ds ≡ es
 same_array ds es h = cc
 
 -- An array that may be a plan has from 1 to 128 values.

@@ -6,7 +6,7 @@ use Rattle.std.specs.List.{join_with_byte}
 use Rattle.thes_base.specs.declared.request.Answer.{Answer}
 use Rattle.thes_requests.specs.PlanTexts.{item_text, items_text, separator_before}
 
-join_more : (xs : List (List ℕ)) (x : List ℕ) → join_with_byte 44 (xs ++ x ∷ [])
+pub join_more : (xs : List (List ℕ)) (x : List ℕ) → join_with_byte 44 (xs ++ x ∷ [])
     ≡ join_with_byte 44 xs ++ (separator_before (length xs) ++ x)
 join_more [] x = refl
 join_more (y ∷ []) x = refl

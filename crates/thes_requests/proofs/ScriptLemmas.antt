@@ -19,7 +19,8 @@ use Rattle.thes_requests.specs.LineBuffer.{ConsumesPartOfLine, IsLineTooLong, Is
 use Rattle.thes_base.specs.PipeFrames.{ReadFrame}
 use Rattle.thes_requests.specs.Serving.{LineBehaviour}
 use Rattle.thes_requests.specs.Script.{StepLine, RunLines, AreAllowed, lines_limit, EndsLine, raw_lines, ServesLines}
-use Rattle.thes_requests.specs.Script.{outcome_text, script_text, end_after_outcome, end_of_outcomes, end_without_lines}
+use Rattle.thes_requests.specs.Script.{outcome_text, script_text, end_of_outcomes}
+use Rattle.thes_requests.specs.ScriptEnds.{end_after_outcome, end_without_lines}
 use Rattle.thes_requests.specs.Script.{Session, session, StopsWithinAnswer, ExceedsLimits, IsCause, Completes, Stops}
 use Rattle.thes_requests.specs.ScriptSteps.{OutcomeWritten, StopsWithOutcome, ScriptProgress}
 use Rattle.thes_requests.specs.declared.script.ScriptEnd.{ScriptEnd}

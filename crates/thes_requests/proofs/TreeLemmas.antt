@@ -2,7 +2,7 @@
 -- represent.
 use Rattle.std.proofs.lemmas.Grind.{common_steps}
 use Rattle.std.proofs.Common.{arith, ◌≡◌, ℕ, ◌+◌, ◌<◌, ◌≤◌, List, [], ◌∷◌, ◌++◌, Bool, length, map, take, drop}
-use Rattle.std.proofs.Common.{slice_index_or, Option, Some, option_map, is_some, false, Vec, Global, Bor, cond, bytes_eq, refl}
+use Rattle.std.proofs.Common.{slice_index_or, Option, Some, is_some, false, Vec, Global, Bor, cond, bytes_eq, refl}
 use Rattle.std.proofs.Common.{sym, ap, ◌∙◌, subst, add-one, rules}
 use Rattle.std.proofs.lemmas.List.{take-append-drop, take_more}
 use Rattle.std.proofs.lemmas.Slice.Eq.{bytes_eq-Decides}
@@ -38,6 +38,12 @@ members_view-push es e = members_view-append es (e ∷ [])
 get_member-push : (name : List ℕ) (es : List Entry) (e : Entry) → get_member name (members_view (es ++ e ∷ []))
     ≡ cond (bytes_eq name e.0.now) (Some (view e.1)) (get_member name (members_view es))
 get_member-push name es e = grind (arith, common_steps, members_view-push, get_after_put)
+
+-- A look-up finds the last member, if it has the name, or else looks among those before it.
+pub get_member-popped : (name : List ℕ) (es before : List Entry) (e : Entry) (b : Bool) → es ≡ before ++ e ∷ []
+    → bytes_eq name e.0.now ≡ b
+    → get_member name (members_view es) ≡ cond b (Some (view e.1)) (get_member name (members_view before))
+get_member-popped name es before e b is same = grind (arith, common_steps, get_member-push)
 
 -- Names of different lengths aren't equal.
 pub other_length : (name other : List ℕ) → (length name ≡ length other → ⊥) → bytes_eq name other ≡ false

@@ -1,12 +1,15 @@
 -- Laws of reading requests and plans: bytes have one meaning as a request, and at most one as a plan.
-use Rattle.std.specs.Prelude.{◌≡◌, ℕ, List, [], ◌∷◌, Option, Result, Ok, Err}
+use Rattle.std.specs.Prelude.{◌≡◌, ℕ, List, [], ◌∷◌, Option, Some, Result, Ok, Err}
 use Rattle.serde_json.specs.Data.{Data}
+use Rattle.thes_base.specs.declared.fault.Fault.{Fault}
 use Rattle.thes_base.specs.declared.fault.FormFault.{FormFault}
 use Rattle.thes_plans.specs.declared.plan.PlanRequest.{PlanRequest}
 use Rattle.thes_requests.specs.PlanReadings.{OptionReadsAs}
 use Rattle.thes_requests.specs.Readings.{ReadsAs}
 use Rattle.thes_requests.specs.Requests.{request_of}
 use Rattle.thes_requests.specs.declared.plan.PlanFault.{PlanFault}
+use Rattle.thes_requests.specs.declared.plan_reply.PlanReply.{PlanReply}
+use Rattle.thes_requests.specs.declared.plan_reply.PlanReply.TheVariants.{Reported}
 use Rattle.thes_requests.specs.declared.request.Request.{Request}
 
 -- Bytes have at most one meaning: one request, or one form fault.
@@ -46,3 +49,13 @@ abbrev pub OnePlanReading : Type 0
 OnePlanReading =
     (value : Option Data) (x y : Result (List PlanRequest) PlanFault)
     → OptionReadsAs value x → OptionReadsAs value y → SameReading x y
+
+-- Two replies are the same, but for the changes of rows that their reports list.
+abbrev pub SameReply : PlanReply → PlanReply → Type 0
+SameReply (Reported r) (Reported q) = (r.answers ≡ q.answers) × (r.end ≡ q.end)
+SameReply r q = r ≡ q
+
+-- The reply is a report whose last answer is a fault.
+abbrev pub EndsInFault : PlanReply → Type 0
+EndsInFault (Reported report) = (fault : Fault) × (report.end.fault ≡ Some fault)
+EndsInFault reply = ⊥

@@ -7,10 +7,15 @@ pub mod MemberReadings
 pub mod References
 pub mod PlanReadings
 pub mod AnswerTexts
+pub mod ChangeTexts
+pub mod ScriptEnds
 pub mod PlanTexts
+pub mod PlanForms
+pub mod LineTexts
 pub mod LineBuffer
 pub mod RequestBehaviour
 pub mod Serving
+pub mod EachSteps
 pub mod Script
 pub mod ScriptSteps
 pub mod Laws

@@ -1,7 +1,7 @@
 -- The meaning of the bytes of a plan: its requests, or the first fault. Four rules are checked in this order: the bytes
 -- are JSON; the value is an array of 1 to 128 values; each of these is a request, checked from first to last; each
 -- reference is to an earlier request that makes what is referred to.
-use Rattle.std.specs.Prelude.{◌≡◌, ◌<◌, ◌≤◌, ◌+◌, ◌++◌, ℕ, Bool, true, false, List, [], ◌∷◌, length, codes, Option, None}
+use Rattle.std.specs.Prelude.{◌≡◌, ◌<◌, ◌≤◌, ◌+◌, ◌++◌, ℕ, List, [], ◌∷◌, length, codes, Option, None}
 use Rattle.std.specs.Prelude.{Some, option_and_then, Result, Ok, Err, Vec}
 use Rattle.std.specs.declared.alloc.Global.{Global}
 use Rattle.serde_json.specs.Data.{Data, array}
@@ -99,11 +99,6 @@ OptionReadsAs (Some d) outcome = PlanValueReadsAs d outcome
 -- The bytes, read as a plan, have this outcome: the requests, or the first fault.
 abbrev pub PlanReadsAs : List ℕ → Result (List PlanRequest) PlanFault → Type 0
 PlanReadsAs bytes outcome = OptionReadsAs (json_in bytes) outcome
-
--- Whether there is a JSON value, and it is an array.
-abbrev pub is_array_value : Option Data → Bool
-is_array_value (Some (array ds)) = true
-is_array_value _ = false
 
 -- The result of reading a plan is an outcome for which `Reads` holds, or memory ran out.
 abbrev pub GivesPlan : (Result (List PlanRequest) PlanFault → Type 0) → Result (Vec PlanRequest Global) PlanStop

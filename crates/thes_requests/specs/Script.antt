@@ -1,6 +1,6 @@
 -- Scripts: one request or plan a line, each answered with a line before the next one is performed.
 use Rattle.std.specs.Prelude.{◌≡◌, ◌⊎◌, ◌≤◌, ◌↔◌, ℕ, ◌==◌, ◌||◌, Bool, true, false, if◌then◌else◌, List, [], ◌∷◌}
-use Rattle.std.specs.Prelude.{◌++◌, length, take, flat_map, fold, Option, Some, None, Result, MatchResult}
+use Rattle.std.specs.Prelude.{◌++◌, length, take, flat_map, fold, Option, Result, MatchResult}
 use Rattle.std.specs.List.{list_all, slice_split, All}
 use Rattle.std.specs.Str.Lines.{lines}
 use Rattle.std.specs.Io.KnownBytes.{Appends, Consumes, IsAtEnd}
@@ -9,14 +9,12 @@ use Rattle.thes_base.specs.declared.fault.Fault.TheVariants.{OutOfMemory}
 use Rattle.thes_base.specs.declared.fault.PipeFault.{PipeFault}
 use Rattle.thes_base.specs.declared.fault.PipeFault.TheVariants.{Read, Write, TooLong, Fault}
 use Rattle.thes_base.specs.declared.pipe.Pipe.{Pipe}
-use Rattle.thes_base.specs.declared.request.Answer.TheVariants as answer
 use Rattle.thes_requests.specs.AnswerTexts.{reply_text}
 use Rattle.thes_requests.specs.LineBuffer.{has_newline, line_limit}
-use Rattle.thes_requests.specs.Serving.{LineBehaviour, line_answer_text}
+use Rattle.thes_requests.specs.ScriptEnds.{end_after_outcome, end_without_lines}
+use Rattle.thes_requests.specs.LineTexts.{line_answer_text}
+use Rattle.thes_requests.specs.Serving.{LineBehaviour}
 use Rattle.thes_requests.specs.declared.answer.Reply.TheVariants as reply
-use Rattle.thes_requests.specs.declared.plan_reply.PlanReply.TheVariants as plan
-use Rattle.thes_requests.specs.declared.line_serving.LineAnswer.{LineAnswer}
-use Rattle.thes_requests.specs.declared.line_serving.LineAnswer.TheVariants.{Reply, View, Plan}
 use Rattle.thes_requests.specs.declared.line_serving.LineOutcome.{LineOutcome}
 use Rattle.thes_requests.specs.declared.line_serving.LineOutcome.TheVariants.{Skipped, Unheld, Answered}
 use Rattle.thes_requests.specs.declared.script.ScriptEnd.{ScriptEnd}
@@ -79,26 +77,6 @@ outcome_text (Answered o) = line_answer_text o
 -- The output of a script: the answers to its lines.
 abbrev pub script_text : List LineOutcome → List ℕ
 script_text line_outcomes = flat_map outcome_text line_outcomes
-
--- The end of a script after another answer: records a refusal, a form fault or a fault.
-abbrev pub end_after_answer : ScriptEnd → LineAnswer → ScriptEnd
-end_after_answer e (Reply (reply.Answer (answer.No r))) = record e { refused = true }
-end_after_answer e (Reply (reply.Answer a)) = e
-end_after_answer e (Reply (reply.Bad f)) = record e { refused = true }
-end_after_answer e (Reply (reply.Fault f)) = record e { fault = Some f }
-end_after_answer e (View text) = e
-end_after_answer e (Plan (plan.Done line)) = e
-end_after_answer e (Plan reply) = record e { refused = true }
-
--- The end of a script after a line with this outcome: unchanged if it is skipped.
-abbrev pub end_after_outcome : ScriptEnd → LineOutcome → ScriptEnd
-end_after_outcome e Skipped = e
-end_after_outcome e Unheld = record e { fault = Some OutOfMemory }
-end_after_outcome e (Answered o) = end_after_answer e o
-
--- The end of a script without lines.
-abbrev pub end_without_lines : ScriptEnd
-end_without_lines = record { refused = false; fault = None }
 
 -- The end of a script after lines with these outcomes.
 abbrev pub end_of_outcomes : List LineOutcome → ScriptEnd

@@ -10,7 +10,8 @@ use Rattle.thes_base.specs.declared.pipe.Stop.{Stop}
 use Rattle.thes_requests.specs.LineBuffer.{bytes_left, ConsumesLine, FindsLineOrEnd, IsLineTooLong, StopsInLine}
 use Rattle.thes_requests.specs.Serving.{LineBehaviour}
 use Rattle.thes_requests.specs.Script.{ServesLines, EndsLine, Session, raw_lines, outcome_text, script_text}
-use Rattle.thes_requests.specs.Script.{end_after_outcome, end_of_outcomes, lines_limit}
+use Rattle.thes_requests.specs.Script.{end_of_outcomes, lines_limit}
+use Rattle.thes_requests.specs.ScriptEnds.{end_after_outcome}
 use Rattle.thes_requests.specs.declared.line_buffer.LineSearch.{LineSearch}
 use Rattle.thes_requests.specs.declared.line_buffer.LineSearch.TheVariants.{End}
 use Rattle.thes_requests.specs.declared.script_lines.ScriptLines.{ScriptLines}

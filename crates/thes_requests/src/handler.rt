@@ -1,6 +1,7 @@
 //! The trait of an object that performs commands and plans, and answers queries.
 ghost use Rattle.std.specs.Prelude.{◌≡◌, true, Bool, IfOk};
 ghost use Rattle.thes_plans.specs.Plans.{HasEachAnswer};
+ghost use Rattle.thes_plans.specs.Reports.{IsReported};
 ghost use Rattle.thes_requests.specs.RequestBehaviour.{RequestBehaviour};
 
 use crate::page::Page;
@@ -8,7 +9,8 @@ use crate::request::Query;
 use std::alloc::Global;
 use thes_base::fault::{Fault, Refusal};
 use thes_base::request::{Answer, Command};
-use thes_plans::plan::{PlanOutcome, PlanRequest};
+use thes_plans::plan::{PlanOutcome, PlanRequest, PlanRun};
+use thes_plans::report::ChangeReport;
 
 /// The answer to a request for a view or a display: its text, or the refusal of the number in the
 /// request.
@@ -32,6 +34,17 @@ pub trait RequestHandler {
         requires { is_open self.old ≡ true }
         ensures { requests.performs self.old command.now result self.new };
 
+    /// Performs a command, and returns its answer. Its changes of rows are added to the report
+    /// before they are made.
+    fn report<R: ChangeReport>(
+        &mut self,
+        command: &Command,
+        report: &mut R,
+    ) -> Result<Answer, Fault>
+        requires { is_open self.old ≡ true }
+        ensures { IsReported R.adds report.old result report.new
+            (λ changes. requests.reports self.old command.now result changes self.new) };
+
     /// Answers a query with the line of a view, or with a refusal.
     fn show(&mut self, alloc: Global, query: &Query) -> Result<QueryAnswer, Fault>
         requires { is_open self.old ≡ true }
@@ -42,6 +55,19 @@ pub trait RequestHandler {
     fn perform_plan(&mut self, plan: Vec<PlanRequest>) -> Result<PlanOutcome, Fault>
         requires { is_open self.old ≡ true }
         ensures performs { requests.performs_plan self.old plan.items result self.new }
+        ensures each { IfOk result (λ outcome. HasEachAnswer plan.items outcome) };
+
+    /// Performs or only tries a plan, and returns its outcome. Its changes of rows are added to the
+    /// report before they are made; those of a plan that is tried aren't made.
+    fn report_plan<R: ChangeReport>(
+        &mut self,
+        run: PlanRun,
+        plan: Vec<PlanRequest>,
+        report: &mut R,
+    ) -> Result<PlanOutcome, Fault>
+        requires { is_open self.old ≡ true }
+        ensures reported { IsReported R.adds report.old result report.new
+            (λ changes. requests.reports_plan self.old run plan.items result changes self.new) }
         ensures each { IfOk result (λ outcome. HasEachAnswer plan.items outcome) };
 
     /// Returns whether the handler accepts plans from scripts and connections.

@@ -3,6 +3,8 @@
 #![tactic(auto)]
 
 pub mod answer;
+mod change_list;
+mod each;
 pub mod handler;
 mod keywords;
 pub mod laws;
@@ -12,6 +14,7 @@ mod members;
 mod numeral;
 pub mod page;
 pub mod plan;
+mod plan_form;
 pub mod plan_reply;
 pub mod plan_serving;
 mod references;

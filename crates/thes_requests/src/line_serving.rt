@@ -12,9 +12,9 @@ use crate::answer::{Reply, reply_line};
 use crate::handler::{QueryAnswer, RequestHandler};
 use crate::line_buffer::LineSearch;
 use crate::page::Page;
-use crate::plan::plan_in;
+use crate::plan_form::is_plan_value;
 use crate::plan_reply::PlanReply;
-use crate::plan_serving::perform_read_plan;
+use crate::plan_serving::serve_plan_value;
 use crate::request::{Request, request_in};
 use crate::tree::{JsonScratch, Value, parse_json};
 use std::alloc::Global;
@@ -33,8 +33,8 @@ pub enum LineAnswer {
 }
 
 impl LineAnswer {
-    // Returns the answer or fault of a command as a reply.
-    fn for_command(given: Result<Answer, Fault>) -> LineAnswer
+    /// Returns the answer or fault of a command as a reply.
+    pub(crate) fn for_command(given: Result<Answer, Fault>) -> LineAnswer
         ensures { result ≡ command_answer given }
     {
         match given {
@@ -43,8 +43,8 @@ impl LineAnswer {
         }
     }
 
-    // Returns the line of a view, or the refusal or fault of its query as a reply.
-    fn for_query(given: Result<QueryAnswer, Fault>) -> LineAnswer
+    /// Returns the line of a view, or the refusal or fault of its query as a reply.
+    pub(crate) fn for_query(given: Result<QueryAnswer, Fault>) -> LineAnswer
         ensures { result ≡ query_answer given }
     {
         match given {
@@ -54,8 +54,8 @@ impl LineAnswer {
         }
     }
 
-    // Returns the form fault of a line that isn't a request, or `OutOfMemory`, as a reply.
-    fn for_stop(stop: ReadStop) -> LineAnswer
+    /// Returns the form fault of a line that isn't a request, or `OutOfMemory`, as a reply.
+    pub(crate) fn for_stop(stop: ReadStop) -> LineAnswer
         ensures { result ≡ stop_answer stop }
     {
         match stop {
@@ -138,7 +138,7 @@ fn serve_request<D: RequestHandler>(alloc: Global, handler: &mut D, value: Value
     }
 }
 
-// Reads the plan in a JSON value, and performs it. If the value isn't a plan, performs nothing.
+// Performs or tries the requests in a JSON value. If the value isn't a plan, performs nothing.
 fn serve_plan_line<D: RequestHandler>(
     alloc: Global,
     handler: &mut D,
@@ -149,12 +149,11 @@ fn serve_plan_line<D: RequestHandler>(
         → is_plan_line (D.requests.takes_plans handler.old) line ≡ true
         → Serves D.requests handler.old line result handler.new }
 {
-    let plan = plan_in(alloc, value);
-    LineAnswer::for_plan(perform_read_plan(alloc, handler, plan))
+    LineAnswer::for_plan(serve_plan_value(alloc, handler, value))
 }
 
-// Answers a line that isn't blank: a plan if it is an array and the handler takes plans, else a
-// request.
+// Answers a line that isn't blank: a plan if it is an array, or an object with a member of plans,
+// and the handler takes plans; else a request.
 fn answer_line<D: RequestHandler>(
     memory: &mut JsonScratch,
     handler: &mut D,
@@ -166,7 +165,7 @@ fn answer_line<D: RequestHandler>(
     let alloc = memory.alloc;
     match parse_json(alloc, line, &mut memory.scratch) {
         Ok(value) => {
-            if handler.takes_plans() && value.as_array().is_some() {
+            if handler.takes_plans() && is_plan_value(&value) {
                 serve_plan_line(alloc, handler, value)
             } else {
                 serve_request(alloc, handler, value)
@@ -177,7 +176,7 @@ fn answer_line<D: RequestHandler>(
 }
 
 /// Serves a line of a script: skips a blank one, and performs the request in any other, or the plan
-/// if the line is an array and the handler takes plans. Nothing is performed for a line with a form
+/// if the line has one and the handler takes plans. Nothing is performed for a line with a form
 /// fault, or for one that didn't fit into memory.
 pub fn serve_line<D: RequestHandler>(
     memory: &mut JsonScratch,

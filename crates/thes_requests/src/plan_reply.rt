@@ -1,13 +1,17 @@
 //! Replies to plans as lines of JSON.
-ghost use Rattle.std.specs.Prelude.{◌≡◌, ◌≤◌, ◌+◌, ◌*◌, ◌++◌, [], length, codes, false, IfOk, OnOk, OnErr, vec_capacity, vec_len};
+ghost use Rattle.std.specs.Prelude.{◌≡◌, ◌≤◌, ◌+◌, ◌*◌, ◌++◌, [], List, length, codes, false, IfOk, OnOk, OnErr, vec_capacity, vec_len};
 ghost use Rattle.std.specs.Io.KnownBytes.{Appends};
 ghost use Rattle.thes_base.specs.Pipe.{failed_of, written_bytes, AppendsPrefix};
 ghost use Rattle.thes_base.specs.PipeFrames.{WriteFrame};
-ghost use Rattle.thes_requests.specs.PlanTexts.{answers_text, item_text, items_text, place_text, plan_fault_text, plan_refusal_text, plan_reply_text, reply_of_outcome, separator_before, IsRoomFor};
+ghost use Rattle.thes_tables.specs.declared.change.Change.{Change};
+ghost use Rattle.thes_requests.specs.ChangeTexts.{AddsItems, list_opening};
+ghost use Rattle.thes_requests.specs.PlanTexts.{answers_text, item_text, items_text, place_text, plan_fault_text, plan_refusal_text, plan_reply_text, reply_of_outcome, report_text, reported_outcome, separator_before, IsRoomFor};
 
 use crate::answer::{Reply, reply_line};
+use crate::change_list::ChangeList;
 use crate::page::Page;
 use crate::plan::PlanFault;
+use crate::script::ScriptEnd;
 use crate::short_line::ShortLine;
 use std::alloc::{AllocError, Global};
 use std::io::Write;
@@ -19,18 +23,45 @@ use thes_plans::plan::PlanOutcome;
 // The greatest length of the line of an answer in bytes.
 const ANSWER_LIMIT: usize = 72;
 
-/// The reply to a plan: the line of the answers to all its requests, the refusal of one of them, or
-/// the reason why the text isn't a plan.
+/// A report of requests: the changes of rows that they make, their answers, and a summary of these.
+#[derive(Drop)]
+pub struct Report {
+    /// The beginning of the line, with the changes.
+    pub changes: Page,
+    /// The rest of the line, with the answers.
+    pub answers: Page,
+    /// Which kinds of answers there are.
+    pub end: ScriptEnd,
+}
+
+impl Report {
+    /// Writes the line of the report with two calls to the pipe; allocates nothing.
+    fn write<W: Write>(&self, writer: &mut Pipe<W>, budget: &mut Budget) -> Result<(), Stop>
+        requires { failed_of writer.old ≡ false }
+        ensures ok { OnOk result (Appends (written_bytes W.contents writer.old)
+            (written_bytes W.contents writer.new) (report_text self.now)) }
+        ensures err { OnErr result (AppendsPrefix (written_bytes W.contents writer.old)
+            (written_bytes W.contents writer.new) (report_text self.now)) }
+        ensures frame { WriteFrame writer.old writer.new budget.old budget.new result }
+    {
+        writer.write_all(budget, self.changes.as_bytes())?;
+        writer.write_all(budget, self.answers.as_bytes())
+    }
+}
+
+/// The reply to a plan: the line of the answers to all its requests, perhaps with their changes of
+/// rows; the refusal of one of them; or the reason why the text isn't a plan.
 #[derive(Drop)]
 pub enum PlanReply {
     Done(Page),
+    Reported(Report),
     /// The place of the first request that is refused, counted from 1, and its refusal.
     Refused(usize, Refusal),
     Bad(PlanFault),
 }
 
 impl PlanReply {
-    /// Writes the line of the reply with one call to the pipe; allocates nothing.
+    /// Writes the line of the reply; allocates nothing.
     pub fn write<W: Write>(&self, writer: &mut Pipe<W>, budget: &mut Budget) -> Result<(), Stop>
         requires { failed_of writer.old ≡ false }
         ensures ok { OnOk result (Appends (written_bytes W.contents writer.old)
@@ -41,6 +72,7 @@ impl PlanReply {
     {
         match self {
             PlanReply::Done(line) => writer.write_all(budget, line.as_bytes()),
+            PlanReply::Reported(report) => report.write(writer, budget),
             PlanReply::Refused(place, refusal) => {
                 writer.write_all(budget, plan_refusal_line(*place, *refusal).as_bytes())
             }
@@ -106,9 +138,9 @@ pub fn plan_fault_line(fault: PlanFault) -> ShortLine
     }
 }
 
-// Appends bytes to the line of a reply to a plan. The line's capacity must suffice, so that no
-// memory is allocated.
-fn append(line: &mut Vec<u8>, bytes: &[u8])
+/// Appends bytes to the line of a reply to a plan. The line's capacity must suffice, so that no
+/// memory is allocated.
+pub fn append(line: &mut Vec<u8>, bytes: &[u8])
     requires { vec_len line.old + length bytes.now ≤ vec_capacity line.old }
     ensures items { line.new.items ≡ line.old.items ++ bytes.now }
     ensures len { vec_len line.new ≡ vec_len line.old + length bytes.now }
@@ -131,8 +163,8 @@ fn append_answer(line: &mut Vec<u8>, answer: Answer)
     append(line, &bytes[..bytes.len().saturating_sub(1)]);
 }
 
-// Appends the comma before the answer at this index, or nothing before the first, at 0.
-fn append_separator(line: &mut Vec<u8>, index: usize)
+/// Appends the comma before the answer at this index, or nothing before the first, at 0.
+pub fn append_separator(line: &mut Vec<u8>, index: usize)
     requires { vec_len line.old + 1 ≤ vec_capacity line.old }
     ensures items { line.new.items ≡ line.old.items ++ separator_before index }
     ensures len { vec_len line.new ≤ vec_len line.old + 1 }
@@ -156,29 +188,29 @@ fn append_answers(line: &mut Vec<u8>, answers: &[Answer])
     }
 }
 
-// Returns the line of these answers to a plan, in the memory of `room`, whose capacity must
-// suffice.
-fn answers_line(room: Vec<u8>, answers: &[Answer]) -> Page
+// Returns the end of a line that begins with `opening`, of these answers to a plan, in the memory
+// of `room`, whose capacity must suffice.
+fn answers_page(room: Vec<u8>, opening: &[u8], answers: &[Answer]) -> Page
     requires empty { room.items ≡ [] }
-    requires room { 72 * length answers.now + 12 ≤ vec_capacity room }
-    ensures { result ≡ answers_text answers.now }
+    requires room { 72 * length answers.now + length opening.now + 3 ≤ vec_capacity room }
+    ensures { result ≡ opening.now ++ items_text answers.now ++ codes "]}\n" }
 {
     let mut bytes = room;
-    append(&mut bytes, b"{\"done\":[");
+    append(&mut bytes, opening);
     append_answers(&mut bytes, answers);
     append(&mut bytes, b"]}\n");
     Page::new(bytes)
 }
 
-/// Reserves memory for the line of the answers to `count` requests: 72 bytes for each, and 12 more.
+/// Reserves memory for the line of the answers to `count` requests: 72 bytes for each, and 13 more.
 pub fn room_for_answers(alloc: Global, count: usize) -> Result<Vec<u8>, AllocError>
     ensures empty { IfOk result (λ room. room.items ≡ []) }
-    ensures room { IfOk result (λ room. 72 * count + 12 ≤ vec_capacity room) }
+    ensures room { IfOk result (λ room. 72 * count + 13 ≤ vec_capacity room) }
 {
     let Some(answers) = count.checked_mul(ANSWER_LIMIT) else {
         return Err(AllocError);
     };
-    let Some(size) = answers.checked_add(12) else {
+    let Some(size) = answers.checked_add(13) else {
         return Err(AllocError);
     };
     Vec::with_capacity(alloc, size)
@@ -192,7 +224,27 @@ pub fn reply_in_room(room: Vec<u8>, outcome: PlanOutcome) -> PlanReply
     ensures { result ≡ reply_of_outcome outcome }
 {
     match outcome {
-        PlanOutcome::Done(answers) => PlanReply::Done(answers_line(room, &answers)),
+        PlanOutcome::Done(answers) => {
+            PlanReply::Done(answers_page(room, b"{\"done\":[", &answers))
+        }
+        PlanOutcome::Refused(place, refusal) => PlanReply::Refused(place, refusal),
+    }
+}
+
+/// Returns the reply for the outcome of a plan whose changes were added to `list`. The answers are
+/// written into `room`, the memory that `room_for_answers` reserved.
+pub fn report_in_room(room: Vec<u8>, list: ChangeList, outcome: PlanOutcome) -> PlanReply
+    requires empty { room.items ≡ [] }
+    requires room { IsRoomFor (vec_capacity room) outcome }
+    ensures { (changes : List Change) → AddsItems list_opening changes list
+        → result ≡ reported_outcome changes outcome }
+{
+    match outcome {
+        PlanOutcome::Done(answers) => PlanReply::Reported(Report {
+            changes: list.into_page(),
+            answers: answers_page(room, b"],\"done\":[", &answers),
+            end: ScriptEnd::new(),
+        }),
         PlanOutcome::Refused(place, refusal) => PlanReply::Refused(place, refusal),
     }
 }

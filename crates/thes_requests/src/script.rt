@@ -1,7 +1,8 @@
 //! Scripts: one request or plan a line, each answered with a line before the next one is performed.
 ghost use Rattle.std.specs.Prelude.{◌≡◌, true, IfOk, IfErr, OnOk};
 ghost use Rattle.thes_base.specs.Pipe.{IsFresh, PaysCalls, KeepsSharedCallLimit};
-ghost use Rattle.thes_requests.specs.Script.{end_after_outcome, end_without_lines, session, EndsScript, IsFreshSession};
+ghost use Rattle.thes_requests.specs.Script.{session, EndsScript, IsFreshSession};
+ghost use Rattle.thes_requests.specs.ScriptEnds.{end_after_answer, end_after_outcome, end_after_report, end_without_lines};
 ghost use Rattle.thes_requests.specs.Serving.{Serves};
 ghost use Rattle.thes_requests.specs.ScriptSteps.{OutcomeWritten, StopsWithOutcome};
 
@@ -9,7 +10,7 @@ use crate::answer::Reply;
 use crate::handler::RequestHandler;
 use crate::line_buffer::LineSearch;
 use crate::line_serving::{LineAnswer, LineOutcome, serve_line};
-use crate::plan_reply::PlanReply;
+use crate::plan_reply::{PlanReply, Report};
 use crate::script_lines::ScriptLines;
 use crate::tree::JsonScratch;
 use std::alloc::Global;
@@ -28,8 +29,8 @@ pub struct ScriptEnd {
 }
 
 impl ScriptEnd {
-    // Returns the end of a script without lines: no refusal and no fault.
-    fn new() -> ScriptEnd
+    /// Returns the end of a script without lines: no refusal and no fault.
+    pub(crate) fn new() -> ScriptEnd
         ensures { result ≡ end_without_lines }
     {
         ScriptEnd {
@@ -38,26 +39,39 @@ impl ScriptEnd {
         }
     }
 
-    // Records the outcome of a script's line: that its answer is a refusal or a form fault, or the
-    // fault that replaces its answer.
+    /// Records an answer: that it is a refusal or a form fault, or the fault that replaces it.
+    pub(crate) fn note_answer(&mut self, answer: &LineAnswer)
+        ensures { self.new ≡ end_after_answer self.old answer.now }
+    {
+        match answer {
+            LineAnswer::Reply(Reply::Answer(Answer::No(_)) | Reply::Bad(_))
+            | LineAnswer::Plan(PlanReply::Refused(..) | PlanReply::Bad(_)) => self.refused = true,
+            LineAnswer::Reply(Reply::Fault(fault)) => self.fault = Some(*fault),
+            LineAnswer::Plan(PlanReply::Reported(report)) => self.note_report(report),
+            LineAnswer::Reply(Reply::Answer(_))
+            | LineAnswer::View(_)
+            | LineAnswer::Plan(PlanReply::Done(_)) => {}
+        }
+    }
+
+    // Records the answers in a report.
+    fn note_report(&mut self, report: &Report)
+        ensures { self.new ≡ end_after_report self.old report.now.end }
+    {
+        self.refused = self.refused || report.end.refused;
+        if let Some(fault) = report.end.fault {
+            self.fault = Some(fault);
+        }
+    }
+
+    // Records the outcome of a script's line: its answer, or that memory for the line ran out.
     fn note(&mut self, outcome: &LineOutcome)
         ensures { self.new ≡ end_after_outcome self.old outcome.now }
     {
         match outcome {
-            LineOutcome::Answered(
-                LineAnswer::Reply(Reply::Answer(Answer::No(_)) | Reply::Bad(_))
-                | LineAnswer::Plan(PlanReply::Refused(..) | PlanReply::Bad(_)),
-            ) => self.refused = true,
-            LineOutcome::Answered(LineAnswer::Reply(Reply::Fault(fault))) => {
-                self.fault = Some(*fault)
-            }
+            LineOutcome::Answered(answer) => self.note_answer(answer),
             LineOutcome::Unheld => self.fault = Some(Fault::OutOfMemory),
-            LineOutcome::Skipped
-            | LineOutcome::Answered(
-                LineAnswer::Reply(Reply::Answer(_))
-                | LineAnswer::View(_)
-                | LineAnswer::Plan(PlanReply::Done(_)),
-            ) => {}
+            LineOutcome::Skipped => {}
         }
     }
 }

@@ -125,8 +125,8 @@ module _ {K : Type 0} (view : K → StorageView) (takes : Bool) where
       (all_answered old x.0 before x.1 reached)
 
   -- Any number of connections leads the office through a run of the machine.
-  pub connections_lead : (most : ℕ) (old new : OfficeView K) → ((view old.keeper).is_up → (base : List ℕ) × (s : State)
-      × TablesOfState (view old.keeper).rows base s × IsConsistentState base s) → LeadsBy Office most old new
+  pub connections_lead : (count : ℕ) (old new : OfficeView K) → ((view old.keeper).is_up → (base : List ℕ) × (s : State)
+      × TablesOfState (view old.keeper).rows base s × IsConsistentState base s) → LeadsBy Office count old new
       → IsReached old new
-  connections_lead most old new shows leads = all_answered old new leads.exchanges leads.answered
+  connections_lead count old new shows leads = all_answered old new leads.exchanges leads.answered
       (led_start view old shows)

@@ -1,6 +1,5 @@
 -- Proves that the bytes of requests, in their order, determine the responses of an office.
 use Rattle.std.proofs.Common.{◌≡◌, ◌∙◌, ◌∷◌, [], ℕ, Bool, List, inl, inr, refl, sym, subst, map, length, append-nil}
-use Rattle.std.proofs.Common.{arith}
 use Rattle.thes_base.specs.Headline.{IsConsistentState}
 use Rattle.thes_base.specs.Refusals.{Setting, AreLimits}
 use Rattle.thes_base.specs.State.{State}
@@ -9,6 +8,7 @@ use Rattle.thes_store.specs.Storage.{StorageView}
 use Rattle.thes_office.specs.Office.{OfficeView}
 use Rattle.thes_office.specs.TablesOfState.{TablesOfState, EncodeOneState}
 use Rattle.thes_http.specs.Server.{AreAnswered, Exchange}
+use Rattle.thes_http.specs.Laws.{SameResponse}
 use Rattle.thes_http.specs.Serving.{Answers}
 use Rattle.thes_service.specs.Laws.{ExchangesInState, HasOneListOfResponses, ReportsFailure}
 use Rattle.thes_service.specs.OfficeRequests.{IsReachedByRun}
@@ -25,7 +25,7 @@ module _ {K : Type 0} (view : K → StorageView) (takes : Bool) where
   exchanges_lead : (old new : OfficeView K) (exchanges : List Exchange) → Shows old
       → AreAnswered (office_behaviour view takes) old exchanges new → IsReachedByRun view old new
   exchanges_lead old new exchanges shows answered = connections_lead view takes (length exchanges) old new shows
-      (record { exchanges = exchanges; few = omega arith; answered = answered })
+      (record { exchanges = exchanges; counted = refl; answered = answered })
 
   -- If the storage is up after an exchange, it was up before.
   was_up : (old mid new : OfficeView K) (exchanges : List Exchange) (e : Exchange) → Shows old
@@ -86,7 +86,7 @@ module _ {K L : Type 0} (view : K → StorageView) (other : L → StorageView) w
       → Answers (office_behaviour other takes) mid' f.response new' f.bytes
       → (view new.keeper).is_up → (other new'.keeper).is_up
       → (¬ ReportsFailure e.response) → (¬ ReportsFailure f.response)
-      → (e ≡ f) × EncodeOneState setting.base (view new.keeper).rows (other new'.keeper).rows
+      → SameResponse e.response f.response × EncodeOneState setting.base (view new.keeper).rows (other new'.keeper).rows
   last_response takes setting few mid new mid' new' e f same limits limits' one a b up up' fine fine' =
       let bytes = sym same ∙ sym (append-nil e.bytes) in
       elim (one_office_answer view other takes setting few one.state mid new mid' new' e.response f.response e.bytes []
@@ -97,14 +97,14 @@ module _ {K L : Type 0} (view : K → StorageView) (other : L → StorageView) w
         answers = subst (Answers (office_behaviour other takes) mid' f.response new') bytes b;
         is_up = up';
       })) [
-        | inl r ↦ (λ i. record { bytes = same i; response = r.0 i }, r.1)
+        | inl r ↦ r
         | inr (inl failed) ↦ absurd (fine failed)
         | inr (inr failed) ↦ absurd (fine' failed)
       ]
 
   pub one_list_of_responses : HasOneListOfResponses view other
   one_list_of_responses takes setting few s old new old' new' [] [] same x y = (
-    refl,
+    tt,
     record {
       state = s;
       one = shows_without view takes setting s old new x;
@@ -127,4 +127,4 @@ module _ {K L : Type 0} (view : K → StorageView) (other : L → StorageView) w
       let last = last_response takes setting few mine.0 new theirs.0 new' e f bytes mine.2 theirs.2 rest.1 mine.3
       theirs.3
       x.is_up y.is_up fine.0 fine'.0 in
-      (λ i. last.0 i ∷ rest.0 i, last.1)
+      ((bytes, last.0, rest.0), last.1)

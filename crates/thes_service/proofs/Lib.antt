@@ -2,6 +2,8 @@ pub mod StateViewLemmas
 pub mod ScriptRunLemmas
 pub mod ConnectionRunLemmas
 pub mod PlanAnswerLemmas
+pub mod EffectLemmas
+pub mod EachAnswerLemmas
 pub mod MachineServiceLemmas
 pub mod SimulationLemmas
 pub mod OfficeAnswerLemmas

@@ -21,12 +21,20 @@ use Rattle.thes_plans.specs.Plans.{IsNoRefusal, IsPlanOutcome, PlanAccepted, Pla
 use Rattle.thes_plans.specs.Resolving.{resolved_command, resolved_commands, resolved_number, resolved_numbers, with_numbers}
 use Rattle.thes_requests.specs.declared.plan_reply.PlanReply.{PlanReply}
 use Rattle.thes_requests.specs.declared.plan_reply.PlanReply.TheVariants as planned
-use Rattle.thes_requests.specs.Laws.{SameAsked, SamePlans}
-use Rattle.thes_requests.specs.PlanTexts.{answers_text, reply_of_outcome}
+use Rattle.thes_plans.specs.declared.plan.PlanRun.{PlanRun}
+use Rattle.thes_plans.specs.declared.plan.PlanRun.TheVariants.{Perform, Try}
+use Rattle.thes_tables.specs.declared.change.Change.{Change}
+use Rattle.thes_requests.specs.Laws.{SameAsked, SamePlans, SameReply}
+use Rattle.thes_requests.specs.PlanTexts.{answers_text, reply_of_outcome, report_of_plan, reported_outcome}
 use Rattle.thes_requests.specs.RequestBehaviour.{RequestBehaviour}
-use Rattle.thes_requests.specs.PlanReadings.{OptionReadsAs}
-use Rattle.thes_requests.specs.Serving.{PerformsPlan, ServesPlan}
+use Rattle.thes_requests.specs.PlanReadings.{OptionReadsAs, PlanValueReadsAs}
+use Rattle.thes_requests.specs.Serving.{PerformsPlan, ReportsPlanRun, ServesArray, ServesReport}
 use Rattle.thes_requests.proofs.PlanReadingLemmas.{one_plan}
+
+-- The state after a plan that leads from the state `s` to `t`: that one if it is performed, `s` if it is only tried.
+abbrev pub state_after_run : PlanRun → State → State → State
+state_after_run Perform s t = t
+state_after_run Try s t = s
 
 -- The same request of a plan is resolved to the same command.
 same_command : (answers : List Answer) (a b : PlanRequest) → SameAsked a b
@@ -40,7 +48,7 @@ last_same [] x y e = cc
 last_same (z ∷ before) x y e = last_same before x y (let rest : before ++ x ∷ [] ≡ before ++ y ∷ [] = cc in rest)
 
 -- A run and one more step make a run.
-run_more : (setting : Setting) (s m t : State) (commands : List Command) (answers : List Answer) (command : Command)
+pub run_more : (setting : Setting) (s m t : State) (commands : List Command) (answers : List Answer) (command : Command)
     (answer : Answer) → Run setting s commands answers m → Step setting m command answer t
     → Run setting s (commands ++ command ∷ []) (answers ++ answer ∷ []) t
 run_more setting s m t [] [] command answer run step =
@@ -107,8 +115,9 @@ refused_rest setting m t before own (a ∷ plan) (x ∷ answers) asked refusal a
 
 module _ (setting : Setting) (fit : IsSetting setting) (s : State) (legal : IsLegalState setting.base s) where
   -- A step after a run has one answer, and leads to one state.
-  one_step_after : (commands : List Command) (before : List Answer) (m t u : State) → Run setting s commands before m
-      → (c d : Command) → c ≡ d → (x y : Answer) → Step setting m c x t → Step setting m d y u → (x ≡ y) × (t ≡ u)
+  pub one_step_after : (commands : List Command) (before : List Answer) (m t u : State)
+      → Run setting s commands before m → (c d : Command) → c ≡ d → (x y : Answer) → Step setting m c x t
+      → Step setting m d y u → (x ≡ y) × (t ≡ u)
   one_step_after commands before m t u run c d same x y a b =
       let b' = subst (λ (e : Command). Step setting m e y u) (sym same) b in
       let one = one_outcome setting fit s legal (commands ++ c ∷ []) (before ++ x ∷ []) (before ++ y ∷ []) t u
@@ -161,14 +170,18 @@ module _ (setting : Setting) (fit : IsSetting setting) (s : State) (legal : IsLe
           → entry_at plan place ≡ Some asked → slice_get plan n ≡ Some asked
       entry_before plan place n asked is at = subst (λ (k : ℕ). entry_at plan k ≡ Some asked) (is ∙ add-one n) at
 
-  -- The same plans have one outcome, and lead to one state.
+  -- The same plans have one outcome, and lead to one state. Their reports are the same, but for the changes listed.
   pub one_plan_outcome : (p q : List PlanRequest) → SamePlans p q → (o w : PlanOutcome) (t u : State)
       → IsPlanOutcome setting s p o t → IsPlanOutcome setting s q w u
       → (reply_of_outcome o ≡ reply_of_outcome w) × (t ≡ u)
+      × ((c e : List Change) → SameReply (reported_outcome c o) (reported_outcome e w))
   one_plan_outcome p q same (outcome.Done xs) (outcome.Done ys) t u x y =
       let one = one_rest p q same [] [] xs.items ys.items None None s t u refl (done_rest p xs.items t x)
-      (done_rest q ys.items u y) in
-      (ap (λ (zs : List Answer). planned.Done (answers_text zs)) one.0, one.2)
+      (done_rest q ys.items u y) in (
+        ap (λ (zs : List Answer). planned.Done (answers_text zs)) one.0,
+        one.2,
+        λ c e. (ap (λ (zs : List Answer). let r = report_of_plan [] zs in r.answers) one.0, refl),
+      )
   one_plan_outcome p q same (outcome.Done xs) (outcome.Refused place r) t u x (y, stays) =
       let one = one_rest p q same [] [] xs.items y.answers None (Some r) s t y.state_before refl
       (done_rest p xs.items t x) (no_rest q place r y) in
@@ -182,7 +195,7 @@ module _ (setting : Setting) (fit : IsSetting setting) (s : State) (legal : IsLe
       (no_rest p m r x) (no_rest q n k y) in
       let places : m ≡ n = x.place_is ∙ ap (λ (zs : List Answer). length zs + 1) one.0 ∙ sym y.place_is in
       let refusal : r ≡ k = (let both : Some r ≡ Some k = one.1 in cc) in
-      (λ i. planned.Refused (places i) (refusal i), stays ∙ sym keeps)
+      (λ i. planned.Refused (places i) (refusal i), stays ∙ sym keeps, λ c e i. planned.Refused (places i) (refusal i))
 
   one_performed : (d : RequestBehaviour State) → ((plan : List PlanRequest) (o : PlanOutcome) (t : State)
       → d.performs_plan s plan (Ok o) t → IsPlanOutcome setting s plan o t)
@@ -195,26 +208,100 @@ module _ (setting : Setting) (fit : IsSetting setting) (s : State) (legal : IsLe
       (is x.0 x.2.0 t x.2.1) (is y.0 y.2.0 u y.2.1) in
       (x.2.2 ∙ one.0 ∙ sym y.2.2, one.1)
 
-  -- A text that is read as a plan has one reply, and leads to one state, if each plan is performed as the machine does.
-  pub one_plan_reply : (d : RequestBehaviour State) → ((plan : List PlanRequest) (o : PlanOutcome) (t : State)
+  -- A text that is read as an array has one reply, and leads to one state, if each plan is performed as by the machine.
+  pub one_array_reply : (d : RequestBehaviour State) → ((plan : List PlanRequest) (o : PlanOutcome) (t : State)
       → d.performs_plan s plan (Ok o) t → IsPlanOutcome setting s plan o t)
       → (value : Option Data) (a b : PlanReply) (t u : State)
-      → ServesPlan d s value (Ok a) t → ServesPlan d s value (Ok b) u → (a ≡ b) × (t ≡ u)
-  one_plan_reply d is value (planned.Bad f) (planned.Bad g) t u x y =
+      → ServesArray d s value (Ok a) t → ServesArray d s value (Ok b) u → (a ≡ b) × (t ≡ u)
+  one_array_reply d is value (planned.Bad f) (planned.Bad g) t u x y =
       (ap planned.Bad (one_plan value (Err f) (Err g) x.0 y.0), x.1 ∙ sym y.1)
-  one_plan_reply d is value (planned.Bad f) (planned.Done b) t u x y =
+  one_array_reply d is value (planned.Bad f) (planned.Done b) t u x y =
       absurd (one_plan value (Err f) (Ok y.0) x.0 y.1)
-  one_plan_reply d is value (planned.Bad f) (planned.Refused n k) t u x y =
+  one_array_reply d is value (planned.Bad f) (planned.Refused n k) t u x y =
       absurd (one_plan value (Err f) (Ok y.0) x.0 y.1)
-  one_plan_reply d is value (planned.Done a) (planned.Bad g) t u x y =
+  one_array_reply d is value (planned.Bad f) (planned.Reported b) t u x y =
+      absurd (one_plan value (Err f) (Ok y.0) x.0 y.1)
+  one_array_reply d is value (planned.Done a) (planned.Bad g) t u x y =
       absurd (one_plan value (Ok x.0) (Err g) x.1 y.0)
-  one_plan_reply d is value (planned.Refused m r) (planned.Bad g) t u x y =
+  one_array_reply d is value (planned.Refused m r) (planned.Bad g) t u x y =
       absurd (one_plan value (Ok x.0) (Err g) x.1 y.0)
-  one_plan_reply d is value (planned.Done a) (planned.Done b) t u x y =
+  one_array_reply d is value (planned.Reported a) (planned.Bad g) t u x y =
+      absurd (one_plan value (Ok x.0) (Err g) x.1 y.0)
+  one_array_reply d is value (planned.Done a) (planned.Done b) t u x y =
       one_performed d is value (planned.Done a) (planned.Done b) t u x y
-  one_plan_reply d is value (planned.Done a) (planned.Refused n k) t u x y =
+  one_array_reply d is value (planned.Done a) (planned.Refused n k) t u x y =
       one_performed d is value (planned.Done a) (planned.Refused n k) t u x y
-  one_plan_reply d is value (planned.Refused m r) (planned.Done b) t u x y =
+  one_array_reply d is value (planned.Done a) (planned.Reported b) t u x y =
+      one_performed d is value (planned.Done a) (planned.Reported b) t u x y
+  one_array_reply d is value (planned.Refused m r) (planned.Done b) t u x y =
       one_performed d is value (planned.Refused m r) (planned.Done b) t u x y
-  one_plan_reply d is value (planned.Refused m r) (planned.Refused n k) t u x y =
+  one_array_reply d is value (planned.Refused m r) (planned.Refused n k) t u x y =
       one_performed d is value (planned.Refused m r) (planned.Refused n k) t u x y
+  one_array_reply d is value (planned.Refused m r) (planned.Reported b) t u x y =
+      one_performed d is value (planned.Refused m r) (planned.Reported b) t u x y
+  one_array_reply d is value (planned.Reported a) (planned.Done b) t u x y =
+      one_performed d is value (planned.Reported a) (planned.Done b) t u x y
+  one_array_reply d is value (planned.Reported a) (planned.Refused n k) t u x y =
+      one_performed d is value (planned.Reported a) (planned.Refused n k) t u x y
+  one_array_reply d is value (planned.Reported a) (planned.Reported b) t u x y =
+      one_performed d is value (planned.Reported a) (planned.Reported b) t u x y
+
+  -- A plan that is performed or tried, with its report, if the handler does it as the machine does.
+  abbrev ReportsAsMachine : RequestBehaviour State → PlanRun → Type 0
+  ReportsAsMachine d way = (plan : List PlanRequest) (o : PlanOutcome) (changes : List Change) (t : State)
+      → d.reports_plan s way plan (Ok o) changes t
+      → (u : State) × IsPlanOutcome setting s plan o u × (t ≡ state_after_run way s u)
+
+  abbrev IsReported : RequestBehaviour State → PlanRun → Data → PlanReply → State → Type 0
+  IsReported d way value a t =
+      (plan : List PlanRequest) × PlanValueReadsAs value (Ok plan) × ReportsPlanRun d way s plan (Ok a) t
+
+  one_reported : (d : RequestBehaviour State) (way : PlanRun) → ReportsAsMachine d way → (value : Data)
+      (a b : PlanReply) (t u : State) → IsReported d way value a t → IsReported d way value b u
+      → SameReply a b × (t ≡ u)
+  one_reported d way is value a b t u x y =
+      let mine = is x.0 x.2.0 x.2.1 t x.2.2 in
+      let theirs = is y.0 y.2.0 y.2.1 u y.2.2 in
+      let one = one_plan_outcome x.0 y.0 (one_plan (Some value) (Ok x.0) (Ok y.0) x.1 y.1) x.2.0 y.2.0 mine.0 theirs.0
+      mine.1 theirs.1 in (
+        subst (λ (r : PlanReply). SameReply r b) (sym x.2.3)
+            (subst (λ (r : PlanReply). SameReply (reported_outcome x.2.1 x.2.0) r) (sym y.2.3) (one.2 x.2.1 y.2.1)),
+        mine.2 ∙ ap (state_after_run way s) one.1 ∙ sym theirs.2,
+      )
+
+  -- A value that is read as a plan that is reported has one reply, but for the changes listed.
+  pub one_report_reply : (d : RequestBehaviour State) (way : PlanRun) → ReportsAsMachine d way → (value : Data)
+      (a b : PlanReply) (t u : State) → ServesReport d way s value (Ok a) t → ServesReport d way s value (Ok b) u
+      → SameReply a b × (t ≡ u)
+  one_report_reply d way is value (planned.Bad f) (planned.Bad g) t u x y =
+      (ap planned.Bad (one_plan (Some value) (Err f) (Err g) x.0 y.0), x.1 ∙ sym y.1)
+  one_report_reply d way is value (planned.Bad f) (planned.Done b) t u x y =
+      absurd (one_plan (Some value) (Err f) (Ok y.0) x.0 y.1)
+  one_report_reply d way is value (planned.Bad f) (planned.Refused n k) t u x y =
+      absurd (one_plan (Some value) (Err f) (Ok y.0) x.0 y.1)
+  one_report_reply d way is value (planned.Bad f) (planned.Reported b) t u x y =
+      absurd (one_plan (Some value) (Err f) (Ok y.0) x.0 y.1)
+  one_report_reply d way is value (planned.Done a) (planned.Bad g) t u x y =
+      absurd (one_plan (Some value) (Ok x.0) (Err g) x.1 y.0)
+  one_report_reply d way is value (planned.Refused m r) (planned.Bad g) t u x y =
+      absurd (one_plan (Some value) (Ok x.0) (Err g) x.1 y.0)
+  one_report_reply d way is value (planned.Reported a) (planned.Bad g) t u x y =
+      absurd (one_plan (Some value) (Ok x.0) (Err g) x.1 y.0)
+  one_report_reply d way is value (planned.Done a) (planned.Done b) t u x y =
+      one_reported d way is value (planned.Done a) (planned.Done b) t u x y
+  one_report_reply d way is value (planned.Done a) (planned.Refused n k) t u x y =
+      one_reported d way is value (planned.Done a) (planned.Refused n k) t u x y
+  one_report_reply d way is value (planned.Done a) (planned.Reported b) t u x y =
+      one_reported d way is value (planned.Done a) (planned.Reported b) t u x y
+  one_report_reply d way is value (planned.Refused m r) (planned.Done b) t u x y =
+      one_reported d way is value (planned.Refused m r) (planned.Done b) t u x y
+  one_report_reply d way is value (planned.Refused m r) (planned.Refused n k) t u x y =
+      one_reported d way is value (planned.Refused m r) (planned.Refused n k) t u x y
+  one_report_reply d way is value (planned.Refused m r) (planned.Reported b) t u x y =
+      one_reported d way is value (planned.Refused m r) (planned.Reported b) t u x y
+  one_report_reply d way is value (planned.Reported a) (planned.Done b) t u x y =
+      one_reported d way is value (planned.Reported a) (planned.Done b) t u x y
+  one_report_reply d way is value (planned.Reported a) (planned.Refused n k) t u x y =
+      one_reported d way is value (planned.Reported a) (planned.Refused n k) t u x y
+  one_report_reply d way is value (planned.Reported a) (planned.Reported b) t u x y =
+      one_reported d way is value (planned.Reported a) (planned.Reported b) t u x y

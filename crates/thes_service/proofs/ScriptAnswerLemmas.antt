@@ -2,7 +2,6 @@
 use Rattle.std.proofs.Common.{◌≡◌, ◌∙◌, ◌∷◌, [], ℕ, Bool, List, Option, None, Some, true, false, Result, Ok, Err, inl, inr, refl, sym, ap, subst}
 use Rattle.std.specs.List.{AllByRecursion}
 use Rattle.std.specs.Str.Lines.{lines}
-use Rattle.serde_json.specs.Data.{Data, Items, array}
 use Rattle.thes_base.specs.declared.data.Limits.{Limits}
 use Rattle.thes_base.specs.declared.fault.FormFault.{FormFault}
 use Rattle.thes_base.specs.declared.request.Answer.{Answer}
@@ -25,41 +24,23 @@ use Rattle.thes_requests.specs.declared.plan_reply.PlanReply.{PlanReply}
 use Rattle.thes_requests.specs.declared.line_serving.LineAnswer.TheVariants.{Reply, View, Plan}
 use Rattle.thes_requests.specs.declared.line_serving.LineOutcome.{LineOutcome}
 use Rattle.thes_requests.specs.declared.line_serving.LineOutcome.TheVariants.{Skipped, Unheld, Answered}
-use Rattle.thes_requests.specs.Readings.{ReadsAs, ◌>>=◌}
-use Rattle.thes_requests.specs.PlanReadings.{is_array_value}
-use Rattle.thes_requests.specs.Requests.{json_in, json_of, request_in, request_of}
+use Rattle.thes_requests.specs.Readings.{ReadsAs}
+use Rattle.thes_requests.specs.Requests.{json_in, request_of}
 use Rattle.thes_requests.specs.Script.{RunLines, StepLine, is_blank}
 use Rattle.thes_requests.specs.Serving.{ServesPlan, is_plan_line, query_answer}
 use Rattle.thes_requests.proofs.ReadingLemmas.{one_outcome}
 use Rattle.thes_exchange.specs.QueryAnswers.{IsQueryAnswer}
 use Rattle.thes_exchange.proofs.OneViewLemmas.{one_view}
 use Rattle.thes_import.proofs.OneImportLemmas.{run_from_state}
-use Rattle.thes_service.specs.Laws.{HasOneScript, IsFailedLine}
+use Rattle.thes_http.proofs.SameResponseLemmas.{same_replies}
+use Rattle.thes_service.specs.Laws.{HasOneScript, IsFailedLine, SameOutcome, SameOutcomes}
 use Rattle.thes_service.specs.OfficeRequests.{OfficeServes}
-use Rattle.thes_service.proofs.MachineServiceLemmas.{machine_has_one_answer, machine_service, one_step}
+use Rattle.thes_service.proofs.EffectLemmas.{Effect, one_effect}
+use Rattle.thes_service.proofs.MachineServiceLemmas.{machine_has_one_answer, machine_service}
 use Rattle.thes_service.proofs.SimulationLemmas.{serves_plan}
 use Rattle.thes_service.specs.Service.{office_behaviour}
 use Rattle.thes_service.proofs.OfficeAnswerLemmas.{does_as_machine}
 use Rattle.thes_service.proofs.ScriptRunLemmas.{led_start, lines_reached, step_reached}
-
--- The effect in the machine of a line that is read as a request or has a form fault, and the answer to the line.
-abbrev Effect : Setting → State → Result Request FormFault → LineAnswer → State → Type 0
-Effect setting s (Ok (Do command)) answer t =
-    (own : Answer) × Step setting s command own t × (answer ≡ Reply (reply.Answer own))
-Effect setting s (Ok (Get query)) answer t =
-    (own : QueryAnswer) × IsQueryAnswer s query (Ok own) × (t ≡ s) × (answer ≡ query_answer (Ok own))
-Effect setting s (Err fault) answer t = (t ≡ s) × (answer ≡ Reply (reply.Bad fault))
-
-one_effect : (setting : Setting) → AreLimits setting.limits → (s t u : State) → IsLegalState setting.base s
-    → (x : Result Request FormFault) (a b : LineAnswer) → Effect setting s x a t → Effect setting s x b u
-    → (a ≡ b) × (t ≡ u)
-one_effect setting few s t u legal (Ok (Do command)) a b x y =
-    let one = one_step setting (setting_fits setting s few legal) s legal command x.0 y.0 t u x.1 y.1 in
-    (x.2 ∙ ap (λ c. Reply (reply.Answer c)) one.0 ∙ sym y.2, one.1)
-one_effect setting few s t u legal (Ok (Get query)) a b x y =
-    let one = one_view s query x.0 y.0 x.1 y.1 in
-    (x.3 ∙ ap (λ c. query_answer (Ok c)) one ∙ sym y.3, x.2 ∙ sym y.2)
-one_effect setting few s t u legal (Err fault) a b x y = (x.1 ∙ sym y.1, x.0 ∙ sym y.0)
 
 -- The effect in the machine of a line that isn't a plan, by how the line is read, and the answer to it.
 abbrev RequestEffect : Setting → State → List ℕ → LineAnswer → State → Type 0
@@ -89,39 +70,42 @@ one_request_effect setting few s t u legal line a b x y =
     one_effect setting few s t u legal x.0 a b x.2
     (subst (λ (r : Result Request FormFault). Effect setting s r b u) same y.2)
 
+-- Two answers to a line are the same, but for the changes of rows that their reports list.
+abbrev SameAnswer : LineAnswer → LineAnswer → Type 0
+SameAnswer a b = SameOutcome (Answered a) (Answered b)
+
+same_answer_itself : (a : LineAnswer) → SameAnswer a a
+same_answer_itself (Plan own) = same_replies own own refl
+same_answer_itself (Reply own) = refl
+same_answer_itself (View text) = refl
+
+same_answers : (a b : LineAnswer) → a ≡ b → SameAnswer a b
+same_answers a b e = subst (λ (c : LineAnswer). SameAnswer a c) e (same_answer_itself a)
+
 one_plan_effect : (takes : Bool) (setting : Setting) → AreLimits setting.limits → (s t u : State)
-    → IsLegalState setting.base s
-    → (line : List ℕ) (a b : LineAnswer) → PlanEffect takes setting s line a t → PlanEffect takes setting s line b u
-    → (a ≡ b) × (t ≡ u)
-one_plan_effect takes setting few s t u legal line a b x y =
+    → IsLegalState setting.base s → (line : List ℕ) (a b : LineAnswer) → PlanEffect takes setting s line a t
+    → PlanEffect takes setting s line b u → (¬ IsFailedLine (Answered a)) → (¬ IsFailedLine (Answered b))
+    → SameAnswer a b × (t ≡ u)
+one_plan_effect takes setting few s t u legal line a b x y fine fine' =
     let machine = machine_has_one_answer setting takes (setting_fits setting s few legal) s legal in
-    let one = machine.plans line x.0 y.0 t u x.1 y.1 in
-    (x.2 ∙ ap Plan one.0 ∙ sym y.2, one.1)
+    elim (machine.plans line x.0 y.0 t u x.1 y.1) [
+      | inl one ↦ (
+        subst (λ (c : LineAnswer). SameAnswer c b) (sym x.2)
+            (subst (λ (c : LineAnswer). SameAnswer (Plan x.0) c) (sym y.2) one.0),
+        one.1,
+      )
+      | inr (inl fails) ↦ absurd (fine (subst (λ (c : LineAnswer). IsFailedLine (Answered c)) (sym x.2) fails))
+      | inr (inr fails) ↦ absurd (fine' (subst (λ (c : LineAnswer). IsFailedLine (Answered c)) (sym y.2) fails))
+    ]
 
 one_line_effect : (is_plan takes : Bool) (setting : Setting) → AreLimits setting.limits → (s t u : State)
     → IsLegalState setting.base s → (line : List ℕ) (a b : LineAnswer)
     → EffectByKind is_plan takes setting s line a t → EffectByKind is_plan takes setting s line b u
-    → (a ≡ b) × (t ≡ u)
-one_line_effect true takes setting few s t u legal line a b x y =
-    one_plan_effect takes setting few s t u legal line a b x y
-one_line_effect false takes setting few s t u legal line a b x y =
-    one_request_effect setting few s t u legal line a b x y
-
--- An array is never read as a request, so a line that is a request isn't a plan.
-array_is_no_request : (items : Items) (request : Request) → ReadsAs (request_in (array items)) (Ok request) → ⊥
-unfolding request_in
-array_is_no_request items request h = absurd (cc)
-
-no_array : (value : Option Data) (request : Request) → ReadsAs (json_of value >>= request_in) (Ok request)
-    → is_array_value value ≡ false
-no_array None request h = refl
-no_array (Some (array items)) request h = absurd (array_is_no_request items request h)
-no_array (Some _) request h = refl
-
-no_plan_line : (takes : Bool) (line : List ℕ) (request : Request) → ReadsAs (request_of line) (Ok request)
-    → is_plan_line takes line ≡ false
-no_plan_line true line request h = no_array (json_in line) request h
-no_plan_line false line request h = refl
+    → (¬ IsFailedLine (Answered a)) → (¬ IsFailedLine (Answered b)) → SameAnswer a b × (t ≡ u)
+one_line_effect true takes setting few s t u legal line a b x y fine fine' =
+    one_plan_effect takes setting few s t u legal line a b x y fine fine'
+one_line_effect false takes setting few s t u legal line a b x y fine fine' =
+    let one = one_request_effect setting few s t u legal line a b x y in (same_answers a b one.0, one.1)
 
 -- The effect in the machine of a line with this outcome; a line for which memory ran out has none.
 abbrev OutcomeEffect : Bool → Setting → State → List ℕ → LineOutcome → State → Type 0
@@ -133,19 +117,18 @@ OutcomeEffect takes setting s line (Answered answer) t =
 one_outcome_effect : (takes : Bool) (setting : Setting) → AreLimits setting.limits → (s t u : State)
     → IsLegalState setting.base s
     → (line : List ℕ) (f g : LineOutcome) → OutcomeEffect takes setting s line f t
-    → OutcomeEffect takes setting s line g u
-    → (f ≡ g) × (t ≡ u)
-one_outcome_effect takes setting few s t u legal line Skipped Skipped x y = (refl, x.1 ∙ sym y.1)
-one_outcome_effect takes setting few s t u legal line Skipped Unheld x y = absurd y
-one_outcome_effect takes setting few s t u legal line Skipped (Answered b) x y =
+    → OutcomeEffect takes setting s line g u → (¬ IsFailedLine f) → (¬ IsFailedLine g)
+    → SameOutcome f g × (t ≡ u)
+one_outcome_effect takes setting few s t u legal line Skipped Skipped x y fine fine' = (refl, x.1 ∙ sym y.1)
+one_outcome_effect takes setting few s t u legal line Skipped Unheld x y fine fine' = absurd y
+one_outcome_effect takes setting few s t u legal line Skipped (Answered b) x y fine fine' =
     absurd (let bad : true ≡ false = sym x.0 ∙ y.0 in cc)
-one_outcome_effect takes setting few s t u legal line Unheld g x y = absurd x
-one_outcome_effect takes setting few s t u legal line (Answered a) Skipped x y =
+one_outcome_effect takes setting few s t u legal line Unheld g x y fine fine' = absurd x
+one_outcome_effect takes setting few s t u legal line (Answered a) Skipped x y fine fine' =
     absurd (let bad : true ≡ false = sym y.0 ∙ x.0 in cc)
-one_outcome_effect takes setting few s t u legal line (Answered a) Unheld x y = absurd y
-one_outcome_effect takes setting few s t u legal line (Answered a) (Answered b) x y =
-    let one = one_line_effect (is_plan_line takes line) takes setting few s t u legal line a b x.1 y.1 in
-    (ap Answered one.0, one.1)
+one_outcome_effect takes setting few s t u legal line (Answered a) Unheld x y fine fine' = absurd y
+one_outcome_effect takes setting few s t u legal line (Answered a) (Answered b) x y fine fine' =
+    one_line_effect (is_plan_line takes line) takes setting few s t u legal line a b x.1 y.1 fine fine'
 
 module _ {K : Type 0} (view : K → StorageView) (takes : Bool) where
   module _ (base : List ℕ) (s t : State) (old new : OfficeView K) (up : (view new.keeper).is_up)
@@ -158,22 +141,22 @@ module _ {K : Type 0} (view : K → StorageView) (takes : Bool) where
         subst (λ (b : Bool). EffectByKind b takes (setting_of base old.limits) s line answer t) (sym is) effect
 
     -- The effect of a line that is a request.
-    request_effect : (request : Request) (answer : LineAnswer) → ReadsAs (request_of line) (Ok request)
-        → Effect (setting_of base old.limits) s (Ok request) answer t
+    request_effect : (request : Request) (answer : LineAnswer) → is_plan_line takes line ≡ false
+        → ReadsAs (request_of line) (Ok request) → Effect (setting_of base old.limits) s (Ok request) answer t
         → LineEffect takes (setting_of base old.limits) s line answer t
-    request_effect request answer reads effect =
-        effect_of_kind false (no_plan_line takes line request reads) answer (Ok request, reads, effect)
+    request_effect request answer other reads effect =
+        effect_of_kind false other answer (Ok request, reads, effect)
 
     line_effect : (answer : LineAnswer) → OfficeServes view takes old line answer new
         → (¬ IsFailedLine (Answered answer))
         → LineEffect takes (setting_of base old.limits) s line answer t
-    line_effect (Reply (reply.Answer a)) (inl p) fine =
+    line_effect (Reply (reply.Answer a)) (other, inl p) fine =
         let does = does_as_machine view takes base s t old new up x y in
-        request_effect (Do p.0) (Reply (reply.Answer a)) p.1 (a, does.performs p.0 (Ok a) p.2, refl)
-    line_effect (Reply (reply.Answer a)) (inr p) fine =
+        request_effect (Do p.0) (Reply (reply.Answer a)) other p.1 (a, does.performs p.0 (Ok a) p.2, refl)
+    line_effect (Reply (reply.Answer a)) (other, inr p) fine =
         let does = does_as_machine view takes base s t old new up x y in
         let shown = does.shows p.0 (Ok (viewed.No p.1)) p.3 in
-        request_effect (Get p.0) (Reply (reply.Answer a)) p.2
+        request_effect (Get p.0) (Reply (reply.Answer a)) other p.2
         (viewed.No p.1, shown.0, shown.1, ap (λ c. Reply (reply.Answer c)) p.4)
     line_effect (Reply (reply.Bad f)) p fine =
         let does = does_as_machine view takes base s t old new up x y in
@@ -181,8 +164,8 @@ module _ {K : Type 0} (view : K → StorageView) (takes : Bool) where
     line_effect (Reply (reply.Fault f)) p fine = absurd (fine tt)
     line_effect (View text) p fine =
         let does = does_as_machine view takes base s t old new up x y in
-        let shown = does.shows p.0 (Ok (viewed.Page text)) p.2 in
-        request_effect (Get p.0) (View text) p.1 (viewed.Page text, shown.0, shown.1, refl)
+        let shown = does.shows p.1 (Ok (viewed.Page text)) p.3 in
+        request_effect (Get p.1) (View text) p.0 p.2 (viewed.Page text, shown.0, shown.1, refl)
     line_effect (Plan own) p fine =
         let does = does_as_machine view takes base s t old new up x y in
         effect_of_kind true p.0 (Plan own) (
@@ -238,9 +221,9 @@ module _ {K L : Type 0} (view : K → StorageView) (other : L → StorageView) (
       → RunLines (OfficeServes view takes) old lines fs new → RunLines (OfficeServes other takes) old' lines gs new'
       → (view new.keeper).is_up → (other new'.keeper).is_up → AllByRecursion (λ f. ¬ IsFailedLine f) fs
       → AllByRecursion (λ f. ¬ IsFailedLine f) gs
-      → (fs ≡ gs) × EncodeOneState setting.base (view new.keeper).rows (other new'.keeper).rows
+      → SameOutcomes fs gs × EncodeOneState setting.base (view new.keeper).rows (other new'.keeper).rows
   one_run [] [] [] s old new old' new' limits limits' x y r q up up' fine fine' = (
-    refl,
+    tt,
     record {
       state = s;
       one = subst (λ (o : OfficeView K). TablesOfState (view o.keeper).rows setting.base s) (sym r) x;
@@ -255,10 +238,10 @@ module _ {K L : Type 0} (view : K → StorageView) (other : L → StorageView) (
       let mine = between_lines view takes setting s old r.0 new line f more fs limits x r.1 r.2 up fine.0 in
       let theirs = between_lines other takes setting s old' q.0 new' line g more gs limits' y q.1 q.2 up' fine'.0 in
       let one = one_outcome_effect takes setting few s mine.state theirs.state x.legal line f g mine.effect
-      theirs.effect in
+      theirs.effect fine.0 fine'.0 in
       let rest = one_run more fs gs mine.state r.0 new q.0 new' mine.limits theirs.limits mine.shows
       (shows_state q.0 theirs.state mine.state (sym one.1) theirs.shows) r.2 q.2 up up' fine.1 fine'.1 in
-      (λ i. one.0 i ∷ rest.0 i, rest.1)
+      ((one.0, rest.0), rest.1)
     where
       shows_state : (o : OfficeView L) (t u : State) → t ≡ u → TablesOfState (other o.keeper).rows setting.base t
           → TablesOfState (other o.keeper).rows setting.base u

@@ -1,6 +1,6 @@
 -- Proves that the lines of a script lead an office through a run of the machine.
 use Rattle.std.proofs.Common.{◌≡◌, ◌∙◌, inl, inr, sym, refl, subst, ℕ, Bool, List, [], ◌∷◌, ◌++◌, Option, None, Some, Result, Ok, Err}
-use Rattle.std.proofs.Common.{arith}
+use Rattle.std.proofs.Common.{arith, codes}
 use Rattle.serde_json.specs.Data.{Data}
 use Rattle.thes_base.specs.declared.data.Limits.{Limits}
 use Rattle.thes_base.specs.declared.fault.Fault.{Fault}
@@ -28,8 +28,17 @@ use Rattle.thes_requests.specs.declared.line_serving.LineOutcome.{LineOutcome}
 use Rattle.thes_requests.specs.declared.line_serving.LineOutcome.TheVariants.{Skipped, Unheld, Answered}
 use Rattle.thes_requests.specs.Requests.{json_in}
 use Rattle.thes_requests.specs.Script.{StepLine, RunLines, Session, EndsScript}
-use Rattle.thes_requests.specs.Serving.{ServesPlan}
-use Rattle.thes_service.specs.OfficeRequests.{IsReachedByRun, OfficePerformsPlan, OfficeServes, is_always_open}
+use Rattle.thes_plans.specs.declared.plan.PlanRun.{PlanRun}
+use Rattle.thes_plans.specs.declared.plan.PlanRun.TheVariants as run
+use Rattle.thes_tables.specs.declared.change.Change.{Change}
+use Rattle.thes_office.specs.Plans.{TablesAfterPlan}
+use Rattle.thes_requests.specs.PlanForms.{form_in, sole_member}
+use Rattle.thes_requests.specs.Serving.{RunsEach, ServesArray, ServesEach, ServesElement, ServesForm, ServesPlan}
+use Rattle.thes_requests.specs.Serving.{ServesReport}
+use Rattle.thes_requests.specs.declared.plan_form.PlanForm.{PlanForm}
+use Rattle.thes_requests.specs.declared.plan_form.PlanForm.TheVariants as form
+use Rattle.thes_service.specs.OfficeRequests.{IsReachedByRun, OfficePerformsPlan, OfficeReports, OfficeReportsPlan}
+use Rattle.thes_service.specs.OfficeRequests.{OfficeServes, is_always_open}
 use Rattle.thes_service.specs.OfficeRequests.{office_requests}
 
 module _ {K : Type 0} (view : K → StorageView) where
@@ -122,25 +131,136 @@ module _ {K : Type 0} (view : K → StorageView) where
       (λ up. let after = x.performed up in after.same tt)
   led_plan old mid new plan (Err fault) x reached = led_same old mid new _ reached x.fault_behaviour x.performed
 
-  -- A text that is read as a plan extends the run, or leaves it unchanged.
+  -- A command whose changes are reported extends the run by one step, or leaves it unchanged.
+  led_reported : (old mid new : OfficeView K) (command : Command) (result : Result Answer Fault)
+      (changes : List Change) → OfficeReports view mid command result changes new → IsReachedByRun view old mid
+      → IsReachedByRun view old new
+  led_reported old mid new command (Ok answer) changes x reached =
+      led_step old mid new command answer reached x.fault_behaviour (λ up. let r = x.with_changes up in r.step)
+  led_reported old mid new command (Err fault) changes x reached =
+      led_same old mid new _ reached x.fault_behaviour x.with_changes
+
+  -- A plan whose changes are reported extends the run by its requests, if it is done and not only tried; else it leaves
+  -- the run unchanged.
+  led_reported_plan : (old mid new : OfficeView K) (way : PlanRun) (plan : List PlanRequest)
+      (result : Result PlanOutcome Fault) (changes : List Change)
+      → OfficeReportsPlan view mid way plan result changes new → IsReachedByRun view old mid
+      → IsReachedByRun view old new
+  led_reported_plan old mid new run.Perform plan (Ok outcome) changes x reached =
+      led_plan old mid new plan (Ok outcome) (record {
+        fault_behaviour = x.fault_behaviour;
+        performed = λ up. let r = x.with_changes up in
+            let p = r.1 in
+            subst (λ (raw : Raw). TablesAfterPlan mid.limits (view mid.keeper).rows plan outcome raw) (sym r.2)
+            p.performs;
+      }) reached
+  led_reported_plan old mid new run.Try plan (Ok outcome) changes x reached =
+      led_same old mid new _ reached x.fault_behaviour (λ up. let r = x.with_changes up in r.2)
+  led_reported_plan old mid new run.Perform plan (Err fault) changes x reached =
+      led_same old mid new _ reached x.fault_behaviour x.with_changes
+  led_reported_plan old mid new run.Try plan (Err fault) changes x reached =
+      led_same old mid new _ reached x.fault_behaviour x.with_changes
+
+  -- A text that is read as an array extends the run, or leaves it unchanged.
+  array_reached : (takes : Bool) (value : Option Data) (result : Result PlanReply Fault) (old mid new : OfficeView K)
+      → ServesArray (office_requests view takes) mid value result new → IsReachedByRun view old mid
+      → IsReachedByRun view old new
+  array_reached takes value (Ok (planned.Bad f)) old mid new p reached = led_kept old mid new reached p.1
+  array_reached takes value (Ok (planned.Done line)) old mid new p reached =
+      led_plan old mid new p.0 _ p.2.1 reached
+  array_reached takes value (Ok (planned.Reported report)) old mid new p reached =
+      led_plan old mid new p.0 _ p.2.1 reached
+  array_reached takes value (Ok (planned.Refused place refusal)) old mid new p reached =
+      led_plan old mid new p.0 _ p.2.1 reached
+  array_reached takes value (Err f) old mid new (inl p) reached = led_kept old mid new reached p.1
+  array_reached takes value (Err f) old mid new (inr p) reached = led_plan old mid new p.0 _ p.2 reached
+
+  -- A plan that is performed or tried, and reported, extends the run, or leaves it unchanged.
+  report_reached : (takes : Bool) (way : PlanRun) (value : Data) (result : Result PlanReply Fault)
+      (old mid new : OfficeView K) → ServesReport (office_requests view takes) way mid value result new
+      → IsReachedByRun view old mid → IsReachedByRun view old new
+  report_reached takes way value (Ok (planned.Bad f)) old mid new p reached = led_kept old mid new reached p.1
+  report_reached takes way value (Ok (planned.Done line)) old mid new p reached =
+      led_reported_plan old mid new way p.0 _ p.2.1 p.2.2 reached
+  report_reached takes way value (Ok (planned.Reported report)) old mid new p reached =
+      led_reported_plan old mid new way p.0 _ p.2.1 p.2.2 reached
+  report_reached takes way value (Ok (planned.Refused place refusal)) old mid new p reached =
+      led_reported_plan old mid new way p.0 _ p.2.1 p.2.2 reached
+  report_reached takes way value (Err f) old mid new (inl p) reached = led_kept old mid new reached p.1
+  report_reached takes way value (Err f) old mid new (inr p) reached =
+      led_reported_plan old mid new way p.0 _ [] p.2 reached
+
+  -- One of several requests extends the run, or leaves it unchanged.
+  element_reached : (takes : Bool) (value : Data) (o : LineAnswer) (changes : List Change) (old mid new : OfficeView K)
+      → ServesElement (office_requests view takes) mid value o changes new → IsReachedByRun view old mid
+      → IsReachedByRun view old new
+  element_reached takes value (Reply (reply.Answer a)) changes old mid new (inl p) reached =
+      led_reported old mid new p.0 (Ok a) changes p.2 reached
+  element_reached takes value (Reply (reply.Answer a)) changes old mid new (inr p) reached =
+      led_same old mid new _ reached p.3.fault_behaviour p.3.same
+  element_reached takes value (Reply (reply.Bad f)) changes old mid new p reached = led_kept old mid new reached p.2
+  element_reached takes value (Reply (reply.Fault f)) changes old mid new (none, inl p) reached =
+      led_kept old mid new reached p.1
+  element_reached takes value (Reply (reply.Fault f)) changes old mid new (none, inr (inl p)) reached =
+      led_reported old mid new p.0 (Err f) [] p.2 reached
+  element_reached takes value (Reply (reply.Fault f)) changes old mid new (none, inr (inr p)) reached =
+      led_same old mid new _ reached p.3.fault_behaviour p.3.same
+  element_reached takes value (View text) changes old mid new p reached =
+      led_same old mid new _ reached p.2.fault_behaviour p.2.same
+  element_reached takes value (Plan r) changes old mid new p reached = absurd p
+
+  -- Requests that are performed one after another extend the run.
+  each_reached : (takes : Bool) (values : List Data) (answers : List LineAnswer) (changes : List Change)
+      (old mid new : OfficeView K) → RunsEach (office_requests view takes) mid values answers changes new
+      → IsReachedByRun view old mid → IsReachedByRun view old new
+  each_reached takes [] [] changes old mid new r reached = led_kept old mid new reached r.1
+  each_reached takes [] (a ∷ answers) changes old mid new r reached = absurd r
+  each_reached takes (v ∷ values) [] changes old mid new r reached = absurd r
+  each_reached takes (v ∷ values) (a ∷ answers) changes old mid new
+      (o, first, rest, is, did, inl (sure, clear, none, same)) reached =
+      led_kept old o new (element_reached takes v a first old mid o did reached) same
+  each_reached takes (v ∷ values) (a ∷ answers) changes old mid new (o, first, rest, is, did, inr (clear, more))
+      reached =
+      each_reached takes values answers rest old o new more (element_reached takes v a first old mid o did reached)
+
+  items_reached : (takes : Bool) (value : Data) (result : Result PlanReply Fault) (old mid new : OfficeView K)
+      → ServesEach (office_requests view takes) mid value result new → IsReachedByRun view old mid
+      → IsReachedByRun view old new
+  items_reached takes value (Ok (planned.Bad f)) old mid new p reached = led_kept old mid new reached p.2
+  items_reached takes value (Ok (planned.Done line)) old mid new p reached = absurd p
+  items_reached takes value (Ok (planned.Reported report)) old mid new p reached =
+      each_reached takes p.0 p.1 p.2 old mid new p.4 reached
+  items_reached takes value (Ok (planned.Refused place refusal)) old mid new p reached = absurd p
+  items_reached takes value (Err f) old mid new p reached = led_kept old mid new reached p.1
+
+  form_reached : (takes : Bool) (which : PlanForm) (value : Data) (result : Result PlanReply Fault)
+      (old mid new : OfficeView K) → ServesForm (office_requests view takes) which mid value result new
+      → IsReachedByRun view old mid → IsReachedByRun view old new
+  form_reached takes form.Array value result old mid new p reached =
+      array_reached takes (Some value) result old mid new p reached
+  form_reached takes form.Perform value result old mid new p reached =
+      report_reached takes run.Perform (sole_member (codes "perform") value) result old mid new p reached
+  form_reached takes form.Try value result old mid new p reached =
+      report_reached takes run.Try (sole_member (codes "try") value) result old mid new p reached
+  form_reached takes form.Each value result old mid new p reached =
+      items_reached takes (sole_member (codes "each") value) result old mid new p reached
+
+  -- A text that is read as several requests extends the run, or leaves it unchanged.
   pub plan_reached : (takes : Bool) (value : Option Data) (result : Result PlanReply Fault) (old mid new : OfficeView K)
       → ServesPlan (office_requests view takes) mid value result new → IsReachedByRun view old mid
       → IsReachedByRun view old new
-  plan_reached takes value (Ok (planned.Bad f)) old mid new p reached = led_kept old mid new reached p.1
-  plan_reached takes value (Ok (planned.Done line)) old mid new p reached =
-      led_plan old mid new p.0 _ p.2.1 reached
-  plan_reached takes value (Ok (planned.Refused place refusal)) old mid new p reached =
-      led_plan old mid new p.0 _ p.2.1 reached
-  plan_reached takes value (Err f) old mid new (inl p) reached = led_kept old mid new reached p.1
-  plan_reached takes value (Err f) old mid new (inr p) reached = led_plan old mid new p.0 _ p.2 reached
+  plan_reached takes None result old mid new p reached = array_reached takes None result old mid new p reached
+  plan_reached takes (Some value) result old mid new p reached =
+      form_reached takes (form_in value) value result old mid new p reached
 
   line_reached : (takes : Bool) (line : List ℕ) (o : LineAnswer) (old mid new : OfficeView K)
       → OfficeServes view takes mid
       line o new → IsReachedByRun view old mid → IsReachedByRun view old new
-  line_reached takes line (Reply (reply.Answer a)) old mid new (inl p) reached = led_step old mid new p.0 a reached
+  line_reached takes line (Reply (reply.Answer a)) old mid new (other, inl p) reached =
+      led_step old mid new p.0 a reached
       p.2.fault_behaviour
       p.2.performed
-  line_reached takes line (Reply (reply.Answer a)) old mid new (inr p) reached = led_same old mid new _ reached
+  line_reached takes line (Reply (reply.Answer a)) old mid new (other, inr p) reached = led_same old mid new _ reached
       p.3.fault_behaviour
       p.3.same
   line_reached takes line (Reply (reply.Bad f)) old mid new p reached = led_kept old mid new reached p.2
@@ -153,8 +273,8 @@ module _ {K : Type 0} (view : K → StorageView) where
       plan_reached takes (json_in line) (Err f) old mid new p.1 reached
   line_reached takes line (Plan answer) old mid new p reached =
       plan_reached takes (json_in line) (Ok answer) old mid new p.1 reached
-  line_reached takes line (View text) old mid new p reached = led_same old mid new _ reached p.2.fault_behaviour
-      p.2.same
+  line_reached takes line (View text) old mid new p reached = led_same old mid new _ reached p.3.fault_behaviour
+      p.3.same
 
   -- A line extends the run, or leaves it unchanged.
   pub step_reached : (takes : Bool) (line : List ℕ) (f : LineOutcome) (old mid new : OfficeView K)

@@ -1,5 +1,5 @@
 -- Proves that if a service does, between two states, all that another does, it answers as the other does.
-use Rattle.std.proofs.Common.{◌≡◌, ℕ, Bool, List, inl, inr, subst, take, Option, Some, None, Result, Ok, Err}
+use Rattle.std.proofs.Common.{◌≡◌, ℕ, Bool, List, [], inl, inr, subst, take, Option, Some, None, Result, Ok, Err, codes}
 use Rattle.thes_base.specs.declared.fault.Fault.{Fault}
 use Rattle.thes_base.specs.declared.request.Answer.{Answer}
 use Rattle.thes_base.specs.declared.request.Command.{Command}
@@ -10,7 +10,14 @@ use Rattle.thes_requests.specs.declared.handler.QueryAnswer.{QueryAnswer}
 use Rattle.thes_requests.specs.declared.plan_reply.PlanReply.{PlanReply}
 use Rattle.thes_requests.specs.declared.plan_reply.PlanReply.TheVariants as planned
 use Rattle.thes_requests.specs.Requests.{json_in}
-use Rattle.thes_requests.specs.Serving.{ServesPlan}
+use Rattle.thes_plans.specs.declared.plan.PlanRun.{PlanRun}
+use Rattle.thes_plans.specs.declared.plan.PlanRun.TheVariants as run
+use Rattle.thes_tables.specs.declared.change.Change.{Change}
+use Rattle.thes_requests.specs.PlanForms.{form_in, sole_member}
+use Rattle.thes_requests.specs.Serving.{RunsEach, ServesArray, ServesEach, ServesForm, ServesPlan, ServesReport}
+use Rattle.thes_requests.specs.declared.line_serving.LineAnswer.{LineAnswer}
+use Rattle.thes_requests.specs.declared.plan_form.PlanForm.{PlanForm}
+use Rattle.thes_requests.specs.declared.plan_form.PlanForm.TheVariants as form
 use Rattle.thes_requests.specs.declared.request.Query.{Query}
 use Rattle.thes_requests.specs.declared.request.Query.TheVariants as asks
 use Rattle.thes_http_request.specs.declared.endpoint.Endpoint.{Endpoint}
@@ -35,6 +42,11 @@ pub record DoesAsMuch {S T : Type 0} (d : ServiceBehaviour S) (e : ServiceBehavi
       → e.requests.shows s query result t
   pub performs_plan : (plan : List PlanRequest) (result : Result PlanOutcome Fault)
       → d.requests.performs_plan old plan result new → e.requests.performs_plan s plan result t
+  pub reports_plan : (way : PlanRun) (plan : List PlanRequest) (result : Result PlanOutcome Fault)
+      (changes : List Change) → d.requests.reports_plan old way plan result changes new
+      → e.requests.reports_plan s way plan result changes t
+  pub runs_each : (values : List Data) (answers : List LineAnswer) (changes : List Change)
+      → RunsEach d.requests old values answers changes new → RunsEach e.requests s values answers changes t
   pub takes_plans : d.requests.takes_plans old ≡ e.requests.takes_plans s
   pub imports : (file : List ℕ) (result : Result (Option (List ℕ)) Fault) → d.imports old file result new
       → e.imports s file result t
@@ -45,16 +57,51 @@ pub record DoesAsMuch {S T : Type 0} (d : ServiceBehaviour S) (e : ServiceBehavi
 
 module _ {S T : Type 0} (d : ServiceBehaviour S) (e : ServiceBehaviour T) (old new : S) (s t : T)
     (does : DoesAsMuch d e old new s t) where
-  -- A text that is read as a plan is served by `e` as by `d`.
+  serves_array : (value : Option Data) (result : Result PlanReply Fault) → ServesArray d.requests old value result new
+      → ServesArray e.requests s value result t
+  serves_array value (Ok (planned.Bad f)) a = (a.0, does.keeps a.1)
+  serves_array value (Ok (planned.Done line)) a =
+      (a.0, a.1, (a.2.0, does.performs_plan a.0 (Ok a.2.0) a.2.1, a.2.2))
+  serves_array value (Ok (planned.Reported report)) a =
+      (a.0, a.1, (a.2.0, does.performs_plan a.0 (Ok a.2.0) a.2.1, a.2.2))
+  serves_array value (Ok (planned.Refused place refusal)) a =
+      (a.0, a.1, (a.2.0, does.performs_plan a.0 (Ok a.2.0) a.2.1, a.2.2))
+  serves_array value (Err f) (inl a) = inl (a.0, does.keeps a.1)
+  serves_array value (Err f) (inr a) = inr (a.0, a.1, does.performs_plan a.0 (Err f) a.2)
+
+  serves_report : (way : PlanRun) (value : Data) (result : Result PlanReply Fault)
+      → ServesReport d.requests way old value result new → ServesReport e.requests way s value result t
+  serves_report way value (Ok (planned.Bad f)) a = (a.0, does.keeps a.1)
+  serves_report way value (Ok (planned.Done line)) a =
+      (a.0, a.1, (a.2.0, a.2.1, does.reports_plan way a.0 (Ok a.2.0) a.2.1 a.2.2, a.2.3))
+  serves_report way value (Ok (planned.Reported report)) a =
+      (a.0, a.1, (a.2.0, a.2.1, does.reports_plan way a.0 (Ok a.2.0) a.2.1 a.2.2, a.2.3))
+  serves_report way value (Ok (planned.Refused place refusal)) a =
+      (a.0, a.1, (a.2.0, a.2.1, does.reports_plan way a.0 (Ok a.2.0) a.2.1 a.2.2, a.2.3))
+  serves_report way value (Err f) (inl a) = inl (a.0, does.keeps a.1)
+  serves_report way value (Err f) (inr a) = inr (a.0, a.1, does.reports_plan way a.0 (Err f) [] a.2)
+
+  serves_each : (value : Data) (result : Result PlanReply Fault) → ServesEach d.requests old value result new
+      → ServesEach e.requests s value result t
+  serves_each value (Ok (planned.Bad f)) a = (a.0, a.1, does.keeps a.2)
+  serves_each value (Ok (planned.Done line)) a = absurd a
+  serves_each value (Ok (planned.Reported report)) a =
+      (a.0, a.1, a.2, a.3, does.runs_each a.0 a.1 a.2 a.4, a.5)
+  serves_each value (Ok (planned.Refused place refusal)) a = absurd a
+  serves_each value (Err f) a = (a.0, does.keeps a.1)
+
+  serves_form : (which : PlanForm) (value : Data) (result : Result PlanReply Fault)
+      → ServesForm d.requests which old value result new → ServesForm e.requests which s value result t
+  serves_form form.Array value result a = serves_array (Some value) result a
+  serves_form form.Perform value result a = serves_report run.Perform (sole_member (codes "perform") value) result a
+  serves_form form.Try value result a = serves_report run.Try (sole_member (codes "try") value) result a
+  serves_form form.Each value result a = serves_each (sole_member (codes "each") value) result a
+
+  -- A text that is read as several requests is served by `e` as by `d`.
   pub serves_plan : (value : Option Data) (result : Result PlanReply Fault) → ServesPlan d.requests old value result new
       → ServesPlan e.requests s value result t
-  serves_plan value (Ok (planned.Bad f)) a = (a.0, does.keeps a.1)
-  serves_plan value (Ok (planned.Done line)) a =
-      (a.0, a.1, (a.2.0, does.performs_plan a.0 (Ok a.2.0) a.2.1, a.2.2))
-  serves_plan value (Ok (planned.Refused place refusal)) a =
-      (a.0, a.1, (a.2.0, does.performs_plan a.0 (Ok a.2.0) a.2.1, a.2.2))
-  serves_plan value (Err f) (inl a) = inl (a.0, does.keeps a.1)
-  serves_plan value (Err f) (inr a) = inr (a.0, a.1, does.performs_plan a.0 (Err f) a.2)
+  serves_plan None result a = serves_array None result a
+  serves_plan (Some value) result a = serves_form (form_in value) value result a
 
 module _ {S T : Type 0} (d : ServiceBehaviour S) (e : ServiceBehaviour T) (old new : S) (s t : T)
     (does : DoesAsMuch d e old new s t) (r : Response) where

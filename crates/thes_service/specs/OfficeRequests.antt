@@ -5,10 +5,13 @@ use Rattle.thes_base.specs.declared.request.Answer.{Answer}
 use Rattle.thes_base.specs.declared.request.Command.{Command}
 use Rattle.thes_plans.specs.declared.plan.PlanOutcome.{PlanOutcome}
 use Rattle.thes_plans.specs.declared.plan.PlanRequest.{PlanRequest}
+use Rattle.thes_plans.specs.declared.plan.PlanRun.{PlanRun}
+use Rattle.thes_tables.specs.declared.change.Change.{Change}
 use Rattle.thes_store.specs.Storage.{StorageView}
 use Rattle.thes_office.specs.QueryFrames.{InStateOfTables}
 use Rattle.thes_office.specs.Office.{FaultBehaviour, TablesAfterRun, OfficeView, PerformResult, SameTables}
 use Rattle.thes_office.specs.Plans.{RunPlanResult}
+use Rattle.thes_office.specs.Reports.{ReportPlanResult, ReportResult}
 use Rattle.thes_requests.specs.declared.handler.QueryAnswer.{QueryAnswer}
 use Rattle.thes_requests.specs.declared.request.Query.{Query}
 use Rattle.thes_exchange.specs.QueryAnswers.{IsQueryAnswer}
@@ -43,13 +46,29 @@ module _ {K : Type 0} (view : K → StorageView) where
     pub fault_behaviour : FaultBehaviour view old new result
     pub performed : RunPlanResult view old plan result new
 
+  -- If the storage is up at the end, a command is performed by a step of the machine, and the changes of rows lead from
+  -- the rows before to those after; or a fault leaves the tables unchanged.
+  pub record OfficeReports (old : OfficeView K) (command : Command) (result : Result Answer Fault)
+      (changes : List Change) (new : OfficeView K) : Type 0 where
+    pub fault_behaviour : FaultBehaviour view old new result
+    pub with_changes : ReportResult view old command result changes new
+
+  -- If the storage is up at the end, a plan is performed, or only tried, which leaves the tables unchanged; the changes
+  -- of rows lead from the rows before to those after the plan when it is performed.
+  pub record OfficeReportsPlan (old : OfficeView K) (run : PlanRun) (plan : List PlanRequest)
+      (result : Result PlanOutcome Fault) (changes : List Change) (new : OfficeView K) : Type 0 where
+    pub fault_behaviour : FaultBehaviour view old new result
+    pub with_changes : ReportPlanResult view old run plan result changes new
+
   -- The behaviour of an office as a request handler, which may take plans.
   abbrev pub office_requests : Bool → RequestBehaviour (OfficeView K)
   office_requests takes = record {
     performs = OfficePerforms;
+    reports = OfficeReports;
     shows = OfficeShows;
     takes_plans = λ office. takes;
     performs_plan = OfficePerformsPlan;
+    reports_plan = OfficeReportsPlan;
   }
 
   -- A line is answered by a step of the machine, by a view of the state, or by the run of a plan; the

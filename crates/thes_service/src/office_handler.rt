@@ -2,6 +2,7 @@
 //! connections.
 ghost use Rattle.std.specs.Prelude.{◌≡◌, refl, IfOk};
 ghost use Rattle.thes_base.specs.Pipe.{KeepsSharedCallLimit};
+ghost use Rattle.thes_http.specs.ConnectionCounts.{AreAtMost};
 ghost use Rattle.thes_http.specs.Server.{LeadsBy};
 ghost use Rattle.thes_requests.specs.Script.{session, EndsScript, IsFreshSession};
 ghost use Rattle.thes_service.specs.OfficeRequests.{OfficeServes, is_always_open, IsReachedByRun};
@@ -20,13 +21,13 @@ use thes_base::fault::{Fault, PipeFault};
 use thes_base::pipe::Pipe;
 use thes_base::request::{Answer, Command};
 use thes_export::gather::export_text;
-use thes_http::connection_count::ConnectionCount;
-use thes_http::server::serve;
+use thes_http::server::{ServerEnd, serve};
 use thes_http::service::Service;
 use thes_import::postings::import_postings;
 use thes_import::report::Report;
 use thes_office::Office;
-use thes_plans::plan::{PlanOutcome, PlanRequest};
+use thes_plans::plan::{PlanOutcome, PlanRequest, PlanRun};
+use thes_plans::report::ChangeReport;
 use thes_requests::handler::{QueryAnswer, RequestHandler};
 use thes_requests::page::Page;
 use thes_requests::request::{DisplayRequest, Query};
@@ -85,6 +86,14 @@ impl<K: Keeper, M: PlanMode> RequestHandler for OfficeHandler<K, M> {
         self.office.perform(command)
     }
 
+    fn report<R: ChangeReport>(
+        &mut self,
+        command: &Command,
+        report: &mut R,
+    ) -> Result<Answer, Fault> {
+        self.office.report(command, report)
+    }
+
     fn show(&mut self, alloc: Global, query: &Query) -> Result<QueryAnswer, Fault> {
         match *query {
             Query::Totals => view_totals(&mut self.office, alloc),
@@ -96,6 +105,15 @@ impl<K: Keeper, M: PlanMode> RequestHandler for OfficeHandler<K, M> {
 
     fn perform_plan(&mut self, plan: Vec<PlanRequest>) -> Result<PlanOutcome, Fault> {
         self.office.run_plan(plan)
+    }
+
+    fn report_plan<R: ChangeReport>(
+        &mut self,
+        run: PlanRun,
+        plan: Vec<PlanRequest>,
+        report: &mut R,
+    ) -> Result<PlanOutcome, Fault> {
+        self.office.report_plan(run, plan, report)
     }
 
     fn takes_plans(&self) -> bool {
@@ -126,9 +144,11 @@ impl<K: Keeper, M: PlanMode> Service for OfficeHandler<K, M> {
 
     ghost does_requests = { record {
       performs = λ old command result new does. does;
+      reports = λ old command result changes new does. does;
       shows = λ old query result new does. does;
       takes_plans = λ s. refl;
       performs_plan = λ old plan result new does. does;
+      reports_plan = λ old run plan result changes new does. does;
     } };
 
     fn import(&mut self, alloc: Global, file: &[u8]) -> Result<Option<Page>, Fault> {
@@ -189,7 +209,7 @@ pub fn office_script<K: Keeper, M: PlanMode, R: Read, W: Write>(
 /// If the storage is up at the end of the call, a run of the machine leads from the state that the
 /// tables encoded to their new one, whatever the clients send. The new state is consistent: each
 /// posting that isn't withdrawn is assigned to exactly one live concept, the counts add up, and the
-/// triples meet the conditions of SKOS. Fails with the error of accepting a connection, or with
+/// triples meet the conditions of SKOS. Ends with the error of accepting a connection, or with
 /// `OutOfMemory` if memory for the routes ran out.
 pub fn office_serve<N: Net + Clock, K: Keeper, M: PlanMode>(
     alloc: Global,
@@ -197,9 +217,11 @@ pub fn office_serve<N: Net + Clock, K: Keeper, M: PlanMode>(
     listener: &N::Listener,
     count: u32,
     handler: &mut OfficeHandler<K, M>,
-) -> io::Result<ConnectionCount>
-    ensures all { IfOk result (λ connections. connections ≡ count) }
-    ensures served { LeadsBy (office_behaviour K.view M.takes) count handler.old handler.new }
+) -> ServerEnd
+    ensures all { IfOk result.ended (λ _. result.connections.finished ≡ count) }
+    ensures few { AreAtMost count result.connections }
+    ensures served { LeadsBy (office_behaviour K.view M.takes) result.connections.exchanges
+        handler.old handler.new }
     ensures reached { IsReachedByRun K.view handler.old handler.new }
 {
     // No effect; for the proof, states that the tables encode a state.

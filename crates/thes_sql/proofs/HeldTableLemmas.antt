@@ -20,7 +20,7 @@ use Rattle.thes_sql.specs.StoredRows.{HoldMoves, label_values, link_values, hier
 use Rattle.thes_sql.specs.StoredRows.{IsSpelledLabel, IsSpelledPosting}
 use Rattle.thes_sql.specs.OldStore.{KeepsAs, stored_version}
 use Rattle.thes_sql.specs.Reads.{tree_of}
-use Rattle.thes_sql.specs.Additions.{IsStoreSchema}
+use Rattle.thes_sql.specs.Additions.{IsStoreSchema, LeavesUserTables}
 use Rattle.thes_sql.proofs.ForeignKeyLemmas.{LeavesOtherTables}
 use Rattle.thes_sql.proofs.StatementLemmas.{Rewrites}
 
@@ -35,17 +35,18 @@ HoldsAs version table.Hier t tree = AreHidden hier_values t.hier tree
 HoldsAs version table.Posting t tree = HoldPostings t.posting tree
 HoldsAs version table.Move t tree = HoldMoves t.move tree
 
--- A database has become a store with these tables, whose table meta has this version, and has the schema that it had
--- before.
+-- A database has become a store with these tables, whose table meta has this version. It has the schema that it had
+-- before, and the rows of a user's tables.
 pub record BecomesAs (version : ℕ) (old new : Database) (t : Tables) : Type 0 where
   pub schema : new.schema ≡ old.schema
   pub keeps : KeepsAs version new t
+  pub users : LeavesUserTables old.schema old.trees new.trees
 
 -- A database in which each tree has its table's rows, and whose schema was that of a store, is a store with the tables.
 pub becomes_all : (version : ℕ) (old new : Database) (t : Tables) → new.schema ≡ old.schema → IsStoreSchema old.schema
     → ((p : Table) → HoldsAs version p t (new.trees (tree_of p))) → ArePostingsNumbered 1 t.posting → AreSpelled t
-    → BecomesAs version old new t
-becomes_all version old new t same has each numbered spelled = record {
+    → LeavesUserTables old.schema old.trees new.trees → BecomesAs version old new t
+becomes_all version old new t same has each numbered spelled users = record {
   schema = same;
   keeps = record {
     schema = subst IsStoreSchema (sym same) has;
@@ -62,6 +63,7 @@ becomes_all version old new t same has each numbered spelled = record {
     };
     hier = each table.Hier;
   };
+  users = users;
 }
 
 -- A store is of version 2 exactly if its table meta has version 2.
@@ -108,40 +110,40 @@ module _ (version : ℕ) (old new : State) (t : Tables) (kept : KeepsAs version 
       → BecomesAs version old.now new.now (record t { resource = rows })
   becomes_resource rows w = becomes_all version old.now new.now (record t { resource = rows }) w.schema kept.schema
       (elim [ table.Resource ↦ w.rows | p ↦ other_table_held w p (λ e. omega (arith, e)) ]) kept.hold.numbered
-      kept.hold.spelled
+      kept.hold.spelled w.users
 
   pub becomes_outside : (rows : List (ℕ × List ℕ)) → Rewrites 2 (HoldOutside rows) old new
       → AllByRecursion IsSpelledOutside rows → BecomesAs version old.now new.now (record t { outside = rows })
   becomes_outside rows w told = becomes_all version old.now new.now (record t { outside = rows }) w.schema kept.schema
       (elim [ table.Outside ↦ w.rows | p ↦ other_table_held w p (λ e. omega (arith, e)) ]) kept.hold.numbered
-      (kept.hold.spelled.0, (told, kept.hold.spelled.1.1))
+      (kept.hold.spelled.0, (told, kept.hold.spelled.1.1)) w.users
 
   pub becomes_label : (rows : List Label) → Rewrites 4 (AreHidden label_values rows) old new
       → AllByRecursion IsSpelledLabel rows → BecomesAs version old.now new.now (record t { label = rows })
   becomes_label rows w told = becomes_all version old.now new.now (record t { label = rows }) w.schema kept.schema
       (elim [ table.Label ↦ w.rows | p ↦ other_table_held w p (λ e. omega (arith, e)) ]) kept.hold.numbered
-      (kept.hold.spelled.0, (kept.hold.spelled.1.0, (told, kept.hold.spelled.1.1.1)))
+      (kept.hold.spelled.0, (kept.hold.spelled.1.0, (told, kept.hold.spelled.1.1.1))) w.users
 
   pub becomes_link : (rows : List Link) → Rewrites 6 (AreHidden link_values rows) old new
       → BecomesAs version old.now new.now (record t { link = rows })
   becomes_link rows w = becomes_all version old.now new.now (record t { link = rows }) w.schema kept.schema
       (elim [ table.Link ↦ w.rows | p ↦ other_table_held w p (λ e. omega (arith, e)) ]) kept.hold.numbered
-      kept.hold.spelled
+      kept.hold.spelled w.users
 
   pub becomes_hier : (rows : List HierRow) → Rewrites 11 (AreHidden hier_values rows) old new
       → BecomesAs version old.now new.now (record t { hier = rows })
   becomes_hier rows w = becomes_all version old.now new.now (record t { hier = rows }) w.schema kept.schema
       (elim [ table.Hier ↦ w.rows | p ↦ other_table_held w p (λ e. omega (arith, e)) ]) kept.hold.numbered
-      kept.hold.spelled
+      kept.hold.spelled w.users
 
   pub becomes_posting : (rows : List PostingRow) → Rewrites 8 (HoldPostings rows) old new → ArePostingsNumbered 1 rows
       → AllByRecursion IsSpelledPosting rows → BecomesAs version old.now new.now (record t { posting = rows })
   becomes_posting rows w num told = becomes_all version old.now new.now (record t { posting = rows }) w.schema
       kept.schema (elim [ table.Posting ↦ w.rows | p ↦ other_table_held w p (λ e. omega (arith, e)) ]) num
-      (kept.hold.spelled.0, (kept.hold.spelled.1.0, (kept.hold.spelled.1.1.0, told)))
+      (kept.hold.spelled.0, (kept.hold.spelled.1.0, (kept.hold.spelled.1.1.0, told))) w.users
 
   pub becomes_move : (rows : List MoveRow) → Rewrites 10 (HoldMoves rows) old new
       → BecomesAs version old.now new.now (record t { move = rows })
   becomes_move rows w = becomes_all version old.now new.now (record t { move = rows }) w.schema kept.schema
       (elim [ table.Move ↦ w.rows | p ↦ other_table_held w p (λ e. omega (arith, e)) ]) kept.hold.numbered
-      kept.hold.spelled
+      kept.hold.spelled w.users

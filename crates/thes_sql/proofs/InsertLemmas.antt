@@ -54,7 +54,7 @@ use Rattle.thes_sql.proofs.StatementTextLemmas.{IsCommandText, statement_text, s
 use Rattle.thes_sql.proofs.WriteEffectLemmas.{insert_effect, cast_int, cast_null}
 use Rattle.thes_sql.proofs.KeyedRowLemmas.{keyed_push}
 use Rattle.sqlite_trees.proofs.ListLemmas.{all-append}
-use Rattle.thes_sql.proofs.StatementLemmas.{Rewrites, rewrites_as}
+use Rattle.thes_sql.proofs.StatementLemmas.{Rewrites, rewrites_as, users_as}
 use Rattle.thes_sql.proofs.ForeignKeyLemmas.{get_first, writes_alone}
 use Rattle.thes_sql.proofs.HeldTableLemmas.{BecomesAs, becomes_resource, becomes_outside, becomes_label, becomes_link}
 use Rattle.thes_sql.proofs.HeldTableLemmas.{becomes_hier, becomes_posting, becomes_move, becomes_current, keeps_as_current}
@@ -71,7 +71,8 @@ pub makes_change : (params : Row) (c : Change) → ((old new : State) (t : Table
 makes_change params c makes old new (Err e) h = tt
 makes_change params c makes old new (Ok count) h = record {
   rows = λ t kept fits.
-      becomes_current old.now new.now _ (makes old new t count (keeps_as_current old.now t kept) fits h.0);
+      let made = makes old new t count (keeps_as_current old.now t kept) fits h.0 in
+      (becomes_current old.now new.now _ made, made.users);
   inside = h.1.mode;
   is_open = h.1.is_open;
 }
@@ -98,6 +99,7 @@ inserts_row at table sql terms width params source new is_at uncounted is given 
       rows = it.3.rows ∙ ap (λ all. edited db (edit_of db table [] Chosen 0 all)) (it.1.1 ∙ given)
           ∙ ap (λ row. put_row row (db table.tree)) (numbers (db table.tree));
       others = it.3.others;
+      users = users_as has.is it.3.users;
     }
 
 -- An INSERT of a row with a greater number than all others appends the row.

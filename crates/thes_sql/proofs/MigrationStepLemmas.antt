@@ -42,7 +42,7 @@ use Rattle.thes_sql.specs.OldStore.{HasMovedLinks, IsMigratedStore}
 use Rattle.thes_sql.specs.TransactionEffects.{TransformsTables}
 use Rattle.thes_sql.proofs.StatementTextLemmas.{plain_query, whole_program, equal_terms, IsCommandText}
 use Rattle.thes_sql.proofs.WriteEffectLemmas.{insert_effect, cast_int, cast_null}
-use Rattle.thes_sql.proofs.StatementLemmas.{Rewrites, rewrites_as, updates, deletes}
+use Rattle.thes_sql.proofs.StatementLemmas.{Rewrites, rewrites_as, updates, deletes, users_as}
 use Rattle.thes_sql.proofs.ForeignKeyLemmas.{writes_alone}
 use Rattle.thes_sql.proofs.HeldTableLemmas.{BecomesAs, other_table_held, becomes_all, becomes_current, becomes_hier}
 use Rattle.thes_sql.proofs.HeldTableLemmas.{becomes_link}
@@ -158,6 +158,7 @@ copies_links t old new count kept h =
       rows = subst (AreHidden hier_values rows)
           (sym (it.3.rows ∙ ap (λ l. edited trees (edit_of trees there [] Chosen 0 l)) given)) all;
       others = it.3.others;
+      users = users_as kept.schema.is it.3.users;
     })
 
 drops_copied : (t : Tables) (old new : State) (count : ℕ) → KeepsAs 1 old.now t
@@ -183,7 +184,7 @@ sets_version t old new count kept h =
     kept.schema (record { rises = (lit< tt, tt); rows = kept.hold.meta }) h) in
     becomes_current old.now new.now t (becomes_all 2 old.now new.now t w.schema kept.schema
     (elim [ table.Meta ↦ w.rows | p ↦ other_table_held 1 old new t kept w p (λ e. omega (arith, e)) ])
-    kept.hold.numbered kept.hold.spelled)
+    kept.hold.numbered kept.hold.spelled w.users)
 
 transforms_inside : (From To : Tables → Database → Type 0) (text : List ℕ) → ((t : Tables) (old new : State) (count : ℕ)
     → From t old.now → Executes text [] old new (Ok count) → To t new.now)

@@ -25,25 +25,35 @@ use Rattle.sqlite.specs.Listing.{understood}
 use Rattle.sqlite.specs.State.{State, Executes}
 use Rattle.sqlite.proofs.Callers.{statement_of, runs_as}
 use Rattle.sqlite_keyed.proofs.ListLemmas.{map-map}
-use Rattle.thes_sql.specs.Additions.{IsStoreSchema, schema_with, store_tables}
+use Rattle.thes_sql.specs.Additions.{IsStoreSchema, LeavesUserTables, schema_with, store_tables}
 use Rattle.thes_sql.specs.StoredRows.{AreKeyed}
 use Rattle.thes_sql.proofs.StatementTextLemmas.{plain_query, whole_program, IsCommandText}
 use Rattle.thes_sql.proofs.ForeignKeyLemmas.{LeavesOtherTables, get_first, writes_alone}
 use Rattle.thes_sql.proofs.WriteEffectLemmas.{update_effect, delete_effect}
 use Rattle.thes_sql.proofs.KeyedRowLemmas.{many_updated, many_dropped, change_num, rising_map, rising_filter}
 
--- The statement rewrites one table of a store: its tree satisfies `Holds`, and the schema and the other tables are
--- unchanged.
+-- The statement rewrites one table of a store: its tree satisfies `Holds`. The schema and the other tables are
+-- unchanged, also those of a user that no foreign key's action changes.
 pub record Rewrites (tree : ℕ) (Holds : List Row → Type 0) (old new : State) : Type 0 where
   pub schema : new.now.schema ≡ old.now.schema
   pub rows : Holds (new.now.trees tree)
   pub others : LeavesOtherTables tree old.now.trees new.now.trees
+  pub users : LeavesUserTables old.now.schema old.now.trees new.now.trees
 
 -- If `P` implies `Q` for the new rows, a statement that rewrites the table so that `P` holds rewrites it so that `Q`
 -- holds.
 pub rewrites_as : (tree : ℕ) {P Q : List Row → Type 0} (old new : State)
     → (P (new.now.trees tree) → Q (new.now.trees tree)) → Rewrites tree P old new → Rewrites tree Q old new
-rewrites_as tree old new tell w = record { schema = w.schema; rows = tell w.rows; others = w.others }
+rewrites_as tree old new tell w = record {
+  schema = w.schema;
+  rows = tell w.rows;
+  others = w.others;
+  users = w.users;
+}
+
+-- The user's tables are those of an equal schema.
+pub users_as : {a b : Schema} {old new : Trees} → a ≡ b → LeavesUserTables b old new → LeavesUserTables a old new
+users_as {a} {b} {old} {new} same left = subst (λ s. LeavesUserTables s old new) (sym same) left
 
 -- A query without subqueries, views and CTEs reads the database's own tables.
 pub no_lets : (db : Trees) (t : ℕ) → overlay db [] t ≡ db t
@@ -124,6 +134,7 @@ module _ {X : Type 0} (num : X → ℕ) (stored : X → Row) (is_num : (x : X) �
               ∙ ap (λ (l : List Row). without_all l (ids_of did.0)) held.rows ∙ left;
         };
         others = did.3.others;
+        users = users_as has.is did.3.users;
       }
 
   -- Assumes an UPDATE of the rows that pass.
@@ -170,4 +181,5 @@ module _ {X : Type 0} (num : X → ℕ) (stored : X → Row) (is_num : (x : X) �
                 held.rows ∙ changed;
           };
           others = did.3.others;
+          users = users_as has.is did.3.users;
         }

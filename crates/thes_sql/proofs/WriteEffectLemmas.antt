@@ -117,17 +117,17 @@ module _ (schema : Schema) (at : ℕ) (table : Table) (params : Row) (text : Lis
   edit_applied : (ids : List ℤ) (how : Rowids) (skip : ℕ) (rows : List Row) (next : Trees)
       → Edited schema Enforced db (edit_of db table ids how skip rows) (Ok next)
       → new.now ≡ record { schema = schema; trees = next }
-      → (new.now.schema ≡ schema) × EditsTable db (edit_of db table ids how skip rows) new.now.trees
+      → (new.now.schema ≡ schema) × EditsTable schema db (edit_of db table ids how skip rows) new.now.trees
   edit_applied ids how skip rows next did now =
       let one = alone db next (edit_of db table ids how skip rows) refl did in (
         ap (λ (d : Database). d.schema) now,
-        subst (λ (d : Database). EditsTable db (edit_of db table ids how skip rows) d.trees) (sym now) one,
+        subst (λ (d : Database). EditsTable schema db (edit_of db table ids how skip rows) d.trees) (sym now) one,
       )
 
   pub insert_effect : (from : Source) → table.is_counted ≡ false → Writes old new None (Insert at from) text params
       count
       → (rows : List Row) × Sourced old.step_limit database_before (stamped table params) from (Ok rows)
-      × (new.now.schema ≡ schema) × EditsTable db (edit_of db table [] Chosen 0 rows) new.now.trees
+      × (new.now.schema ≡ schema) × EditsTable schema db (edit_of db table [] Chosen 0 rows) new.now.trees
   insert_effect from uncounted w =
       let done = written_rows (Insert at from) w.tally (in_schema schema (Insert at from) params text old new count
       has w) in
@@ -137,7 +137,7 @@ module _ (schema : Schema) (at : ℕ) (table : Table) (params : Row) (text : Lis
 
   pub update_effect : (q : Program) → Writes old new None (Update at q) text params count
       → (rows : List Row) × Answers database_before q params rows × (new.now.schema ≡ schema)
-      × EditsTable db (edit_of db table (ids_of rows) Given 1 rows) new.now.trees
+      × EditsTable schema db (edit_of db table (ids_of rows) Given 1 rows) new.now.trees
   update_effect q w =
       let done = written_rows (Update at q) w.tally (in_schema schema (Update at q) params text old new count has w) in
       let there = read_then task q params db (λ rows. edit_of db table (ids_of rows) Given 1 rows)
@@ -147,7 +147,7 @@ module _ (schema : Schema) (at : ℕ) (table : Table) (params : Row) (text : Lis
 
   pub delete_effect : (q : Program) → Writes old new None (Delete at q) text params count
       → (rows : List Row) × Answers database_before q params rows × (new.now.schema ≡ schema)
-      × EditsTable db (edit_of db table (ids_of rows) Given 0 []) new.now.trees
+      × EditsTable schema db (edit_of db table (ids_of rows) Given 0 []) new.now.trees
   delete_effect q w =
       let done = written_rows (Delete at q) w.tally (in_schema schema (Delete at q) params text old new count has w) in
       let there = read_then task q params db (λ rows. edit_of db table (ids_of rows) Given 0 [])

@@ -14,21 +14,24 @@ use Rattle.sqlite_trees.specs.declared.store.Store.{Ghosts}
 use Rattle.thes_tables.specs.declared.change.Change.{Change}
 use Rattle.thes_tables.specs.Tables.{Tables}
 use Rattle.thes_tables.specs.Rows.{tables_after_change, tables_after_delta, ChangeFits, DeltaFits}
+use Rattle.thes_sql.specs.Additions.{LeavesUserTables}
 use Rattle.thes_sql.specs.StoredRows.{Keeps, KeepsIn}
 
 -- The call applies the change: a store with tables that the change fits becomes one with the tables after the change,
--- and with the same schema.
+-- and with the same schema and user's tables.
 pub record AppliesChange (change : Change) (old new : State) : Type 0 where
   pub rows : (t : Tables) → Keeps old.now t → ChangeFits change t
       → KeepsIn old.now.schema new.now (tables_after_change change t)
+      × LeavesUserTables old.now.schema old.now.trees new.now.trees
   pub inside : IsTrue new.in_transaction
   pub is_open : IsTrue new.is_open
 
 -- The call applies the changes: a store with tables that they fit becomes one with the tables after all of them, and
--- with the same schema.
+-- with the same schema and user's tables.
 pub record AppliesChanges (changes : List Change) (old new : State) : Type 0 where
   pub rows : (t : Tables) → Keeps old.now t → DeltaFits changes t
       → KeepsIn old.now.schema new.now (tables_after_delta changes t)
+      × LeavesUserTables old.now.schema old.now.trees new.now.trees
   pub inside : IsTrue new.in_transaction
 
 -- A prefix of the changes was applied; the others, `left`, are still to be applied.
@@ -37,6 +40,7 @@ pub record IsUnderWay (changes left : List Change) (old now : State) : Type 0 wh
       × KeepsIn old.now.schema now.now mid
       × DeltaFits left mid
       × (tables_after_delta left mid ≡ tables_after_delta changes t)
+      × LeavesUserTables old.now.schema old.now.trees now.now.trees
   pub inside : IsTrue now.in_transaction
 
 -- The database has this schema, and its tables have no rows.

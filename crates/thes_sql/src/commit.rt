@@ -2,6 +2,7 @@
 ghost use Rattle.std.specs.Prelude.{◌≡◌, IfOk, IsTrue};
 ghost use Rattle.thes_tables.specs.Tables.{Tables};
 ghost use Rattle.thes_tables.specs.Rows.{tables_after_delta, DeltaFits};
+ghost use Rattle.thes_sql.specs.Additions.{LeavesUserTables};
 ghost use Rattle.thes_sql.specs.StoredRows.{Keeps, KeepsIn, Hold};
 ghost use Rattle.thes_sql.specs.TransactionEffects.{AppliesChanges, SucceedsInside, StaysInside, IsOwnTransaction};
 ghost use Rattle.sqlite.specs.State.{HasCleanDisk, Survives};
@@ -24,8 +25,9 @@ fn apply_all<S: Alter>(tx: &mut Transaction<'_, S>, changes: &[Change]) -> Resul
     Ok(())
 }
 
-/// Applies the changes in one transaction, atomically even if a crash interrupts it. Returns false,
-/// and changes nothing, if the connection is in a transaction already.
+/// Applies the changes in one transaction, atomically even if a crash interrupts it. Leaves a
+/// user's tables as they are, but for those with foreign keys. Returns false, and changes nothing,
+/// if the connection is in a transaction already.
 pub fn commit_all<S: Alter>(conn: &mut Connection<S>, changes: &[Change]) -> Result<bool, Error>
     ensures all { HasCleanDisk (state S.Store conn.new) → IfOk result (λ done. IsTrue done
         → (t : Tables) → Keeps (state S.Store conn.old).now t → DeltaFits changes.now t
@@ -33,10 +35,18 @@ pub fn commit_all<S: Alter>(conn: &mut Connection<S>, changes: &[Change]) -> Res
         (tables_after_delta changes.now t)
         × KeepsIn (state S.Store conn.old).now.schema (state S.Store conn.new).now
         (tables_after_delta changes.now t)) }
+    ensures users { HasCleanDisk (state S.Store conn.new) → IfOk result (λ done. IsTrue done
+        → (t : Tables) → Keeps (state S.Store conn.old).now t → DeltaFits changes.now t
+        → LeavesUserTables (state S.Store conn.old).now.schema (state S.Store conn.old).now.trees
+        (state S.Store conn.new).committed.trees) }
     ensures own { IsOwnTransaction S.Store conn.old conn.new result }
     ensures crash { Survives (state S.Store conn.old) (state S.Store conn.new)
         (λ trees. (t : Tables) → Keeps (state S.Store conn.old).now t → DeltaFits changes.now t
         → Hold trees (tables_after_delta changes.now t)) }
+    ensures crash_users { Survives (state S.Store conn.old) (state S.Store conn.new)
+        (λ trees. (t : Tables) → Keeps (state S.Store conn.old).now t → DeltaFits changes.now t
+        → LeavesUserTables (state S.Store conn.old).now.schema
+        (state S.Store conn.old).now.trees trees) }
 {
     if !conn.is_autocommit() {
         return Ok(false);

@@ -2,7 +2,7 @@
 ghost use mathlib.Core.Logic.{inl, inr};
 ghost use Rattle.std.specs.Prelude.{◌≡◌, false, IfOk, IsTrue};
 ghost use Rattle.sqlite.specs.Held.{state};
-ghost use Rattle.sqlite.specs.State.{HasCleanDisk};
+ghost use Rattle.sqlite.specs.State.{HasCleanDisk, Survives};
 ghost use Rattle.sqlite.specs.Values.{bound};
 ghost use Rattle.thes_sql.specs.Queries.{IsQuery};
 ghost use Rattle.thes_sql.specs.Reads.{LeavesTables};
@@ -23,6 +23,7 @@ use thes_tables::rows::{HierRow, LabelRow};
 #[tactic(auto, using(crate::proofs::ReadFrameLemmas::shut_before))]
 pub fn is_shut<S: Alter>(conn: &mut Connection<S>) -> bool
     ensures leaves { LeavesTables S.Store conn.old conn.new }
+    ensures crash { Survives (state S.Store conn.old) (state S.Store conn.new) (λ _. ⊥) }
     ensures shut { IsTrue result → HasCleanDisk (state S.Store conn.new)
         → (state S.Store conn.old).is_open ≡ false }
 {

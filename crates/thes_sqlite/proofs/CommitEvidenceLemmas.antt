@@ -30,8 +30,9 @@ use Rattle.thes_sql.specs.Traces.{ListedRow, is_same_hier, row_of, has_row, show
 use Rattle.thes_sql.specs.Traces.{has_outside, has_posting, has_withdrawn, has_move}
 use Rattle.thes_sql.proofs.NumberedChangeLemmas.{change_if_at_number, dead_is, list_changed_at}
 use Rattle.thes_sqlite.specs.CommitEvidence.{inserts_for_good, marks_for_good, sets_places, is_equal_row, are_same}
-use Rattle.thes_sqlite.specs.CommitEvidence.{turns, last_turning, evidence, HasEffect, HaveEffect, HaveSameRows}
-use Rattle.thes_sqlite.specs.CommitEvidence.{IsRightAnswer}
+use Rattle.thes_sqlite.specs.CommitEvidence.{turns, last_turning, evidence, HaveSameRows, IsRightAnswer}
+use Rattle.thes_sqlite.proofs.FittingEffectLemmas.{HasEffect, HaveEffect, fitting_effect, numbered_before}
+use Rattle.thes_sqlite.proofs.RowEqualityLemmas.{label_exact, label_itself, link_exact, link_itself, hier_exact, hier_itself}
 
 -- Rows that are there for good.
 
@@ -229,32 +230,6 @@ module _ {K : Type 0} (eq : K → K → Bool) (exact : (x y : K) → eq x y ≡ 
             let present : not (has x rows) ≡ false = subst (λ (k : K). not (has k rows) ≡ false) (exact m x is) there in
             grind (arith, common_steps)
         go false is = any-filter_same (λ k. eq k x) (λ k. not (eq k m)) true (left is) rows
-
-label_exact : (x y : Label) → eq_by_cmp label_cmp x y ≡ true → x ≡ y
-label_exact = equal_of_tie labels_total labels_exact
-
-label_itself : (x : Label) → eq_by_cmp label_cmp x x ≡ true
-label_itself x = ap is_eq (tied_itself labels_total x)
-
-link_exact : (x y : Link) → eq_by_cmp link_cmp x y ≡ true → x ≡ y
-link_exact = equal_of_tie links_total links_exact
-
-link_itself : (x : Link) → eq_by_cmp link_cmp x x ≡ true
-link_itself x = ap is_eq (tied_itself links_total x)
-
-same_type : (s t : HierType) → hier_kind s ≡ hier_kind t → s ≡ t
-same_type s t e = grind (arith, common_steps)
-
-hier_exact : (x y : HierRow) → is_same_hier x y ≡ true → x ≡ y
-hier_exact x y e =
-    let same = link_exact (hier_link x) (hier_link y) e in
-    let types : x.typ ≡ y.typ = same_type x.typ y.typ (ap (λ (l : Link). l.kind) same) in
-    let a : x.a ≡ y.a = ap (λ (l : Link). l.a) same in
-    let b : x.b ≡ y.b = ap (λ (l : Link). l.b) same in
-    λ i. record { a = a i; b = b i; typ = types i }
-
-hier_itself : (x : HierRow) → is_same_hier x x ≡ true
-hier_itself x = link_itself (hier_link x)
 
 -- A change that inserts or deletes the row reverses whether the row is there; no other change affects that.
 flips : (row : Option ListedRow) (d : Change) (t : Tables) → HasEffect d t
@@ -504,12 +479,14 @@ pub right_answer_by_change : (changes : List Change) (db : Database) (c : Change
     → evidence changes ≡ Some c
     → ((t : Tables) → Keeps db t → found ≡ shows_change c t) → IsRightAnswer changes db (Some found)
 right_answer_by_change changes db c found is shows = record {
-  with_none = λ t does keeps said.
+  with_none = λ t fits keeps said.
+      let does = fitting_effect changes t keeps.hold.numbered fits in
       let apart = evidence_decides changes t c does is in
       let shown = shows t keeps in
       let never = apart.with_none in
       absurd (let yes : found ≡ true = grind (arith, common_steps) in cc);
-  with_all = λ t does keeps said.
+  with_all = λ t fits keeps said.
+      let does = fitting_effect changes t (numbered_before changes t fits keeps.hold.numbered) fits in
       let apart = evidence_decides changes t c does is in
       let shown = shows (tables_after_delta changes t) keeps in
       let always = apart.with_all in
@@ -519,15 +496,16 @@ right_answer_by_change changes db c found is shows = record {
 pub right_without_answer : (changes : List Change) (db : Database) → IsRightAnswer changes db None
 right_without_answer changes db =
     record {
-      with_none = λ t does keeps said. absurd (cc);
-      with_all = λ t does keeps said. absurd (cc);
+      with_none = λ t fits keeps said. absurd (cc);
+      with_all = λ t fits keeps said. absurd (cc);
     }
 
 pub right_answer_without_evidence : (changes : List Change) (db : Database) → evidence changes ≡ None
     → list_any sets_places changes ≡ false → IsRightAnswer changes db (Some (not (length changes == 0)))
 right_answer_without_evidence changes db is places = record {
-  with_none = λ t does keeps said. same_without_evidence changes t does is places;
-  with_all = λ t does keeps said. empty changes said;
+  with_none = λ t fits keeps said.
+      same_without_evidence changes t (fitting_effect changes t keeps.hold.numbered fits) is places;
+  with_all = λ t fits keeps said. empty changes said;
 }
   where
     empty : (cs : List Change) → Some (not (length cs == 0)) ≡ Some false → cs ≡ []

@@ -28,6 +28,7 @@ use Rattle.thes_tables.specs.Cells.{cells_of_tables, number_cell, flag_cell, res
 use Rattle.thes_tables.specs.Cells.{resource_rows, meta_cells, outside_cells, label_cells, link_cells, hier_cells}
 use Rattle.thes_tables.specs.Cells.{posting_cells, move_cells}
 use Rattle.thes_tables.proofs.CellLemmas.{listed_one}
+use Rattle.thes_sql.specs.Additions.{LeavesUserTables}
 use Rattle.thes_sql.specs.StoredRows.{Keeps, KeepsIn, Hold, AreKeyed, AreHidden, hidden_row, value_of, numbered_from}
 use Rattle.thes_sql.specs.StoredRows.{stored_resource}
 use Rattle.thes_sql.specs.StoredRows.{stored_outside, stored_posting, stored_move, label_values, link_values}
@@ -38,7 +39,7 @@ use Rattle.thes_sql.proofs.KeyedRowLemmas.{is_table}
 use Rattle.thes_sqlite.specs.KeeperView.{raw_in, raw_of_keeper, KeeperView, IsKeeperUp, IsUp, HasCommittedTables}
 use Rattle.thes_sqlite.specs.KeeperView.{IsStore, IsKeeperState, LeavesEither, LeavesAfter}
 use Rattle.thes_store.specs.Storage.{RawAfterChanges}
-use Rattle.thes_sqlite.specs.Commits.{AppliesAll, DatabaseFrame}
+use Rattle.thes_sqlite.specs.Commits.{AppliesAll, DatabaseFrame, MakesAll}
 use Rattle.thes_sqlite.specs.ValueCells.{cell_of}
 use Rattle.thes_sqlite.proofs.ValueLemmas.{text_cell}
 
@@ -329,7 +330,36 @@ pub applies_done : {S E : Type 0} (g : Ghosts S) (inside old new : Held S) (chan
     → DeltaFits changes t
     → KeepsIn (state g inside).now.schema (state g new).committed (tables_after_delta changes t)
     × KeepsIn (state g inside).now.schema (state g new).now (tables_after_delta changes t)))
+    → (HasCleanDisk (state g new) → IfOk r (λ d. IsTrue d → (t : Tables) → Keeps (state g inside).now t
+    → DeltaFits changes t
+    → LeavesUserTables (state g inside).now.schema (state g inside).now.trees (state g new).committed.trees))
     → AppliesAll g changes old new
-applies_done {S} g inside old new changes (Ok d) done is same idle own all clean t keeps fits =
-    (all clean (own.begins idle) t (subst (λ (h : Held S). Keeps (state g h).now t) (sym same) keeps) fits).1.keeps
-applies_done g inside old new changes (Err e) done is same idle own all clean t keeps fits = absurd (cc)
+applies_done {S} g inside old new changes (Ok d) done is same idle own all users clean t keeps fits =
+    let was : Keeps (state g inside).now t = subst (λ (h : Held S). Keeps (state g h).now t) (sym same) keeps in (
+      (all clean (own.begins idle) t was fits).1.keeps,
+      subst (λ (h : Held S). LeavesUserTables (state g h).now.schema (state g h).now.trees
+          (state g new).committed.trees) same (users clean (own.begins idle) t was fits),
+    )
+applies_done g inside old new changes (Err e) done is same idle own all users clean t keeps fits = absurd (cc)
+
+-- A crash of a commit leaves what it could leave before, or all changes and a user's tables as they were.
+pub makes_all : {S : Type 0} (g : Ghosts S) (old new : Held S) (changes : List Change)
+    → Survives (state g old) (state g new) (λ trees. (t : Tables) → Keeps (state g old).now t → DeltaFits changes t
+    → Hold trees (tables_after_delta changes t))
+    → Survives (state g old) (state g new) (λ trees. (t : Tables) → Keeps (state g old).now t → DeltaFits changes t
+    → LeavesUserTables (state g old).now.schema (state g old).now.trees trees)
+    → Survives (state g old) (state g new) (MakesAll changes (state g old))
+makes_all g old new changes tables users = record {
+  clean = tables.clean;
+  shield = tables.shield;
+  counts = tables.counts;
+  limit = tables.limit;
+  closes = tables.closes;
+  crash = λ clean db may. elim (tables.crash clean db may) [
+    | inl before ↦ inl before
+    | inr all ↦ elim (users.crash clean db may) [
+      | inl before ↦ inl before
+      | inr same ↦ inr (λ t keeps fits. (all t keeps fits, same t keeps fits))
+    ]
+  ];
+}

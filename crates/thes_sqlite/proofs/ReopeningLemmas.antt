@@ -1,17 +1,24 @@
 -- Proves which connection a `ReopeningKeeper` returns, that it loses its first one only when a failure has shut that,
 -- and what its commits answer.
-use Rattle.std.proofs.Common.{◌≡◌, ◌∙◌, inl, inr, List, Bool, true, false, Option, None, Some, refl, sym, ap, subst}
+use Rattle.std.proofs.Common.{arith, ◌≡◌, ◌∙◌, inl, inr, List, Bool, true, false, Option, None, Some, refl, sym, ap, subst}
+use Rattle.std.specs.Prelude.{IfSome}
 use Rattle.std.proofs.lemmas.Option.{same_Some}
 use Rattle.sqlite.specs.Held.{Held, state}
-use Rattle.sqlite.specs.State.{HasCleanDisk}
+use Rattle.sqlite.proofs.StateLemmas.{survives_then}
+use Rattle.sqlite.specs.State.{State, HasCleanDisk}
+use Rattle.sqlite.specs.Tree.{Trees}
 use Rattle.sqlite_trees.specs.declared.store.Store.{Ghosts}
 use Rattle.sqlite_wal.specs.Recovery.{Image}
 use Rattle.thes_tables.specs.declared.change.Change.{Change}
+use Rattle.thes_sqlite.specs.Commits.{MakesNone}
 use Rattle.thes_sqlite.specs.DatabaseFiles.{ServesFiles}
 use Rattle.thes_sqlite.specs.KeeperView.{KeeperView, IsKeeperState}
 use Rattle.thes_sqlite.specs.MigrationEffects.{LeavesUnwritten}
 use Rattle.thes_sqlite.specs.Reopening.{ReopeningView, IsKeptOrLost, IsOfFiles, LosesShut, ReturnsFirst}
 use Rattle.thes_sqlite.specs.Reopening.{ShowsChanges, StaysUnwritten, IsRightAnswerOpen, first_storage}
+use Rattle.thes_sqlite.specs.Reopening.{Becomes, MakesAtMost, OnlyReads, connection_of, keeper_of_connection}
+use Rattle.thes_sqlite.specs.Reopening.{opened_again, still_open}
+use Rattle.thes_sqlite.specs.Reopenings.{next_count}
 
 -- A connection that was opened again isn't reported as the first one.
 pub reports_reopened : {A : Type 0} (o : A) (returned : A × Bool) → returned ≡ (o, true) → returned.1 ≡ false → ⊥
@@ -132,3 +139,77 @@ pub ends_fault : {S : Type 0} (g : Ghosts S) (changes : List Change) (old mid ne
     → ShowsChanges g changes old new false
 ends_fault g changes old mid new none (inl stays) = inl (stays_then g old.storage mid.storage new.storage none stays)
 ends_fault g changes old mid new none (inr told) = inr told
+
+-- A connection that isn't used leaves what it left.
+pub becomes_itself : {S : Type 0} (g : Ghosts S) (Makes : State → Trees → Type 0) (storage : Option (KeeperView S))
+    → Becomes g Makes storage (connection_of storage)
+becomes_itself g Makes None = tt
+becomes_itself g Makes (Some k) = record {
+  clean = omega arith;
+  shield = λ shielded. shielded;
+  counts = omega arith;
+  limit = refl;
+  closes = λ clean opened. inl opened;
+  crash = λ clean db may. inl may;
+}
+
+becomes_then : {S : Type 0} (g : Ghosts S) (Makes : State → Trees → Type 0) (a b : Option (KeeperView S))
+    (c : Option (Held S)) → Becomes g Makes a (connection_of b) → Becomes g MakesNone b c → Becomes g Makes a c
+becomes_then g Makes None None None first second = tt
+becomes_then g Makes None None (Some z) first second = absurd second
+becomes_then g Makes None (Some y) c first second = absurd first
+becomes_then g Makes (Some x) None c first second = absurd first
+becomes_then g Makes (Some x) (Some y) None first second = absurd second
+becomes_then g Makes (Some x) (Some y) (Some z) first second =
+    survives_then (state g x.conn) (state g y.conn) (state g z) (Makes (state g x.conn)) (λ _. ⊥)
+    (Makes (state g x.conn)) (λ _ db made. made) (λ _ db none. absurd none) first second
+
+pub makes_now : {S : Type 0} (g : Ghosts S) (Makes : State → Trees → Type 0) (old new : ReopeningView S)
+    → new.reopenings ≡ old.reopenings → Becomes g Makes old.storage (connection_of new.storage)
+    → MakesAtMost g Makes old new
+makes_now g Makes old new same becomes = still_open same becomes
+
+-- What follows a commit and writes nothing leaves all its changes or none.
+pub makes_then : {S : Type 0} (g : Ghosts S) (Makes : State → Trees → Type 0) (old mid new : ReopeningView S)
+    → mid.reopenings ≡ old.reopenings → Becomes g Makes old.storage (connection_of mid.storage)
+    → MakesAtMost g MakesNone mid new → MakesAtMost g Makes old new
+makes_then g Makes old mid new same first (still_open stays second) = still_open (stays ∙ same)
+    (becomes_then g Makes old.storage mid.storage (connection_of new.storage) first second)
+makes_then g Makes old mid new same first (opened_again once second reads) =
+    opened_again (once ∙ ap next_count same)
+    (becomes_then g Makes old.storage mid.storage new.closed first second) reads
+
+-- A look-up in the database that was opened again writes nothing.
+pub reads_then : {S : Type 0} (g : Ghosts S) (opened : Option (Held S)) (before after : Option (KeeperView S))
+    → OnlyReads g opened before → StaysUnwritten g before after → OnlyReads g opened after
+reads_then g None None None reads stays = tt
+reads_then g None None (Some m) reads stays = absurd stays
+reads_then g None (Some l) after reads stays = absurd reads
+reads_then g (Some conn) None None reads stays = reads
+reads_then g (Some conn) None (Some m) reads stays = absurd stays
+reads_then g (Some conn) (Some l) None reads stays = absurd stays
+reads_then g (Some conn) (Some l) (Some m) reads stays = λ up.
+    let later = stays up in
+    let before = reads later.0 in
+    (before.0, (later.1.0 ∙ before.1.0, later.1.1 ∙ before.1.1))
+
+-- So does one through the storage over it.
+pub reads_after : {S : Type 0} (g : Ghosts S) (storage : Option (KeeperView S)) (u v : ReopeningView S)
+    (k l : KeeperView S) → u ≡ v → Becomes g MakesNone storage v.closed × OnlyReads g v.opened v.storage
+    → u.storage ≡ Some k → LeavesUnwritten g k.conn l.conn
+    → Becomes g MakesNone storage u.closed × OnlyReads g u.opened (Some l)
+reads_after {S} g storage u v k l same again is leaves =
+    let both = subst (λ (w : ReopeningView S). Becomes g MakesNone storage w.closed × OnlyReads g w.opened w.storage)
+    (sym same) again in (
+      both.0,
+      reads_then g u.opened (Some k) (Some l)
+          (subst (λ (o : Option (KeeperView S)). OnlyReads g u.opened o) is both.1) leaves,
+    )
+
+-- The storage over a connection that was just opened has written nothing.
+pub reads_opened : {S : Type 0} (g : Ghosts S) (conn : Held S) (storage : Option (KeeperView S))
+    → (conn.in_transaction ≡ false → storage ≡ Some (keeper_of_connection conn))
+    → IfSome storage (λ k. k.conn ≡ conn) → OnlyReads g (Some conn) storage
+reads_opened g conn None adopts same = λ idle. let never = adopts idle in absurd (cc)
+reads_opened {S} g conn (Some l) adopts same =
+    subst (λ (c : Held S). LeavesUnwritten g conn c) (sym same) (λ up. (up, (refl, refl)))

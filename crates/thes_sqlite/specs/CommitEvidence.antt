@@ -9,10 +9,10 @@ use Rattle.thes_base.specs.Labels.{label_cmp}
 use Rattle.thes_base.specs.Links.{link_cmp}
 use Rattle.thes_tables.specs.declared.change.Change.{Change}
 use Rattle.thes_tables.specs.declared.change.Change.TheVariants as change
-use Rattle.thes_tables.specs.Rows.{tables_after_change, tables_after_delta}
+use Rattle.thes_tables.specs.Rows.{tables_after_delta, DeltaFits}
 use Rattle.thes_tables.specs.Tables.{Tables}
 use Rattle.thes_sql.specs.StoredRows.{Keeps}
-use Rattle.thes_sql.specs.Traces.{ListedRow, is_same_hier, row_of, has_row, shows_change}
+use Rattle.thes_sql.specs.Traces.{ListedRow, is_same_hier, row_of, has_row}
 
 -- Whether the change inserts a row that is never deleted.
 abbrev pub inserts_for_good : Change → Bool
@@ -65,18 +65,6 @@ abbrev pub evidence : List Change → Option Change
 evidence changes =
     option_or (find inserts_for_good changes) (option_or (find marks_for_good changes) (last_turning changes changes))
 
--- The change has an effect: the tables after it show it, and those before it don't; a change of places always counts as
--- having an effect.
-abbrev pub HasEffect : Change → Tables → Type 0
-HasEffect (change.SetPlace n place) t = Unit {0}
-HasEffect (change.MoveAll source target) t = Unit {0}
-HasEffect c t = (shows_change c t ≡ false) × (shows_change c (tables_after_change c t) ≡ true)
-
--- Each change of the list has an effect on the tables that the changes before it leave.
-abbrev pub HaveEffect : List Change → Tables → Type 0
-HaveEffect [] t = Unit {0}
-HaveEffect (c ∷ changes) t = HasEffect c t × HaveEffect changes (tables_after_change c t)
-
 -- Both sets of tables have the same rows; those of label, link and hier may be in another order.
 pub record HaveSameRows (t u : Tables) : Type 0 where
   pub same_base : u.base ≡ t.base
@@ -86,11 +74,11 @@ pub record HaveSameRows (t u : Tables) : Type 0 where
   pub same_posting : u.posting ≡ t.posting
   pub same_move : u.move ≡ t.move
 
--- If each change has an effect, the answer is right for tables that have all changes or none: it is `true` over the
+-- If the changes fit the tables, the answer is right for a store that has all changes or none: it is `true` over the
 -- tables without them only if the changes leave the rows the same, and `false` over the tables with them only if there
 -- are no changes. None is no answer.
 pub record IsRightAnswer (changes : List Change) (db : Database) (answer : Option Bool) : Type 0 where
-  pub with_none : (t : Tables) → HaveEffect changes t → Keeps db t → answer ≡ Some true
+  pub with_none : (t : Tables) → DeltaFits changes t → Keeps db t → answer ≡ Some true
       → HaveSameRows t (tables_after_delta changes t)
-  pub with_all : (t : Tables) → HaveEffect changes t → Keeps db (tables_after_delta changes t) → answer ≡ Some false
+  pub with_all : (t : Tables) → DeltaFits changes t → Keeps db (tables_after_delta changes t) → answer ≡ Some false
       → changes ≡ []

@@ -1,5 +1,5 @@
 -- Stores in the two files of a database: what opening finds, and what a failed opening and closing leave.
-use Rattle.std.specs.Prelude.{◌≡◌, ◌⊎◌, ℕ, List, []}
+use Rattle.std.specs.Prelude.{◌≡◌, ◌⊎◌, ℕ, List, [], IsTrue}
 use Rattle.sqlite_disk.specs.declared.Disk.{Ghosts}
 use Rattle.sqlite_disk.specs.declared.Files.{Files}
 use Rattle.sqlite_wal.specs.Recovery.{Image}
@@ -8,12 +8,16 @@ use Rattle.sqlite.specs.Effect.{Database, IsDatabase}
 use Rattle.sqlite.specs.Files.{FailsToOpenFiles, HoldsDatabase, IsCleanLeft, LeavesFiles, image_of}
 use Rattle.sqlite.specs.Schema.{Schema}
 use Rattle.sqlite.specs.Start.{FindsIn}
-use Rattle.sqlite.specs.State.{State}
+use Rattle.sqlite.specs.State.{State, HasCleanDisk}
+use Rattle.sqlite.specs.Tree.{Trees}
 use Rattle.sqlite.specs.declared.error.Error.{Error}
 use Rattle.sqlite.specs.declared.file.Leftover.{Leftover}
+use Rattle.sqlite_store.specs.FileStore.{recovers}
+use Rattle.sqlite_store.specs.declared.store.FileStore.{FileStore}
 use Rattle.thes_tables.specs.Tables.{Tables, empty_tables}
 use Rattle.thes_sql.specs.Schema.{empty_schema, store_schema}
 use Rattle.thes_sql.specs.StoredRows.{KeepsIn}
+use Rattle.thes_sql.specs.OldStore.{KeepsOld}
 use Rattle.thes_sqlite.specs.Causes.{opening_cause}
 use Rattle.thes_sqlite.specs.KeeperView.{IsUp}
 use Rattle.thes_sqlite.specs.declared.cause.Cause.{Cause}
@@ -24,6 +28,13 @@ pub record HoldsStore (image : Image) (schema : Schema) (t : Tables) : Type 0 wh
   pub files_hold : ∥ HoldsDatabase image database.trees ∥₁
   pub sound : IsDatabase database
   pub keeps : KeepsIn schema database t
+
+-- The contents of the two files are a database that is a store of version 1 with these tables.
+pub record HoldsOldStore (image : Image) (t : Tables) : Type 0 where
+  pub database : Database
+  pub files_hold : ∥ HoldsDatabase image database.trees ∥₁
+  pub sound : IsDatabase database
+  pub keeps : KeepsOld database t
 
 -- The file of a database is absent or empty, whatever its log holds.
 abbrev pub IsNewFile : Image → Type 0
@@ -49,12 +60,13 @@ unfoldable pub ServesFiles : Image → State → Type 0
 ServesFiles image s = IsUp s → (base : List ℕ) (schema : Schema) (t : Tables) → IsInitialStore image base schema t
     → ServesInitial image schema t s
 
--- A database was opened in files with these contents, which may be anything. If they are a store, the database is this
--- store, and nothing in it is uncommitted. In a new file it has no tables.
+-- A database was opened in files with these contents, which may be anything. Nothing in it is uncommitted. If they are
+-- a store, of version 2 or 1, the database is this store. In a new file it has no tables.
 pub record OpensFiles (image : Image) (s : State) : Type 0 where
   pub finds : FindsIn image s
   pub settled : s.now ≡ s.committed
   pub serves : (schema : Schema) (t : Tables) → HoldsStore image schema t → KeepsIn schema s.now t
+  pub serves_old : (t : Tables) → HoldsOldStore image t → KeepsOld s.now t
   pub empty : IsNewFile image → s.now.schema ≡ empty_schema
 
 -- A failed opening keeps what the files hold, unless the disk fails silently. Whatever a crash leaves of them is read
@@ -70,11 +82,19 @@ pub record FailsToOpen {D : Type 0} {g : Ghosts D} (AreOpened : Files D → Type
   pub reason : IsCleanLeft rest → FailsToOpenFiles files rest error
   pub keeps_files : IsCleanLeft rest → LeavesFiles files rest
 
--- The files were closed. If the database was a store, and nothing in it was uncommitted, they hold this store, as they
--- read now and whatever a crash leaves of them.
+-- The files were closed. They hold the database as it was last committed, as they read now and whatever a crash leaves
+-- of them.
 pub record ClosesFiles {D : Type 0} (g : Ghosts D) (s : State) (files : Files D) : Type 0 where
   pub was_up : IsUp s
-  pub holds : s.now ≡ s.committed → (schema : Schema) (t : Tables) → KeepsIn schema s.now t
-      → HoldsStore (image_of g files) schema t
-  pub crash : s.now ≡ s.committed → (schema : Schema) (t : Tables) → KeepsIn schema s.now t → (image : Image)
-      → outcomes g files.log files.db image → HoldsStore image schema t
+  pub sound : IsDatabase s.committed
+  pub holds : ∥ HoldsDatabase (image_of g files) s.committed.trees ∥₁
+  pub crash : (image : Image) → outcomes g files.log files.db image → ∥ HoldsDatabase image s.committed.trees ∥₁
+
+-- A database couldn't be closed, and `rest` is the part of its connection that has the files. The next opening finds in
+-- them only what it could have found before, also after a crash; if the database was open, that is the database as it
+-- was last committed.
+pub record FailsToClose {D : Type 0} {g : Ghosts D} (s : State) (rest : FileStore D g) : Type 0 where
+  pub was_clean : HasCleanDisk s
+  pub finds : (db : Trees) → recovers rest db → s.may_leave db
+  pub sound : IsTrue s.is_open → IsDatabase s.committed
+  pub holds : IsTrue s.is_open → (db : Trees) → recovers rest db → db ≡ s.committed.trees

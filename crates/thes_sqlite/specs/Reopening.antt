@@ -1,9 +1,10 @@
 -- The state of storage in a database that is opened again after a failure.
-use Rattle.std.specs.Prelude.{◌≡◌, ◌⊎◌, ℕ, Bool, true, false, List, Option, None, Some, Result, Ok, Err, OnErr, refl}
+use Rattle.std.specs.Prelude.{◌≡◌, ◌⊎◌, ℕ, Bool, true, false, List, Option, None, Some, Result, Ok, Err, OnErr, option_map, refl}
 use Rattle.std.specs.Coded.{Coded, code_by, coded×, coded_ℕ, coded_bool, coded_option}
 use Rattle.sqlite.specs.Effect.{Database}
-use Rattle.sqlite.specs.Held.{Held, state}
-use Rattle.sqlite.specs.State.{HasCleanDisk}
+use Rattle.sqlite.specs.Held.{Held, held_code, state}
+use Rattle.sqlite.specs.State.{State, HasCleanDisk, Survives}
+use Rattle.sqlite.specs.Tree.{Trees}
 use Rattle.sqlite_trees.specs.declared.store.Store.{Ghosts}
 use Rattle.sqlite_wal.specs.Recovery.{Image}
 use Rattle.thes_base.specs.declared.fault.Fault.{Fault}
@@ -15,6 +16,7 @@ use Rattle.thes_sqlite.specs.FoundRows.{FindsTables, IsKeeperOpen}
 use Rattle.thes_sqlite.specs.KeeperView.{KeeperView, keeper_view_code, raw_of_keeper, IsKeeperState, IsKeeperUp}
 use Rattle.thes_sqlite.specs.KeeperView.{IsUp}
 use Rattle.thes_sqlite.specs.Commits.{AppliesAll}
+use Rattle.thes_sqlite.specs.Reopenings.{next_count}
 use Rattle.thes_sqlite.specs.MigrationEffects.{LeavesUnwritten}
 use Rattle.thes_sqlite.specs.CommitEvidence.{IsRightAnswer}
 
@@ -33,6 +35,11 @@ pub record ReopeningView (S : Type 0) : Type 0 where
   pub storage : Option (KeeperView S)
   -- Whether a commit that returned `Store` may have been made.
   pub is_in_doubt : Bool
+  -- The number of times that the database was opened again; it saturates.
+  pub reopenings : ℕ
+  -- The connection that was closed when the database was last opened again, and the one that was opened then.
+  pub closed : Option (Held S)
+  pub opened : Option (Held S)
 
 -- The storage that opens its database again, over a new connection and before any call.
 abbrev pub view_of_connection : {S : Type 0} → Held S → ReopeningView S
@@ -41,6 +48,9 @@ view_of_connection conn = record {
   failures = 0;
   storage = Some (keeper_of_connection conn);
   is_in_doubt = false;
+  reopenings = 0;
+  closed = None;
+  opened = None;
 }
 
 -- The storage over the first connection: None if a failure has shut that connection, and else the storage over the open
@@ -49,14 +59,33 @@ abbrev pub first_storage : {A : Type 0} → Bool → Option A → Option A
 first_storage true storage = None
 first_storage false storage = storage
 
+-- The connection that the opener was last given, if the database was opened again.
+abbrev pub closed_if : {A : Type 0} → Bool → Option A → Option A
+closed_if true conn = conn
+closed_if false conn = None
+
+-- The connection that the opener returned last, if the database was opened again.
+abbrev pub opened_if : {A E : Type 0} → Bool → Result A E → Option A
+opened_if true (Ok conn) = Some conn
+opened_if true (Err cause) = None
+opened_if false result = None
+
 -- The coding of a view as the tuple of its parts, which determine it.
 abbrev pub reopening_view_code : {S : Type 0} → Coded S → Coded (ReopeningView S)
 reopening_view_code {S} store =
-    code_by (Option (KeeperView S) × (ℕ × (Option (KeeperView S) × Bool)))
+    code_by (Option (KeeperView S) × (ℕ × (Option (KeeperView S) × (Bool × (ℕ × (Option (Held S) × Option (Held S)))))))
     (coded× (coded_option (keeper_view_code store)) (coded× coded_ℕ (coded× (coded_option (keeper_view_code store))
-    coded_bool)))
-    (λ k. (k.first, (k.failures, (k.storage, k.is_in_doubt))))
-    (λ p. record { first = p.0; failures = p.1.0; storage = p.1.1.0; is_in_doubt = p.1.1.1 }) (λ _. refl)
+    (coded× coded_bool (coded× coded_ℕ (coded× (coded_option (held_code store)) (coded_option (held_code store))))))))
+    (λ k. (k.first, (k.failures, (k.storage, (k.is_in_doubt, (k.reopenings, (k.closed, k.opened)))))))
+    (λ p. record {
+      first = p.0;
+      failures = p.1.0;
+      storage = p.1.1.0;
+      is_in_doubt = p.1.1.1.0;
+      reopenings = p.1.1.1.1.0;
+      closed = p.1.1.1.1.1.0;
+      opened = p.1.1.1.1.1.1;
+    }) (λ _. refl)
 
 -- The tables of a database in which no table can be queried.
 abbrev pub no_rows : Raw
@@ -182,6 +211,36 @@ abbrev pub EndsCommit : {S T : Type 0} → Ghosts S → List Change → Reopenin
 EndsCommit g changes old new (Ok x) = AppliesOpen g changes old.storage new.storage
     ⊎ IsRightAnswerOpen g changes new.storage true
 EndsCommit g changes old new (Err fault) = ShowsChanges g changes old new false
+
+-- The connection that a storage had has become this one: a crash leaves of it what it could leave before, or trees that
+-- `Makes` names. If there was none, there is none.
+abbrev pub Becomes : {S : Type 0} → Ghosts S → (State → Trees → Type 0) → Option (KeeperView S) → Option (Held S)
+    → Type 0
+Becomes g Makes None None = Unit {0}
+Becomes g Makes (Some k) (Some conn) = Survives (state g k.conn) (state g conn) (Makes (state g k.conn))
+Becomes g Makes _ _ = ⊥
+
+-- The connection of a storage, if there is one.
+abbrev pub connection_of : {S : Type 0} → Option (KeeperView S) → Option (Held S)
+connection_of storage = option_map (λ k. k.conn) storage
+
+-- Nothing was written through the connection that was opened last, which the storage has now. If it was left, it was in
+-- a transaction; if none was opened, there is none.
+abbrev pub OnlyReads : {S : Type 0} → Ghosts S → Option (Held S) → Option (KeeperView S) → Type 0
+OnlyReads g None None = Unit {0}
+OnlyReads g None (Some l) = ⊥
+OnlyReads g (Some conn) None = conn.in_transaction ≡ false → ⊥
+OnlyReads g (Some conn) (Some l) = LeavesUnwritten g conn l.conn
+
+-- Of the connection that a storage had a crash leaves what it could leave before, or trees that `Makes` names, and
+-- nothing else was written: the storage still has it, and the database wasn't opened again; or it was closed when the
+-- database was opened again, once.
+pub data MakesAtMost {S : Type 0} (g : Ghosts S) (Makes : State → Trees → Type 0) (old new : ReopeningView S) : Type 0
+  where
+    still_open : new.reopenings ≡ old.reopenings → Becomes g Makes old.storage (connection_of new.storage)
+        → MakesAtMost g Makes old new
+    opened_again : new.reopenings ≡ next_count old.reopenings → Becomes g Makes old.storage new.closed
+        → OnlyReads g new.opened new.storage → MakesAtMost g Makes old new
 
 -- The first connection is returned, which no failure is known to have shut. At the start its database was that of files
 -- with these contents, and the storage has kept its invariant since then.

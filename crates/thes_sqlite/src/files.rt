@@ -3,10 +3,12 @@ ghost use Rattle.std.specs.Prelude.{◌≡◌, true, false, None, IfErr, IfOk, I
 ghost use Rattle.sqlite.specs.Files.{file_state};
 ghost use Rattle.sqlite.specs.State.{HasCleanDisk};
 ghost use Rattle.sqlite_std_file.specs.File.{file_is_usable, IsFresh};
+ghost use Rattle.sqlite_store.specs.FileStore.{view};
+ghost use Rattle.sqlite_trees.specs.View.{IsClean};
 ghost use Rattle.sqlite_wal.specs.Files.{image_at};
 ghost use Rattle.sqlite_wal.specs.Reads.{AreClean};
 ghost use Rattle.thes_sqlite.specs.Causes.{PrecedesOpening};
-ghost use Rattle.thes_sqlite.specs.DatabaseFiles.{ClosesFiles, FailsToOpen, OpensFiles};
+ghost use Rattle.thes_sqlite.specs.DatabaseFiles.{ClosesFiles, FailsToClose, FailsToOpen, OpensFiles};
 
 use crate::cause::{Cause, cause_of_files, cause_of_opening};
 use crate::head::{FoundFile, begins_as_database, find_file};
@@ -115,13 +117,16 @@ pub fn open_files<S: Start>(
     }
 }
 
-/// Closes a database and returns its two files. They hold its store, as do those that a crash
-/// leaves. An error comes with the part of the connection that has the files.
+/// Closes a database and returns its two files. They hold it, as do those that a crash leaves. An
+/// error comes with the part of the connection that has the files: the next opening finds in them
+/// what it could have found without the call.
 pub fn close_files<D: Disk + Drop>(
     conn: Connection<FileStore<D>>,
 ) -> Result<Files<D>, (Error, FileStore<D>)>
-    ensures { IfOk result (λ files. AreClean D.Disk files.log files.db
+    ensures closes { IfOk result (λ files. AreClean D.Disk files.log files.db
         → ClosesFiles D.Disk (file_state conn) files) }
+    ensures fails { IfErr result (λ failed. IsClean (view failed.1)
+        → FailsToClose (file_state conn) failed.1) }
 {
     // No effect; for the proof, states that the schema is that which the database lists.
     let _ = conn.schema();

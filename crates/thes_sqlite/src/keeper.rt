@@ -1,5 +1,5 @@
 //! Storage of the tables in a database.
-ghost use Rattle.std.specs.Prelude.{◌≡◌, ◌⊎◌, false, Some, IsTrue, OnOk, IfOk, IfErr};
+ghost use Rattle.std.specs.Prelude.{◌≡◌, ◌⊎◌, false, Some, IsTrue, OnOk, IfOk, IfErr, IfSome};
 ghost use Rattle.thes_base.specs.Resources.{entry_at};
 ghost use Rattle.thes_tables.specs.Tables.{Tables};
 ghost use Rattle.thes_tables.specs.Cells.{cells_of_tables};
@@ -15,11 +15,12 @@ ghost use Rattle.thes_sqlite.specs.KeeperView.{IsUp, IsStore, IsKeeperState, IsK
 ghost use Rattle.thes_sqlite.specs.KeeperView.{raw_table, raw_of_keeper, storage_view};
 ghost use Rattle.thes_sqlite.specs.MigrationEffects.{Migrates, HasCountedCause, ServesAfterMigration, LeavesUnwritten};
 ghost use Rattle.thes_sqlite.specs.Commits.{AppliesAll, DatabaseFrame, KeeperCommitFrame, IsCrashSafe};
+ghost use Rattle.thes_sqlite.specs.Commits.{MakesAll, MakesNone};
 ghost use Rattle.thes_sqlite.specs.CommitEvidence.{IsRightAnswer};
 ghost use Rattle.thes_sqlite.specs.FoundRows.{IsKeeperOpen, FindsInKeeper, PassesTable, PassesNamed};
 ghost use Rattle.thes_sql.specs.Reads.{LeavesTables};
 ghost use Rattle.sqlite.specs.Held.{state};
-ghost use Rattle.sqlite.specs.State.{HasCleanDisk};
+ghost use Rattle.sqlite.specs.State.{HasCleanDisk, Survives};
 
 use crate::cause::{Cause, FaultCause};
 use crate::commit_evidence::has_changes;
@@ -113,8 +114,9 @@ impl<S: Alter> SqlKeeper<S> {
     pub(crate) fn adopt_if_idle(alloc: Global, conn: Connection<S>) -> Option<SqlKeeper<S>>
     where
         S: Drop,
-        ensures { conn.in_transaction ≡ false
+        ensures adopts { conn.in_transaction ≡ false
             → result ≡ Some (record { conn = conn; failures = 0; first = conn }) }
+        ensures same { IfSome result (λ k. k.conn ≡ conn) }
     {
         if !conn.is_autocommit() {
             return None;
@@ -161,6 +163,8 @@ impl<S: Alter> SqlKeeper<S> {
             (storage_view S.Store self.new) }
         ensures first { self.new.first ≡ self.old.first }
         ensures leaves { LeavesUnwritten S.Store self.old.conn self.new.conn }
+        ensures crash { Survives (state S.Store self.old.conn) (state S.Store self.new.conn)
+            (MakesNone (state S.Store self.old.conn)) }
         ensures shut { IsTrue result → HasCleanDisk (state S.Store self.new.conn)
             → (state S.Store self.old.conn).is_open ≡ false }
     {
@@ -179,6 +183,8 @@ impl<S: Alter> SqlKeeper<S> {
         ensures applies { OnOk result (AppliesAll S.Store changes.now self.old.conn self.new.conn) }
         ensures frame { KeeperCommitFrame S.Store self.old self.new result }
         ensures crash { IsCrashSafe S.Store changes.now self.old self.new result }
+        ensures whole { Survives (state S.Store self.old.conn) (state S.Store self.new.conn)
+            (MakesAll changes.now (state S.Store self.old.conn)) }
     {
         match commit_all(&mut self.conn, changes) {
             Ok(_) => Ok(()),
@@ -191,6 +197,8 @@ impl<S: Alter> SqlKeeper<S> {
     pub(crate) fn commit_anew(&mut self, changes: &[Change]) -> Result<(), Fault>
         ensures applies { OnOk result (AppliesAll S.Store changes.now self.old.conn self.new.conn) }
         ensures database { DatabaseFrame S.Store self.old.conn self.new.conn result }
+        ensures whole { Survives (state S.Store self.old.conn) (state S.Store self.new.conn)
+            (MakesAll changes.now (state S.Store self.old.conn)) }
         ensures first { self.new.first ≡ self.new.conn }
         ensures cause { HasCause self.old.failures self.new.failures result }
     {

@@ -7,13 +7,17 @@ ghost use Rattle.thes_sqlite.specs.KeeperView.{KeeperView};
 ghost use Rattle.thes_sqlite.specs.Reopening.{IsKeeperStillUp, rows_still, storage_still};
 ghost use Rattle.thes_sqlite.specs.Reopening.{IsLostShut, KeepsStill};
 ghost use Rattle.thes_sqlite.specs.Reopening.{LeavesFirst, ReturnsFirst, LosesShut, view_of_connection};
-ghost use Rattle.thes_sqlite.specs.Reopening.{StaysUnwritten, EndsCommit};
+ghost use Rattle.thes_sqlite.specs.Reopening.{StaysUnwritten, EndsCommit, Becomes};
+ghost use Rattle.thes_sqlite.specs.Reopening.{MakesAtMost, OnlyReads, connection_of};
+ghost use Rattle.thes_sqlite.specs.Reopenings.{next_count};
+ghost use Rattle.thes_sqlite.specs.Commits.{MakesAll, MakesNone};
 
 mod open_storage;
 
 use crate::cause::{Cause, FaultCause};
 use crate::faults::{count_fault, count_fault_in};
 use crate::keeper::SqlKeeper;
+use crate::opener::RecordedOpener;
 pub use crate::opener::{HeldImage, Reopen};
 use crate::progress::Progress;
 use sqlite::{Alter, Connection};
@@ -39,7 +43,7 @@ pub struct ReopeningKeeper<S: Alter, O: Reopen<Connection<S>> + HeldImage, L> {
     // The storage over the first connection, as it was when that connection was found shut; only
     // contracts use it.
     loss: Snapshot<Option<SqlKeeper<S>>>,
-    opener: O,
+    opener: RecordedOpener<Connection<S>, O>,
     progress: L,
     // The number of look-ups of postings by their keys; it saturates.
     lookups: u64,
@@ -55,7 +59,7 @@ pub struct ReopeningKeeper<S: Alter, O: Reopen<Connection<S>> + HeldImage, L> {
 
 impl<S: Alter, O: Reopen<Connection<S>> + HeldImage, L> Model for ReopeningKeeper<S, O, L> {
     ghost use Rattle.thes_sqlite.specs.Reopening.{IsCertain, IsKeptOrLost, IsOfFiles, ReopeningView, first_storage};
-    ghost use Rattle.thes_sqlite.specs.Reopening.{reopening_view_code};
+    ghost use Rattle.thes_sqlite.specs.Reopening.{closed_if, opened_if, reopening_view_code};
 
     ghost Value = { ReopeningView S };
 
@@ -66,6 +70,9 @@ impl<S: Alter, O: Reopen<Connection<S>> + HeldImage, L> Model for ReopeningKeepe
       failures = k.failures;
       storage = k.storage;
       is_in_doubt = k.is_in_doubt;
+      reopenings = k.opener.reopenings;
+      closed = closed_if k.is_reopened k.opener.closed.value;
+      opened = opened_if k.is_reopened k.opener.opened.value;
     } };
 
     ghost invariant = { λ k. IsOfFiles S.Store O.image (first_storage k.is_reopened k.storage)
@@ -103,7 +110,7 @@ impl<S: Alter + Drop, O: Reopen<Connection<S>> + HeldImage, L: Progress> Reopeni
             storage,
             is_reopened: false,
             loss,
-            opener,
+            opener: RecordedOpener::new(opener),
             progress,
             lookups: 0,
             failures: 0,
@@ -160,6 +167,12 @@ impl<S: Alter + Drop, O: Reopen<Connection<S>> + HeldImage, L: Progress> Reopeni
             IsLostShut S.Store k result.1) }
         ensures stays { result.0 ≡ false
             → StaysUnwritten S.Store self.old.storage self.new.storage }
+        ensures none { IsTrue result.0 → self.new.storage ≡ None }
+        ensures taken { IsTrue result.0
+            → Becomes S.Store MakesNone self.old.storage result.1 }
+        ensures kept { result.0 ≡ false
+            → Becomes S.Store MakesNone self.old.storage (connection_of self.new.storage) }
+        ensures count { self.new.reopenings ≡ self.old.reopenings }
         ensures doubt { self.new.is_in_doubt ≡ self.old.is_in_doubt }
     {
         if let Some(keeper) = &mut self.storage {
@@ -185,6 +198,12 @@ impl<S: Alter + Drop, O: Reopen<Connection<S>> + HeldImage, L: Progress> Reopeni
         ensures leaves { LeavesFirst S.Store self.old self.new }
         ensures gone { IsTrue result → self.new.first ≡ None }
         ensures stays { result ≡ false → StaysUnwritten S.Store self.old.storage self.new.storage }
+        ensures kept { result ≡ false
+            → Becomes S.Store MakesNone self.old.storage (connection_of self.new.storage) }
+        ensures again { IsTrue result → Becomes S.Store MakesNone self.old.storage self.new.closed
+            × OnlyReads S.Store self.new.opened self.new.storage }
+        ensures count { result ≡ false → self.new.reopenings ≡ self.old.reopenings }
+        ensures once { IsTrue result → self.new.reopenings ≡ next_count self.old.reopenings }
         ensures doubt { self.new.is_in_doubt ≡ self.old.is_in_doubt }
     {
         let (is_gone, lost) = self.take_shut();
@@ -229,7 +248,7 @@ impl<S: Alter + Drop, O: Reopen<Connection<S>> + HeldImage, L: Progress> Keeper
         count_fault_in(&mut self.failures, loaded)
     }
 
-    #[tactic(auto, using(crate::proofs::ReopeningLemmas::ends_fault))]
+    #[tactic(auto, using(crate::proofs::ReopeningLemmas::ends_fault, crate::proofs::ReopeningLemmas::makes_now, crate::proofs::ReopeningLemmas::makes_then))]
     fn commit(&mut self, delta: Delta) -> Result<(), Fault>
         requires fits { DeltaFitsStorage delta (storage_still S.Store self.old) }
         ensures ok { OnOk result (IsKeeperStillUp S.Store self.new
@@ -238,6 +257,9 @@ impl<S: Alter + Drop, O: Reopen<Connection<S>> + HeldImage, L: Progress> Keeper
         ensures keeps { CommitFrame (storage_still S.Store self.old)
             (storage_still S.Store self.new) result }
         ensures ends { EndsCommit S.Store delta self.old self.new result }
+
+        // The changes are made all or not at all, also those of a request in doubt.
+        ensures whole { MakesAtMost S.Store (MakesAll delta) self.old self.new }
     {
         let changes = delta.as_slice();
         match self.commit_now(changes) {

@@ -16,7 +16,7 @@ use Rattle.thes_base.specs.declared.data.Link.{Link}
 use Rattle.thes_base.specs.declared.data.LabelKind.TheVariants.{Pref, Alt}
 use Rattle.thes_base.specs.declared.request.Command.{Command}
 use Rattle.thes_base.specs.declared.request.Command.TheVariants as request
-use Rattle.thes_base.specs.Resources.{entry_at, set_entry_at, scheme_of, replacements, is_outside}
+use Rattle.thes_base.specs.Resources.{entry_at, set_entry_at, scheme_of, replacements, is_outside, IsLive}
 use Rattle.thes_base.specs.Labels.{Label, Labels, label_cmp, preferred_label_in, HasLabel}
 use Rattle.thes_base.specs.Links.{Links, normal_form, links_after_deprecation, links_after_merge, Holds}
 use Rattle.thes_base.specs.Postings.{is_assigned_to, move_count, history_after_withdrawal}
@@ -47,17 +47,18 @@ use Rattle.thes_tables.specs.Rows.{row_after_withdrawal, row_at_place, row_after
 use Rattle.thes_tables.specs.Changes.{changes_of, changes_of_new_resource, changes_of_relabel, new_moves, move_row}
 use Rattle.thes_tables.specs.Changes.{add_link, drop_link, missing_items, without_elements, links_to_remove}
 use Rattle.thes_tables.specs.ChangeLaw.{AreChangesBetween}
-use Rattle.std.proofs.lemmas.Bool.{cases_Bool}
+use Rattle.std.proofs.lemmas.Bool.{cases_Bool, not-true}
 use Rattle.thes_base.proofs.SetMemberLemmas.{inserted_cases, removed_cases}
 use Rattle.thes_base.proofs.ListedLemmas.{NumberedFrom, numbered_from}
 use Rattle.thes_tables.proofs.RowSetLemmas.{in_append, clash, absent_of_never, set_with_list, inserted_union}
 use Rattle.thes_tables.proofs.RowSetLemmas.{coming_same, coming_absent, Absent, row_new, listed_push, listed_drop}
-use Rattle.thes_tables.proofs.RowSetLemmas.{listed_all}
+use Rattle.thes_tables.proofs.RowSetLemmas.{listed_all, Present}
 use Rattle.thes_tables.proofs.DeltaAppendLemmas.{all_append, fit_append}
 use Rattle.thes_tables.proofs.LinkRowLemmas.{LinkRows, link_rows_of_tables, with_link_tables, added_only}
 use Rattle.thes_tables.proofs.LinkRowLemmas.{dropped_only, link_in, link_out, link_fits, drop_fits, drops_then_adds}
 use Rattle.thes_tables.proofs.LinkRowLemmas.{drops_then_adds_only, drops_then_adds_rows, drops_then_adds_fit}
 use Rattle.thes_tables.proofs.LinkRowLemmas.{links_to_add, links_to_add_absent, links_to_add_suffice}
+use Rattle.thes_tables.proofs.LinkRowLemmas.{links_to_remove_present}
 use Rattle.thes_tables.proofs.MoveRowLemmas.{number_within_count, rises_new, rises_along, moves_more, moves_posted}
 use Rattle.thes_tables.proofs.MoveRowLemmas.{moves_set, map_numbered, with_at, rows_moved, placed_all, rows_placed}
 
@@ -222,9 +223,10 @@ module _ (base : List ℕ) (s : State) (legal : IsLegalState base s) where
       with_labels _ _ (λ ls. ls ++ l ∷ []) (λ t. refl) (λ t are. listed_push labels_total labels_exact s.labels
       t.label l are out) (λ t are. (row_new labels_total labels_exact s.labels t.label l are out, tt))
 
-  pub leads_drop : (l : Label) → AreChangesBetween base (change.DropLabel l ∷ []) s (state_after_drop_label l s)
-  leads_drop l = with_labels _ _ (λ ls. without_row label_cmp l ls) (λ t. refl)
-      (λ t are. listed_drop labels_total labels_exact s.labels t.label l are) (λ t are. (tt, tt))
+  pub leads_drop : (l : Label) → set.contains s.labels l ≡ true → AreChangesBetween base (change.DropLabel l ∷ []) s
+      (state_after_drop_label l s)
+  leads_drop l has = with_labels _ _ (λ ls. without_row label_cmp l ls) (λ t. refl)
+      (λ t are. listed_drop labels_total labels_exact s.labels t.label l are) (λ t are. (are.complete l has, tt))
 
   pub leads_link : (l : Link) → (¬ Holds s.links l) → AreChangesBetween base (add_link l ∷ []) s
       (record s { links = set.insert s.links l })
@@ -234,12 +236,12 @@ module _ (base : List ℕ) (s : State) (legal : IsLegalState base s) where
     fit = λ t is. (link_fits l s.links t out (link_rows_of_tables is), tt);
   }
 
-  pub leads_unlink : (l : Link) → AreChangesBetween base (drop_link l ∷ []) s
+  pub leads_unlink : (l : Link) → Holds s.links l → AreChangesBetween base (drop_link l ∷ []) s
       (record s { links = set.remove s.links l })
-  leads_unlink l = record {
+  leads_unlink l held = record {
     rows = λ t is. relinked_rows s t (tables_after_change (drop_link l) t) (set.remove s.links l) is
         (dropped_only l t) (link_out l s.links t (link_rows_of_tables is));
-    fit = λ t is. (drop_fits l t, tt);
+    fit = λ t is. (drop_fits l s.links t held (link_rows_of_tables is), tt);
   }
 
   -- Assumes a relabelling, which replaces one preferred label by another.
@@ -305,6 +307,7 @@ module _ (base : List ℕ) (s : State) (legal : IsLegalState base s) where
       row_new,
       labels_total,
       labels_exact,
+      are.complete (label owner Pref tag old) has,
       listed_drop labels_total labels_exact s.labels t.label (label owner Pref tag old) are,
       preferred_free old has,
       one_more old has t.label are,
@@ -324,8 +327,9 @@ module _ (base : List ℕ) (s : State) (legal : IsLegalState base s) where
             (renamed_fits old has keep)
 
   -- Assumes a deprecation, and the lists of links that it deletes and inserts.
-  module _ (concept : ℕ) (go come : List Link) (absent_all : Absent links_total links.links_exact come
-      (without_elements go s.links)) (same : set_with_list links_total links.links_exact come
+  module _ (concept : ℕ) (live : IsLive s.resources concept) (go come : List Link)
+      (present_all : Present links_total links.links_exact go s.links)
+      (absent_all : Absent links_total links.links_exact come (without_elements go s.links)) (same : set_with_list links_total links.links_exact come
       (without_elements go s.links) ≡ links_after_deprecation concept s.links) where
     pub leads_deprecate : AreChangesBetween base (change.Retire concept ∷ drops_then_adds go come) s
         (state_after_deprecation concept s)
@@ -338,9 +342,9 @@ module _ (base : List ℕ) (s : State) (legal : IsLegalState base s) where
           (drops_then_adds_rows s.links (links_after_deprecation concept s.links) go come absent_all same u
           (link_rows_of_tables (dead_rows concept None t is)));
       fit = λ t is. (
-        tt,
+        subst (λ rs. IsLive rs concept) (sym is.resource) live,
         drops_then_adds_fit s.links (links_after_deprecation concept s.links) go come absent_all same
-            (retired t) (link_rows_of_tables (dead_rows concept None t is)),
+            (retired t) present_all (link_rows_of_tables (dead_rows concept None t is)),
       );
     }
       where
@@ -351,10 +355,11 @@ module _ (base : List ℕ) (s : State) (legal : IsLegalState base s) where
   first_move = move_count s.histories + 1
 
   -- Assumes a merge, and the lists of labels that it inserts, and of links that it deletes and inserts.
-  module _ (source target : ℕ) (taken : List Label) (taken_absent : Absent labels_total labels_exact taken s.labels)
+  module _ (source target : ℕ) (live : IsLive s.resources source) (taken : List Label) (taken_absent : Absent labels_total labels_exact taken s.labels)
       (taken_same : set_with_list labels_total labels_exact taken s.labels
       ≡ set.union s.labels (copied_labels source target s.labels))
-      (go come : List Link) (absent_all : Absent links_total links.links_exact come (without_elements go s.links))
+      (go come : List Link) (present_all : Present links_total links.links_exact go s.links)
+      (absent_all : Absent links_total links.links_exact come (without_elements go s.links))
       (same : set_with_list links_total links.links_exact come (without_elements go s.links)
       ≡ links_after_merge (is_outside s.resources) source target s.links) where
     pub leads_merge : AreChangesBetween base (change.Replace source target ∷ map change.AddLabel taken
@@ -364,9 +369,12 @@ module _ (base : List ℕ) (s : State) (legal : IsLegalState base s) where
     leads_merge = record {
       rows = λ t is. subst (IsRowsOf base (state_after_merge source target s)) (sym (done t)) (moved_rows t is);
       fit = λ t is. fit_append head tail t
-          (fit_append (change.Replace source target ∷ adds) turns t (grind (arith, common_steps, fit_labels))
+          (fit_append (change.Replace source target ∷ adds) turns t (
+            subst (λ rs. IsLive rs source) (sym is.resource) live,
+            fit_labels taken s.labels (dead t) is.label taken_absent,
+          )
           (subst (DeltaFits turns) (sym (labels_added_all taken (dead t)))
-          (drops_then_adds_fit s.links links_after go come absent_all same (labelled t)
+          (drops_then_adds_fit s.links links_after go come absent_all same (labelled t) present_all
           (link_rows_of_tables (labelled_rows t is))))) (subst (DeltaFits tail) (sym (head_done t)) (
             tt,
             fit_moves (move_count s.histories) rows
@@ -546,9 +554,9 @@ module _ (base : List ℕ) (s : State) (legal : IsLegalState base s) where
       length_map [] = refl
       length_map (h ∷ hs) = ap suc (length_map hs)
 
-  pub leads_withdraw : (n : ℕ) (h : History) → entry_at s.histories n ≡ Some h → AreChangesBetween base
-      (change.Withdraw n ∷ []) s (state_after_withdrawal n s)
-  leads_withdraw n h e = subst (AreChangesBetween base (change.Withdraw n ∷ []) s) (sym (withdrawn_at s n h e))
+  pub leads_withdraw : (n : ℕ) (h : History) → entry_at s.histories n ≡ Some h → h.withdrawn ≡ false
+      → AreChangesBetween base (change.Withdraw n ∷ []) s (state_after_withdrawal n s)
+  leads_withdraw n h e stands = subst (AreChangesBetween base (change.Withdraw n ∷ []) s) (sym (withdrawn_at s n h e))
       (record {
         rows = λ t is. with_histories base s t is (set_entry_at s.histories n (history_after_withdrawal h))
             (with_posting row_after_withdrawal n t.posting) t.move
@@ -556,7 +564,14 @@ module _ (base : List ℕ) (s : State) (legal : IsLegalState base s) where
             (map posting_row s.histories) (posting_row h) (map_numbered posting_row s.histories n h e)
             ∙ sym (map-set posting_row s.histories (n - 1) (history_after_withdrawal h)))
             (moves_set s.histories n h (history_after_withdrawal h) t.move e refl is.move);
-        fit = λ t is. (tt, tt);
+        fit = λ t is. (
+          (
+            posting_row h,
+            ap (λ rows. entry_at rows n) is.posting ∙ map_numbered posting_row s.histories n h e,
+            stands,
+          ),
+          tt,
+        );
       })
 
 -- The law of row changes, request by request.
@@ -575,6 +590,7 @@ changes_of_request_lead setting s (request.AddLabel owner l) legal fresh row =
     (passed_if (passed_unless (passed_unless (passed_unless row).1).1).1).0
 changes_of_request_lead setting s (request.DropLabel owner l) legal fresh row =
     leads_drop setting.base s legal (owned_label owner l)
+    (passed_unless (passed_unless (passed_unless (passed_unless row).1).1).1).0
 changes_of_request_lead setting s (request.Relabel owner tag text keep) legal fresh row =
     leads_relabel setting.base s legal owner tag text keep
 changes_of_request_lead setting s (request.Link kind a b) legal fresh row =
@@ -582,21 +598,26 @@ changes_of_request_lead setting s (request.Link kind a b) legal fresh row =
     (passed_if (passed_unless (passed_if (passed_unless (passed_unless (passed_unless row).1).1).1).1).1).0
 changes_of_request_lead setting s (request.Unlink kind a b) legal fresh row =
     leads_unlink setting.base s legal (normal_form (is_outside s.resources) (link kind a b))
+    (passed_unless (passed_unless (passed_if (passed_unless (passed_unless (passed_unless row).1).1).1).1).1).0
 changes_of_request_lead setting s (request.Deprecate concept) legal fresh row =
     let new = links_after_deprecation concept s.links in
-    leads_deprecate setting.base s legal concept (links_to_remove s.links new) (links_to_add s.links new)
+    leads_deprecate setting.base s legal concept (passed_unless (passed_unless (passed_unless row).1).1).0
+    (links_to_remove s.links new) (links_to_add s.links new) (links_to_remove_present s.links new)
     (links_to_add_absent s.links new) (links_to_add_suffice s.links new)
 changes_of_request_lead setting s (request.Merge source target) legal fresh row =
     let taken = copied_labels source target s.labels in
     let new = links_after_merge (is_outside s.resources) source target s.links in
-    leads_merge setting.base s legal source target (missing_items s.labels (set.items taken))
+    leads_merge setting.base s legal source target (passed_unless (passed_unless (passed_unless row).1).1).0.0
+    (missing_items s.labels (set.items taken))
     (coming_absent labels_total labels_exact (set.items taken) s.labels)
     (coming_same labels_total labels_exact (set.items taken) s.labels ∙ inserted_union labels_total labels_exact
-    s.labels taken) (links_to_remove s.links new) (links_to_add s.links new) (links_to_add_absent s.links new)
+    s.labels taken) (links_to_remove s.links new) (links_to_add s.links new) (links_to_remove_present s.links new)
+    (links_to_add_absent s.links new)
     (links_to_add_suffice s.links new)
 changes_of_request_lead setting s (request.Split source tag text postings) legal fresh row =
     leads_split setting.base s legal source tag text postings
 changes_of_request_lead setting s (request.Post key rec concept) legal fresh row =
     leads_post setting.base s legal key rec concept fresh
-changes_of_request_lead setting s (request.Withdraw posting) legal fresh row = let known = passed_unless row in
-    leads_withdraw setting.base s legal posting known.0.0 known.0.1
+changes_of_request_lead setting s (request.Withdraw posting) legal fresh row =
+    let known = (passed_unless (passed_unless row).1).0 in
+    leads_withdraw setting.base s legal posting known.0 known.1 (not-true _ known.2)

@@ -23,6 +23,7 @@ use Rattle.thes_tables.specs.Changes.{hier_row, add_link, drop_link, missing_ite
 use Rattle.std.proofs.lemmas.Bool.{cases_Bool, not-true, not_from_false}
 use Rattle.thes_base.proofs.SetMemberLemmas.{inserted_cases, inserted_kept, inserted_new, removed_cases, removed_kept}
 use Rattle.thes_tables.proofs.RowSetLemmas.{clash, equal_of_tie, set_with_list, Absent, coming_same, coming_absent}
+use Rattle.thes_tables.proofs.RowSetLemmas.{Present, leaving_present, held_item}
 use Rattle.thes_tables.proofs.RowSetLemmas.{turn_into, lists_push, lists_filter, lists_drop, lists_same}
 use Rattle.thes_tables.proofs.DeltaAppendLemmas.{all_append, fit_append}
 
@@ -167,8 +168,14 @@ pub dropped_only : (l : Link) (t : Tables) → tables_after_change (drop_link l)
     ≡ with_link_tables t (tables_after_change (drop_link l) t)
 dropped_only l t = grind (arith, common_steps)
 
-pub drop_fits : (l : Link) (t : Tables) → ChangeFits (drop_link l) t
-drop_fits l t = grind (arith, common_steps)
+pub drop_fits : (l : Link) (links : Links) (t : Tables) → Holds links l → LinkRows links t → ChangeFits (drop_link l) t
+drop_fits l links t held are = go (hier_type l.kind) refl
+  where
+    go : (o : Option HierType) → hier_type l.kind ≡ o
+        → ChangeFits (elim o [ None ↦ change.DropLink l | Some typ ↦ change.DropHier (hier_row typ l) ]) t
+    go None e = are.link.complete l (held, e)
+    go (Some typ) e =
+        are.hier.complete (hier_row typ l) (subst (Holds links) (sym (link_of_hier_row l typ e)) held)
 
 all_added_only : (ls : List Link) (t : Tables) → tables_after_delta (map add_link ls) t
     ≡ with_link_tables t (tables_after_delta (map add_link ls) t)
@@ -205,9 +212,13 @@ dropped_rows [] links t are = are
 dropped_rows (l ∷ ls) links t are = dropped_rows ls (set.remove links l) (tables_after_change (drop_link l) t)
     (link_out l links t are)
 
-dropped_fit : (ls : List Link) (t : Tables) → DeltaFits (map drop_link ls) t
-dropped_fit [] t = tt
-dropped_fit (l ∷ ls) t = (drop_fits l t, dropped_fit ls (tables_after_change (drop_link l) t))
+dropped_fit : (ls : List Link) (links : Links) (t : Tables) → Present links_total links_exact ls links
+    → LinkRows links t → DeltaFits (map drop_link ls) t
+dropped_fit [] links t p are = tt
+dropped_fit (l ∷ ls) links t p are = (
+  drop_fits l links t p.0 are,
+  dropped_fit ls (set.remove links l) (tables_after_change (drop_link l) t) p.1 (link_out l links t are),
+)
 
 abbrev pub drops_then_adds : List Link → List Link → List Change
 drops_then_adds go come = map drop_link go ++ map add_link come
@@ -231,14 +242,19 @@ module _ (old new : Links) (go come : List Link) (absent_all : Absent links_tota
       (subst (λ x. LinkRows x (tables_after_delta (map add_link come) tables_after_drops)) same
       (added_rows come (without_elements go old) tables_after_drops absent_all (dropped_rows go old t are)))
 
-  pub drops_then_adds_fit : LinkRows old t → DeltaFits (drops_then_adds go come) t
-  drops_then_adds_fit are = fit_append (map drop_link go) (map add_link come) t (dropped_fit go t)
+  pub drops_then_adds_fit : Present links_total links_exact go old → LinkRows old t
+      → DeltaFits (drops_then_adds go come) t
+  drops_then_adds_fit present are = fit_append (map drop_link go) (map add_link come) t (dropped_fit go old t present are)
       (added_fit come (without_elements go old) tables_after_drops absent_all (dropped_rows go old t are))
 
 -- Assumes the deletions and insertions that turn one set of links into another.
 module _ (old new : Links) where
   abbrev links_kept : Links
   links_kept = without_elements (links_to_remove old new) old
+
+  pub links_to_remove_present : Present links_total links_exact (links_to_remove old new) old
+  links_to_remove_present = leaving_present links_total links_exact (set.items old) old new
+      (λ q h out. held_item links_total links_exact old q h)
 
   abbrev pub links_to_add : List Link
   links_to_add = missing_items links_kept (set.items new)

@@ -1,7 +1,7 @@
 -- Unsorted listings of a property after an insertion, a deletion or a filtering, and the sets that they encode.
 use Rattle.std.proofs.lemmas.Grind.{common_steps}
 use Rattle.std.proofs.Common.{arith, ◌≡◌, ◌⊎◌, List, [], ◌∷◌, ◌++◌, map, refl, sym, ap, ◌∙◌, subst, inl, inr, Bool}
-use Rattle.std.proofs.Common.{true}
+use Rattle.std.proofs.Common.{true, cond}
 use Rattle.std.proofs.Common.{false, not, append_assoc}
 use Rattle.std.proofs.lemmas.Bool.{cases_Bool, or_cases, or_left, or_right, not-true, not_from_false}
 use Rattle.std.proofs.lemmas.List.{append-nil}
@@ -170,11 +170,34 @@ module _ {K : Type 0} {R : K → K → Ordering} (o : IsTotalOrder R) (exact : I
         | inr new ↦ all_new (set.items t) s q (item_held t q new)
       ]))
 
+  -- An element of a list is among the missing ones if the set lacks it.
+  missing_in : (ks : List K) (s : FinSet R) (q : K) → IsIn q ks → set.contains s q ≡ false → IsIn q (missing_items s ks)
+  missing_in [] s q h out = absurd h
+  missing_in (k ∷ ks) s q h out = go (set.contains s k) refl (missing_in ks s q) (missing_in ks (set.insert s k) q)
+    where
+      go : (b : Bool) → set.contains s k ≡ b → (IsIn q ks → set.contains s q ≡ false → IsIn q (missing_items s ks))
+          → (IsIn q ks → set.contains (set.insert s k) q ≡ false → IsIn q (missing_items (set.insert s k) ks))
+          → IsIn q (cond b (missing_items s ks) (k ∷ missing_items (set.insert s k) ks))
+      go true is same more = elim h [
+        | inl e ↦ clash (set.contains s k) is (ap (set.contains s) (sym e) ∙ out)
+        | inr rest ↦ same rest out
+      ]
+      go false is same more = elim h [
+        | inl e ↦ inl e
+        | inr rest ↦ elim (cases_Bool (set.contains (set.insert s k) q)) [
+          | inl here ↦ elim (inserted_cases o exact s k q here) [
+            | inl e ↦ inl e
+            | inr old ↦ clash (set.contains s q) old out
+          ]
+          | inr lacks ↦ inr (more rest lacks)
+        ]
+      ]
+
   -- Removing from one set what another lacks, and then inserting all elements of the other, gives the other set.
   pub turn_into : (s t : FinSet R) → set_with_list (set.items t)
-      (without_elements (filter (λ l. not (set.contains t l)) (set.items s)) s) ≡ t
+      (without_elements (missing_items t (set.items s)) s) ≡ t
   turn_into s t = set.same_set o exact _ _ (λ q. both_ways _ _
-      (grind (arith, common_steps, all_cases, held_item, gone_cases, filter_in, item_held, not_from_false))
+      (grind (arith, common_steps, all_cases, held_item, gone_cases, missing_in, item_held))
       (λ h. all_new (set.items t) _ q (item_held t q h)))
 
   insert_held : (s : FinSet R) (k : K) → set.contains s k ≡ true → set.insert s k ≡ s
@@ -204,6 +227,44 @@ module _ {K : Type 0} {R : K → K → Ordering} (o : IsTotalOrder R) (exact : I
         [ inl e ↦ once.0 (let Q : K → Type 0 = λ x. IsIn x ks in subst Q e h) | inr old ↦ new q (inr h) old ]) once.1,
   )
 
+  -- Each element of the list is there when it is removed.
+  abbrev pub Present : List K → FinSet R → Type 0
+  Present [] s = Unit {0}
+  Present (k ∷ ks) s = (set.contains s k ≡ true) × Present ks (set.remove s k)
+
+  -- Elements that the set has, each listed once, are there when they are removed.
+  present_of : (ks : List K) (s : FinSet R) → ((q : K) → IsIn q ks → set.contains s q ≡ true) → AreDistinct ks
+      → Present ks s
+  present_of [] s held once = tt
+  present_of (k ∷ ks) s held once = (
+    held k (inl refl),
+    present_of ks (set.remove s k) (λ q h. removed_kept o exact s k q
+        (λ e. once.0 (let Q : K → Type 0 = λ x. IsIn x ks in subst Q e h)) (held q (inr h))) once.1,
+  )
+
+  -- The elements of a list that one set lacks are there when they are removed from another set that has them.
+  pub leaving_present : (ks : List K) (s t : FinSet R)
+      → ((q : K) → IsIn q ks → set.contains t q ≡ false → set.contains s q ≡ true) → Present (missing_items t ks) s
+  leaving_present [] s t held = tt
+  leaving_present (k ∷ ks) s t held = go (set.contains t k) refl (leaving_present ks s t)
+      (leaving_present ks (set.remove s k) (set.insert t k))
+    where
+      go : (b : Bool) → set.contains t k ≡ b
+          → (((q : K) → IsIn q ks → set.contains t q ≡ false → set.contains s q ≡ true)
+          → Present (missing_items t ks) s)
+          → (((q : K) → IsIn q ks → set.contains (set.insert t k) q ≡ false → set.contains (set.remove s k) q ≡ true)
+          → Present (missing_items (set.insert t k) ks) (set.remove s k))
+          → Present (cond b (missing_items t ks) (k ∷ missing_items (set.insert t k) ks)) s
+      go true is same more = same (λ q h out. held q (inr h) out)
+      go false is same more = (
+        held k (inl refl) is,
+        more (λ q h out. removed_kept o exact s k q
+            (λ e. clash (set.contains (set.insert t k) q)
+            (ap (set.contains (set.insert t k)) e ∙ inserted_new o exact t k) out)
+            (held q (inr h) (absent_of_never t q (λ there. clash (set.contains (set.insert t k) q)
+            (inserted_kept o exact t k q there) out)))),
+      )
+
   -- Removing one list from a set and inserting another gives a second set, if the lists are the differences of the two
   -- sets.
   pub turn_into_by : (s t : FinSet R) (go come : List K)
@@ -221,6 +282,10 @@ module _ {K : Type 0} {R : K → K → Ordering} (o : IsTotalOrder R) (exact : I
       → Absent come (without_elements go s)
   absent_by s t go come comes =
       absent_of come (without_elements go s) (λ q h m. (comes.sound q h).1 (gone_cases go s q m).1) comes.once
+
+  pub present_by : (s t : FinSet R) (go : List K)
+      → IsUnsortedListing (λ q. (set.contains s q ≡ true) × (set.contains t q ≡ true → ⊥)) go → Present go s
+  present_by s t go goes = present_of go s (λ q h. (goes.sound q h).0) goes.once
 
   pub coming_absent : (ks : List K) (s : FinSet R) → Absent (missing_items s ks) s
   coming_absent [] s = tt

@@ -1,5 +1,5 @@
 -- The changes of rows that each accepted request makes.
-use Rattle.std.specs.Prelude.{ℕ, List, [], ◌∷◌, ◌+◌, ◌++◌, map, filter, Bool, not, Some, None, if◌then◌else◌}
+use Rattle.std.specs.Prelude.{ℕ, List, [], ◌∷◌, ◌+◌, ◌++◌, map, Bool, Some, None, if◌then◌else◌}
 use Rattle.std.specs.declared.cmp.Ordering.{Ordering}
 use Rattle.std.specs.FinSet as set
 use Rattle.std.specs.FinSet.{FinSet}
@@ -64,9 +64,9 @@ add_link l = elim (hier_type l.kind) [ None ↦ change.AddLink l | Some typ ↦ 
 abbrev pub drop_link : Link → Change
 drop_link l = elim (hier_type l.kind) [ None ↦ change.DropLink l | Some typ ↦ change.DropHier (hier_row typ l) ]
 
--- The links of the old set that the new set lacks.
+-- The links of the old set that the new set lacks, each once.
 abbrev pub links_to_remove : Links → Links → List Link
-links_to_remove old new = filter (λ l. not (set.contains new l)) (set.items old)
+links_to_remove old new = missing_items new (set.items old)
 
 -- The changes that turn the old set of links into the new one: first deletions, then insertions.
 abbrev pub link_changes : Links → Links → List Change

@@ -1,11 +1,11 @@
 -- The tables after changes of rows, and the conditions under which a change can be applied.
 use Rattle.std.specs.Prelude.{◌≡◌, ◌≢◌, ◌<◌, ◌+◌, ℕ, List, [], ◌∷◌, ◌++◌, map, if◌then◌else◌, ◌==◌, true, not, ◌&&◌}
-use Rattle.std.specs.Prelude.{length, Some, None, filter}
+use Rattle.std.specs.Prelude.{length, Some, None, filter, false}
 use Rattle.std.specs.declared.cmp.Ordering.{Ordering}
 use Rattle.std.specs.Ordering.{eq_by_cmp}
 use Rattle.thes_base.specs.Labels.{label_cmp}
 use Rattle.thes_base.specs.Links.{link_cmp}
-use Rattle.thes_base.specs.Resources.{entry_at, set_entry_at}
+use Rattle.thes_base.specs.Resources.{entry_at, set_entry_at, IsLive}
 use Rattle.thes_base.specs.Changes.{resources_after_death}
 use Rattle.thes_tables.specs.declared.rows.HierRow.{HierRow}
 use Rattle.thes_tables.specs.declared.rows.PostingRow.{PostingRow}
@@ -63,19 +63,27 @@ abbrev pub tables_after_delta : List Change → Tables → Tables
 tables_after_delta [] t = t
 tables_after_delta (c ∷ changes) t = tables_after_delta changes (tables_after_change c t)
 
--- The change can be applied. A row that it inserts is new; its number, if it has one, is the next one, or, in the
--- tables outside and move, greater than all others. A new posting also has a new key. Changes that insert no row can
--- always be applied.
+-- The change can be applied, and isn't one that changes nothing. A row that it inserts is new; its number, if it has
+-- one, is the next one, or, in the tables outside and move, greater than all others. A new posting also has a new key.
+-- A row that it deletes is there. A resource that it marks as dead is live, and a posting that it marks as withdrawn
+-- isn't withdrawn. Changes of places can always be applied.
 abbrev pub ChangeFits : Change → Tables → Type 0
 ChangeFits (change.AddResource n r) t = n ≡ length t.resource + 1
+ChangeFits (change.Retire n) t = IsLive t.resource n
+ChangeFits (change.Replace n by) t = IsLive t.resource n
 ChangeFits (change.AddOutside n iri) t = (other : ℕ × List ℕ) → IsIn other t.outside → other.0 < n
 ChangeFits (change.AddLabel l) t = IsIn l t.label → ⊥
+ChangeFits (change.DropLabel l) t = IsIn l t.label
 ChangeFits (change.AddLink l) t = IsIn l t.link → ⊥
+ChangeFits (change.DropLink l) t = IsIn l t.link
 ChangeFits (change.AddHier row) t = IsIn row t.hier → ⊥
+ChangeFits (change.DropHier row) t = IsIn row t.hier
 ChangeFits (change.AddPosting row) t = (row.number ≡ length t.posting + 1)
     × ((other : PostingRow) → IsIn other t.posting → other.key ≢ row.key)
+ChangeFits (change.Withdraw n) t = (row : PostingRow) × (entry_at t.posting n ≡ Some row) × (row.withdrawn ≡ false)
+ChangeFits (change.SetPlace n place) t = Unit {0}
+ChangeFits (change.MoveAll source target) t = Unit {0}
 ChangeFits (change.AddMove row) t = (other : MoveRow) → IsIn other t.move → other.number < row.number
-ChangeFits _ t = Unit {0}
 
 -- Each change of the list can be applied after the changes before it.
 abbrev pub DeltaFits : List Change → Tables → Type 0

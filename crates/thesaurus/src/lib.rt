@@ -84,8 +84,9 @@
 //!   `Core::apply_logged`, `Core::decide`, `Core::step`, `Keeper::commit`, `Keeper::find`,
 //!   `Keeper::load`, `Keeper::posting`, `Keeper::row`, `Keeper::standing`,
 //!   `Keeper::standing_numbers`, `Loader::finish`, `Office::perform`, `Office::posting`,
-//!   `Office::postings`, `Office::ready`, `Office::run`, `Office::run_plan`, `Office::totals`,
-//!   `PostingSink::posting`, `RequestHandler::perform`, `RequestHandler::perform_plan`,
+//!   `Office::postings`, `Office::ready`, `Office::report`, `Office::report_plan`, `Office::run`,
+//!   `Office::run_plan`, `Office::totals`, `PostingSink::posting`, `RequestHandler::perform`,
+//!   `RequestHandler::perform_plan`, `RequestHandler::report`, `RequestHandler::report_plan`,
 //!   `RequestHandler::show`, `RowSink::report_unqueried`, `RowSink::row`,
 //!   `SqlKeeper::commit_changes`, `SqlKeeper::migrate`, `from_rows`
 //! - A fault with what was passed in: `Office::start` returns the storage, `SqlKeeper::create` the

@@ -4,12 +4,16 @@ from __future__ import annotations
 import hashlib
 import re
 from collections.abc import Iterator
+from datetime import datetime
+from functools import partial
 
 from flask import Blueprint, Response, abort, redirect, request
-from thesaurus_desk.entry.guard import interface
+from thesaurus_desk.auth.route_roles import interface
 from thesaurus_desk.interfaces.source import Source
+from thesaurus_desk.interfaces.whole_thesaurus import WholeAnswers
 from thesaurus_tools.rdf_writing import WRITERS, Names, prefix_lines, turtle_parts, write_ntriples
 from thesaurus_tools.texts import fold
+from werkzeug.datastructures import MIMEAccept
 from werkzeug.wrappers import Response as AnyResponse
 
 # The media types, in the order in which one is preferred where a client takes all, with the forms that are written.
@@ -26,24 +30,40 @@ def wanted_form(has_pages: bool) -> str | None:
     """Returns the form that a request asks for by its parameter `format` or its header Accept, or None."""
     forms = {media: form for media, form in FORMS.items() if has_pages or form != "html"}
     if given := request.args.get("format"):
-        form = SHORT.get(given) or FORMS.get(given)
+        form = SHORT.get(given) or FORMS.get(without_parameters(given))
         return form if form in forms.values() else None
     if not request.accept_mimetypes.provided:
         return next(iter(forms.values()))
-    best = request.accept_mimetypes.best_match(list(forms))
+    # (a charset or a profile asks for nothing else than the type: all is UTF-8, and there is one JSON-LD)
+    accepted = MIMEAccept([(without_parameters(media), quality) for media, quality in request.accept_mimetypes])
+    best = accepted.best_match(list(forms))
     return forms[best] if best else None
 
 
-def written(source: Source, number: int, form: str, status: int = 200) -> Response:
+def without_parameters(media: str) -> str:
+    """Returns a media type without what follows it."""
+    return media.partition(";")[0].strip().lower()
+
+
+def written(source: Source, number: int, form: str) -> Response:
     """Returns the triples of a resource in a form, or 304 if the client has them."""
     mirror = source.mirror()
     text = "".join(WRITERS[form](source.triples(number), mirror.base))
-    response = Response(text, status, content_type=f"{MEDIA[form]}; charset=utf-8")
+    response = Response(text, content_type=f"{MEDIA[form]}; charset=utf-8")
     response.set_etag(hashlib.blake2b(text.encode(), digest_size=12).hexdigest())
     response.headers["Link"] = ", ".join(links(source, number, form))
-    if status == 200:
-        response.make_conditional(request)
+    if modified := moment_of(source.dates(number)[1] or ""):
+        response.last_modified = modified
+    response.make_conditional(request)
     return response
+
+
+def moment_of(date: str) -> datetime | None:
+    """Returns a date as a moment; None, if it has no day."""
+    try:
+        return datetime.fromisoformat(date)
+    except ValueError:
+        return None
 
 
 def links(source: Source, number: int, form: str = "") -> list[str]:
@@ -82,18 +102,32 @@ def export_turtle(source: Source, scheme: int | None) -> Iterator[str]:
         yield from turtle_parts(source.triples(number), names)
 
 
-EXPORTS = {"nt": ("ntriples", export_ntriples), "ttl": ("turtle", export_turtle)}
+def export_in(form: str, source: Source, scheme: int | None) -> Iterator[str]:
+    """Yields the same in a form that is written as a whole."""
+    triples = (it for number in exported(source, scheme) for it in source.triples(number))
+    yield from WRITERS[form](triples, source.mirror().base)
 
 
-def file_name(source: Source, scheme: int | None) -> str:
+EXPORTS = {"ntriples": export_ntriples, "turtle": export_turtle}
+ENDINGS = {"nt": "ntriples", "ttl": "turtle"}
+
+
+def whole_vocabulary(whole: WholeAnswers, scheme: int | None, form: str) -> Response:
+    """Returns the triples of all resources, or of those of a scheme."""
+    write = EXPORTS.get(form) or partial(export_in, form)
+    make = partial(write, whole.source, scheme)
+    return whole.response(("export", form, scheme), make, f"{MEDIA[form]}; charset=utf-8")
+
+
+def file_name(source: Source, part: int | None, lang: str = "") -> str:
     """Returns the name of a file that a reader saves, without its ending: of plain letters, digits and hyphens."""
     mirror = source.mirror()
-    title = mirror.term(scheme, mirror.languages())[1] if scheme else source.name()
+    title = mirror.term(part, [lang, *mirror.languages()])[1] if part else source.name()
     return "-".join(re.findall("[a-z0-9]+", fold(title)))[:60] or "thesaurus"
 
 
-def add_linked_data(blueprint: Blueprint, source: Source) -> None:
-    """Adds /id/N, /export.nt and /export.ttl to the routes."""
+def add_linked_data(blueprint: Blueprint, source: Source, whole: WholeAnswers) -> None:
+    """Adds /id/N, /id?uri=, /export.nt and /export.ttl to the routes."""
 
     @blueprint.get("/export.<any(nt,ttl):ending>")
     @interface
@@ -103,15 +137,23 @@ def add_linked_data(blueprint: Blueprint, source: Source) -> None:
         scheme = source.number_of(asked) if asked else None
         if asked and (scheme is None or source.mirror().kind(scheme) != "scheme"):
             abort(404, "no such thesaurus")
-        form, write = EXPORTS[ending]
         name = f"{file_name(source, scheme)}.{ending}"
-        headers = {"Content-Disposition": f'attachment; filename="{name}"'}
-        return Response(write(source, scheme), headers=headers, content_type=f"{MEDIA[form]}; charset=utf-8")
+        response = whole_vocabulary(whole, scheme, ENDINGS[ending])
+        response.headers["Content-Disposition"] = f'attachment; filename="{name}"'
+        return response
+
+    @blueprint.get("/id")
+    @interface
+    def named() -> AnyResponse:
+        """Leads to the resource that the parameter uri names: by its own address, or by that of its exact match."""
+        number = source.number_of(request.args.get("uri") or abort(400, "uri parameter missing"))
+        return redirect(f"/id/{number}", 303) if number is not None else abort(404)
 
     @blueprint.get("/id/<int:number>")
     @interface
     def resource(number: int) -> AnyResponse:
-        """Sends a reader to the page of a resource, a program its triples: with 410 those of a dead concept."""
+        """Sends a reader to the page of a resource, a program its triples: those of a dead concept say what replaces
+        it."""
         mirror = source.mirror()
         form = wanted_form(source.page is not None)
         # (the page of a number that nothing has says so to a reader)
@@ -121,8 +163,7 @@ def add_linked_data(blueprint: Blueprint, source: Source) -> None:
             forms = sorted({it for it in FORMS if source.page or FORMS[it] != "html"})
             return Response(f"There are {', '.join(forms)}.\n", 406, content_type="text/plain; charset=utf-8")
         if form != "html" or source.page is None:
-            is_gone = mirror.kind(number) == "concept" and not mirror.is_live(number)
-            return written(source, number, form, 410 if is_gone else 200)
+            return written(source, number, form)
         # (the page of a dead concept says what to use)
         response = redirect(source.page(number), 303)
         if mirror.kind(number) not in (None, "outside"):

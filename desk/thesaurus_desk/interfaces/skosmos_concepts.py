@@ -1,13 +1,19 @@
-"""What Skosmos' interface says of one concept: its labels, and what is near it or in its hierarchy."""
+"""What Skosmos' interface says of one concept: its labels, its matches, and what is near it or in its hierarchy."""
 from __future__ import annotations
 
-from collections.abc import Callable
+import json
+from collections.abc import Callable, Iterator
+from urllib.parse import urlsplit
 
-from thesaurus_desk.interfaces.skosmos_vocabulary import CONTEXT, PREF, Json, Vocabulary, list_context
-from thesaurus_desk.mirror import Mirror
+from flask import request
+from thesaurus_desk.interfaces.skosmos_vocabulary import Json, Vocabulary, flag, language_asked
+from thesaurus_desk.store.replica import Replica
+from thesaurus_tools.kinds import LINK_PROPERTIES
+
+MATCH_OF = {kind: name for name, kind in LINK_PROPERTIES.items()}
 
 
-def climb(mirror: Mirror, start: int, up: bool) -> list[int]:
+def climb(mirror: Replica, start: int, up: bool) -> list[int]:
     """Returns a concept and what is above or below it, the nearest first."""
     found, seen = [start], {start}
     for number in found:
@@ -18,33 +24,30 @@ def climb(mirror: Mirror, start: int, up: bool) -> list[int]:
     return found
 
 
-def transitive(vocabulary: Vocabulary, up: bool) -> Json:
-    """Returns the concepts above or below one, each with its own neighbours."""
-    number, mirror = vocabulary.asked(), vocabulary.mirror
+def transitive(vocabulary: Vocabulary, number: int, up: bool) -> Iterator[str]:
+    """Yields the JSON of the concepts above or below one, each with its own neighbours."""
+    mirror = vocabulary.mirror
     near, name = ("broader", "broaderTransitive") if up else ("narrower", "narrowerTransitive")
-    items: Json = {}
-    for it in climb(mirror, number, up):
+    names = {near: {"@id": f"skos:{near}", "@type": "@id"}, name: {"@id": f"skos:{name}", "@container": "@index"}}
+    head = json.dumps({"@context": vocabulary.context(**names), "uri": mirror.iri(number)}, ensure_ascii=False)
+    yield f'{head[:-1]}, "{name}": {{'
+    for place, it in enumerate(climb(mirror, number, up)):
         view = mirror.view(it)
         others = (view.broader if up else view.narrower) if view else ()
-        item = {"uri": mirror.iri(it), "prefLabel": vocabulary.term(it)[1]}
-        items[mirror.iri(it)] = item | ({near: [mirror.iri(other) for other in others]} if others else {})
-    context = {**CONTEXT, "prefLabel": PREF, near: {"@id": f"skos:{near}", "@type": "@id"}}
-    return {
-        "@context": {**context, name: {"@id": f"skos:{name}", "@container": "@index"}},
-        "uri": mirror.iri(number),
-        name: items,
-    }
+        item = vocabulary.one(it) | ({near: [mirror.iri(other) for other in others]} if others else {})
+        yield f"{', ' if place else ''}{json.dumps(mirror.iri(it))}: {json.dumps(item, ensure_ascii=False)}"
+    yield "}}\n"
 
 
 def hierarchy(vocabulary: Vocabulary) -> Json:
     """Returns the ways from the top down to a concept, with what is beside them."""
-    number, mirror = vocabulary.asked(), vocabulary.mirror
+    number, mirror = vocabulary.asked("concept"), vocabulary.mirror
     items: Json = {}
     for it in climb(mirror, number, True):
         view = mirror.view(it)
         if view is None:
             continue
-        item: Json = {"uri": mirror.iri(it), "prefLabel": vocabulary.term(it)[1], "hasChildren": bool(view.narrower)}
+        item: Json = {**vocabulary.one(it), "hasChildren": bool(view.narrower)}
         if view.broader:
             item["broader"] = [mirror.iri(other) for other in view.broader]
         if view.is_top:
@@ -54,16 +57,19 @@ def hierarchy(vocabulary: Vocabulary) -> Json:
             for other in vocabulary.ordered(view.narrower)
         ]
         items[mirror.iri(it)] = item
-    context = {**CONTEXT, "prefLabel": PREF, "label": PREF, "narrower": {"@id": "skos:narrower", "@type": "@id"}}
-    context |= {"broader": {"@id": "skos:broader", "@type": "@id"}, "hasChildren": "onki:hasChildren"}
-    context |= {
-        "broaderTransitive": {"@id": "skos:broaderTransitive", "@container": "@index"},
-        "top": {"@id": "skos:topConceptOf", "@type": "@id"},
-    }
+    context = vocabulary.context(
+        label="skos:prefLabel",
+        narrower={"@id": "skos:narrower", "@type": "@id"},
+        broader={"@id": "skos:broader", "@type": "@id"},
+        broaderTransitive={"@id": "skos:broaderTransitive", "@container": "@index"},
+        top={"@id": "skos:topConceptOf", "@type": "@id"},
+        hasChildren="onki:hasChildren",
+    )
     return {"@context": context, "uri": mirror.iri(number), "broaderTransitive": items}
 
 
-def has_children(mirror: Mirror, number: int) -> bool:
+def has_children(mirror: Replica, number: int) -> bool:
+    """Returns whether a concept has narrower ones."""
     it = mirror.get(number)
     return bool(it and it.narrower)
 
@@ -74,23 +80,14 @@ def child(vocabulary: Vocabulary, number: int) -> Json:
 
 
 def label_answer(vocabulary: Vocabulary) -> Json:
-    """Returns the labels of a resource in a language."""
+    """Returns the labels of a resource in the language that is asked for: of none if it has none in it."""
     number = vocabulary.asked()
-    tag, text = vocabulary.term(number)
-    view = vocabulary.mirror.view(number)
-    found: Json = {
-        "@context": {
-            **CONTEXT,
-            "prefLabel": PREF,
-            "altLabel": "skos:altLabel",
-            "hiddenLabel": "skos:hiddenLabel",
-            "@language": tag,
-        }
-    }
-    found |= {"uri": vocabulary.mirror.iri(number), "prefLabel": text}
+    context = vocabulary.context(altLabel="skos:altLabel", hiddenLabel="skos:hiddenLabel")
+    found: Json = {"@context": context, "uri": vocabulary.mirror.iri(number)}
+    for preferred in vocabulary.own_terms(number, "pref")[:1]:
+        found["prefLabel"] = preferred
     for kind in ("alt", "hidden"):
-        others = [it for its, it in view.terms(kind) if its == tag] if view else []
-        if others:
+        if others := vocabulary.own_terms(number, kind):
             found[f"{kind}Label"] = others
     return found
 
@@ -99,10 +96,10 @@ def near(kind: str) -> Callable[[Vocabulary], Json]:
     """Returns the answer that lists the broader, narrower or related concepts of one."""
 
     def answer(vocabulary: Vocabulary) -> Json:
-        number = vocabulary.asked()
+        number = vocabulary.asked("concept")
         view = vocabulary.mirror.view(number)
         others: tuple[int, ...] = getattr(view, kind) if view else ()
-        context = list_context(kind, f"skos:{kind}")
+        context = vocabulary.context(**{kind: f"skos:{kind}"})
         return {"@context": context, "uri": vocabulary.mirror.iri(number), kind: vocabulary.many(others)}
 
     return answer
@@ -110,8 +107,40 @@ def near(kind: str) -> Callable[[Vocabulary], Json]:
 
 def children(vocabulary: Vocabulary) -> Json:
     """Returns what is directly below a concept."""
-    number = vocabulary.asked()
+    number = vocabulary.asked("concept")
     view = vocabulary.mirror.view(number)
     found = [child(vocabulary, it) for it in vocabulary.ordered(view.narrower if view else ())]
-    context = {**list_context("narrower", "skos:narrower"), "hasChildren": "onki:hasChildren"}
+    context = vocabulary.context(narrower="skos:narrower", hasChildren="onki:hasChildren")
     return {"@context": context, "uri": vocabulary.mirror.iri(number), "narrower": found}
+
+
+def mappings(vocabulary: Vocabulary) -> Json:
+    """Returns the matches of a concept: with external=false only those within this thesaurus."""
+    number, mirror = vocabulary.asked("concept"), vocabulary.mirror
+    view = mirror.view(number)
+    wants_all = "external" not in request.args or flag("external")
+    found = [
+        mapping(vocabulary, number, kind, other)
+        for kind, other in (view.mappings if view else ())
+        if wants_all or mirror.kind(other) != "outside"
+    ]
+    context = vocabulary.context(
+        mappings={"@id": "onki:mappings", "@container": "@list"},
+        hrefLink={"@id": "onki:hrefLink", "@type": "@id"},
+        vocabName="onki:vocabName",
+        memberSet="onki:memberSet",
+        **{"from": "onki:mappingFrom", "to": "onki:mappingTo"},
+    )
+    return {"@context": context, "uri": mirror.iri(number), "mappings": found}
+
+
+def mapping(vocabulary: Vocabulary, number: int, kind: str, other: int) -> Json:
+    """Returns a match as Skosmos and JSKOS do."""
+    mirror, there = vocabulary.mirror, vocabulary.mirror.iri(other)
+    tag, text = vocabulary.term(other, language_asked("clang"))
+    its = mirror.get(other)
+    name = vocabulary.term(its.scheme)[1] if its and its.scheme else urlsplit(there).hostname or ""
+    found: Json = {"uri": there, "type": [f"skos:{MATCH_OF[kind]}"], "prefLabel": text, "hrefLink": there}
+    found |= {"lang": tag} if tag else {}
+    found |= {"vocabName": name, "from": {"memberSet": [{"uri": mirror.iri(number)}]}}
+    return {**found, "to": {"memberSet": [{"uri": there}]}}

@@ -4,11 +4,11 @@ from __future__ import annotations
 import csv
 import io
 import json
-import re
-from collections.abc import Iterator
+from collections.abc import Iterable, Iterator, Sequence
 from dataclasses import dataclass
 
 from thesaurus_desk.journal.entries import Journal, Plan, Step
+from thesaurus_tools.formulas import guard
 from thesaurus_tools.kinds import BROADER
 
 # Tests of the rows of a table, with their values; one with None is left out.
@@ -24,7 +24,8 @@ CHANGING = (
     " AND step.state = 'done' AND json_extract(answer, '$.again') IS NULL"
     " AND (json_extract(request, '$.do') <> 'import' OR json_extract(answer, '$.last') IS NOT NULL)))"
 )
-NEEDS_GUARD = re.compile(r"'?[=+\-@\t\r]")
+# When a plan ended; of one that an earlier desk has written it is known only when it began.
+ENDED_AT = "coalesce((SELECT ended.at FROM ended WHERE ended.plan = plan.id), plan.at)"
 COLUMNS = ("plan", "step", "time", "user", "proposed by", "action", "state", "request", "answer", "takes back")
 
 
@@ -86,17 +87,28 @@ class History:
         before: int | None = None,
         states: tuple[str, ...] = (),
         which: Filter = EVERYTHING,
+        part_of: int | None = None,
+        is_grouped: bool = False,
         most: int = 50,
     ) -> list[Plan]:
-        """Returns plans, the last first: of a resource, before a plan, in states, of a filter."""
+        """Returns plans, the last first: of a resource, before a plan, in states, of a filter; the parts of one; of a
+        long one, or a file, the first part alone."""
         condition, values = condition_of(
-            {**which.tests(), CONCERNING: number, "id < ?": before, f"state IN ({marks(states)})": states or None}
+            {
+                **which.tests(),
+                CONCERNING: number,
+                "id < ?": before,
+                f"state IN ({marks(states)})": states or None,
+                "coalesce(first, id) = ?": part_of,
+                "first IS NULL": () if is_grouped else None,
+            }
         )
         return self.journal.plans(f"SELECT * FROM plan WHERE {condition} ORDER BY id DESC LIMIT ?", *values, most)
 
     def changes(self, most: int) -> list[Plan]:
-        """Returns the plans that have changed something, the last first."""
-        return self.journal.plans(f"SELECT * FROM plan WHERE {CHANGING} ORDER BY id DESC LIMIT ?", most)
+        """Returns the plans that have changed something, the last first; of one in parts the first part."""
+        query = f"SELECT * FROM plan WHERE first IS NULL AND {CHANGING} ORDER BY id DESC LIMIT ?"
+        return self.journal.plans(query, most)
 
     def users(self) -> list[str]:
         """Returns the users who have sent plans; "" is among them if other programs have changed something."""
@@ -104,21 +116,34 @@ class History:
 
     def resources_changed_by(self, plan: int) -> list[int]:
         """Returns the resources that have other labels, links or another state by a plan, in order."""
-        found = self.journal.all("SELECT number FROM concern WHERE plan = ? AND changes = 1 ORDER BY number", plan)
-        return [it["number"] for it in found]
+        found = self.journal.all("SELECT number FROM concern WHERE plan = ? AND changes = 1", plan)
+        return sorted(abs(it["number"]) for it in found)
 
     def dates(self, number: int) -> Dates:
         """Returns when a resource was made and last changed. What is older than the journal has no date."""
         found = self.journal.one(
-            "SELECT min(plan) AS first, min(at) AS created, max(at) AS modified FROM plan JOIN concern ON plan = id"
-            " WHERE number = ? AND changes = 1 AND state = 'done'",
+            f"SELECT min(plan) AS first, min({ENDED_AT}) AS created, max({ENDED_AT}) AS modified"
+            " FROM plan JOIN concern ON plan = id WHERE number = ? AND changes = 1 AND state = 'done'",
             number,
         )
         plan = self.journal.plan(found["first"]) if found and found["first"] else None
         if not found or not plan:
             return Dates(None, None)
         made = {it.answer.get("ok") for it in plan.steps if it.answer and it.request["do"] != "post"}
-        return Dates(found["created"] if number in made else None, found["modified"])
+        return Dates(found["created"] if abs(number) in made else None, found["modified"])
+
+    def all_dates(self) -> dict[int, Dates]:
+        """Returns the dates of all resources, read at once."""
+        made = self.journal.all(
+            "SELECT plan, json_extract(answer, '$.ok') FROM step WHERE json_extract(answer, '$.ok') IS NOT NULL"
+            " AND json_extract(request, '$.do') <> 'post'"
+        )
+        created = {(plan, number) for plan, number in made}
+        found = self.journal.all(
+            f"SELECT number, min(plan), min({ENDED_AT}), max({ENDED_AT}) FROM plan JOIN concern ON plan = id"
+            " WHERE changes = 1 AND state = 'done' GROUP BY number"
+        )
+        return {it[0]: Dates(it[2] if (it[1], it[0]) in created else None, it[3]) for it in found}
 
     def new_number_after(self, plan: Plan) -> int | None:
         """Returns the new number of the concept that came back when a plan was taken back."""
@@ -136,16 +161,76 @@ class History:
                     return Ending(plan, broader, self.new_number_after(plan))
         return None
 
-    def changed_since(self, time: str, most: int = -1) -> list[tuple[int, str]]:
+    def plan_that_moved(self, source: int, target: int) -> Plan | None:
+        """Returns the plan that moved records from one concept to another; None if the journal has none. There is one
+        at most: a merge ends its source, and a split makes its target."""
+        did = "json_extract(request, '$.do')"
+        found = self.journal.plans(
+            "SELECT plan.* FROM plan JOIN step ON step.plan = plan.id WHERE plan.state = 'done' AND step.state = 'done'"
+            " AND plan.id IN (SELECT plan FROM concern WHERE number = ?1)"
+            " AND plan.id IN (SELECT plan FROM concern WHERE number = ?2) AND json_extract(request, '$.source') = ?1"
+            f" AND ({did} = 'merge' AND json_extract(request, '$.target') = ?2"
+            f" OR {did} = 'split' AND json_extract(answer, '$.ok') = ?2) LIMIT 1",
+            source,
+            target,
+        )
+        return next(iter(found), None)
+
+    def changed_since(self, time: str) -> list[tuple[int, str]]:
         """Returns the resources that were changed at a time or later, with the time of their last change, the last
-        first: all of them, or at most a number."""
+        first. A plan has changed them when it ended: one that is slow is in no list before."""
+        return self.changed_by("SELECT id FROM plan WHERE at >= ?1 UNION SELECT plan FROM ended WHERE at >= ?1", time)
+
+    def changes_of(self, numbers: Iterable[int], time: str, most: int) -> dict[int, list[Plan]]:
+        """Returns the plans that changed each of some resources at a time or later, the last first. One that changed
+        many of them is read once."""
+        query = (
+            "SELECT plan.id FROM plan JOIN concern ON plan = id WHERE number = ? AND changes = 1 AND state = 'done'"
+            f" AND {ENDED_AT} >= ? ORDER BY id DESC LIMIT ?"
+        )
+        found = {it: [row["id"] for row in self.journal.all(query, it, time, most)] for it in numbers}
+        ids = tuple({it for its in found.values() for it in its})
+        plans = {it.id: it for it in self.journal.plans(f"SELECT * FROM plan WHERE id IN ({marks(ids)})", *ids)}
+        return {number: [plans[it] for it in its] for number, its in found.items()}
+
+    def changed_after(self, plan: int) -> list[tuple[int, str]]:
+        """Returns the resources that were changed by plans after one, with the time of their last change, the last
+        first."""
+        return self.changed_by("SELECT id FROM plan WHERE id > ?1", plan)
+
+    def changed_by(self, plans: str, value: int | str) -> list[tuple[int, str]]:
+        """Returns the resources that the plans of a query have changed, with the time of their last change, the last
+        first."""
         found = self.journal.all(
-            "SELECT number, max(at) AS last FROM plan JOIN concern ON plan = id"
-            " WHERE state = 'done' AND changes = 1 AND at >= ? GROUP BY number ORDER BY last DESC, number LIMIT ?",
-            time,
-            most,
+            f"SELECT number, max({ENDED_AT}) AS last FROM plan JOIN concern ON plan = id WHERE id IN ({plans})"
+            " AND state = 'done' AND changes = 1 AND number > 0 GROUP BY number ORDER BY last DESC, number",
+            value,
         )
         return [(it["number"], it["last"]) for it in found]
+
+    def last_settled(self) -> int:
+        """Returns the last plan before which none is under way any more, or 0."""
+        found = self.journal.one("SELECT min(id) - 1 AS before FROM plan WHERE state = 'sent'")
+        before = found["before"] if found else None
+        return self.journal.last_plan() if before is None else int(before)
+
+    def ended_elsewhere(self) -> list[int]:
+        """Returns the concepts with values of fields that another program has ended: no plan of the journal did."""
+        ends = "json_extract(request, '$.do') IN ('merge', 'deprecate') AND coalesce(json_extract(request, '$.source'),"
+        found = self.journal.all(
+            "SELECT num FROM resource WHERE live = 0 AND num IN (SELECT owner FROM value) AND NOT EXISTS (SELECT 1 FROM"
+            " concern JOIN step ON step.plan = concern.plan WHERE concern.number = num AND state = 'done'"
+            f" AND {ends} json_extract(request, '$.concept')) = num) ORDER BY num"
+        )
+        return [it["num"] for it in found]
+
+    def taken_numbers(self) -> dict[int, str]:
+        """Returns the resources with values that other programs have left with other terms alone, with the term that
+        each had: it may be another one, with a number that was free after a restore."""
+        found = self.journal.all(
+            "SELECT number, name FROM taken WHERE number IN (SELECT owner FROM value) ORDER BY number"
+        )
+        return {it["number"]: it["name"] for it in found}
 
     def csv(self, number: int | None = None, which: Filter = EVERYTHING) -> Iterator[str]:
         """Yields the plans of a resource and a filter as CSV, the earliest first: a line for each request, and one for
@@ -162,7 +247,7 @@ class History:
             condition, values = condition_of({**tests, "id > ?": plans[-1].id})
 
 
-def marks(values: tuple[str, ...]) -> str:
+def marks(values: Sequence[object]) -> str:
     """Returns the marks that stand for some values."""
     return ", ".join("?" * len(values))
 
@@ -188,8 +273,8 @@ def ended_by(step: Step) -> int | None:
 
 
 def to_csv(cells: tuple[object, ...]) -> str:
-    """Returns a line of CSV. A cell that a spreadsheet would take for a formula begins with an apostrophe, which goes
-    when the table is brought in."""
+    """Returns a line of CSV. What a spreadsheet would take for a formula has an apostrophe before it, which goes when
+    the table is brought in."""
     out = io.StringIO()
-    csv.writer(out).writerow([f"'{it}" if isinstance(it, str) and NEEDS_GUARD.match(it) else it for it in cells])
+    csv.writer(out).writerow([guard(it) if isinstance(it, str) else it for it in cells])
     return out.getvalue()

@@ -7,7 +7,7 @@ from collections.abc import Sequence
 from dataclasses import dataclass
 
 from thesaurus_desk.journal.entries import Journal, Request
-from thesaurus_desk.journal.tables import now
+from thesaurus_desk.journal.schema import now
 
 LONGEST_TEXT = 2000
 
@@ -117,14 +117,14 @@ class Proposals:
         with self.journal.writing() as rows:
             rows.executemany("DELETE FROM unread WHERE proposal = ?", [(it,) for it in numbers])
 
-    def decide(self, number: int, state: str, user: str, word: str = "", plan: int | None = None) -> bool:
+    def decide(self, number: int, state: str, user: str, word: str = "") -> bool:
         """Accepts, declines or withdraws a proposal that is open, which its author, if it is another one, is to read.
-        Returns False if it isn't open any more."""
+        Returns False if it isn't open any more. One that a plan performs is accepted with that."""
         with self.journal.writing() as rows:
             done = rows.execute(
-                "UPDATE proposal SET state = ?, decided_at = ?, decided_by = ?, word = ?, plan = ?"
+                "UPDATE proposal SET state = ?, decided_at = ?, decided_by = ?, word = ?"
                 " WHERE id = ? AND state = 'open'",
-                (state, now(), user, word[:LONGEST_TEXT] or None, plan, number),
+                (state, now(), user, word[:LONGEST_TEXT] or None, number),
             )
             if done.rowcount == 1:
                 rows.execute("INSERT INTO unread SELECT id FROM proposal WHERE id = ? AND user <> ?", (number, user))
@@ -146,7 +146,9 @@ class Proposals:
 
     def recent_comments(self, most: int) -> list[Comment]:
         """Returns the last comments, the last first."""
-        rows = self.journal.all("SELECT * FROM comment WHERE removed_at IS NULL ORDER BY id DESC LIMIT ?", most)
+        rows = self.journal.all(
+            "SELECT * FROM comment WHERE removed_at IS NULL AND number > 0 ORDER BY id DESC LIMIT ?", most
+        )
         return [Comment(**dict(it)) for it in rows]
 
     def remove_comment(self, comment: int, user: str) -> bool:

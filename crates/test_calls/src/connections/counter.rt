@@ -10,7 +10,8 @@ use thes_base::request::{Answer, Command};
 use thes_http::connection::{ConnectionEnd, serve_one};
 use thes_http::service::Service;
 use thes_http_request::endpoint::Routes;
-use thes_plans::plan::{PlanOutcome, PlanRequest};
+use thes_plans::plan::{PlanOutcome, PlanRequest, PlanRun};
+use thes_plans::report::ChangeReport;
 use thes_requests::handler::{QueryAnswer, RequestHandler};
 use thes_requests::page::Page;
 use thes_requests::request::{DisplayRequest, Query};
@@ -28,9 +29,11 @@ pub struct CountingService {
 impl RequestHandler for CountingService {
     ghost requests = { record {
       performs = λ _ _ _ _. Unit {0};
+      reports = λ _ _ _ _ _. Unit {0};
       shows = λ _ _ _ _. Unit {0};
       takes_plans = λ _. false;
       performs_plan = λ _ _ _ _. Unit {0};
+      reports_plan = λ _ _ _ _ _ _. Unit {0};
     } };
 
     ghost is_open = { λ _. true };
@@ -62,6 +65,26 @@ impl RequestHandler for CountingService {
         Err(Fault::OutOfMemory)
     }
 
+    // Never called, since this service takes no plans.
+    fn report<R: ChangeReport>(
+        &mut self,
+        _command: &Command,
+        _report: &mut R,
+    ) -> Result<Answer, Fault> {
+        Err(Fault::OutOfMemory)
+    }
+
+    // Never called, since this service takes no plans.
+    fn report_plan<R: ChangeReport>(
+        &mut self,
+        _run: PlanRun,
+        plan: Vec<PlanRequest>,
+        _report: &mut R,
+    ) -> Result<PlanOutcome, Fault> {
+        let _ = plan;
+        Err(Fault::OutOfMemory)
+    }
+
     fn takes_plans(&self) -> bool {
         false
     }
@@ -83,9 +106,11 @@ impl Service for CountingService {
 
     ghost does_requests = { record {
       performs = λ _ _ _ _ does. does;
+      reports = λ _ _ _ _ _ does. does;
       shows = λ _ _ _ _ does. does;
       takes_plans = λ _. refl;
       performs_plan = λ _ _ _ _ does. does;
+      reports_plan = λ _ _ _ _ _ _ does. does;
     } };
 
     fn import(&mut self, alloc: Global, file: &[u8]) -> Result<Option<Page>, Fault> {

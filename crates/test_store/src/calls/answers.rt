@@ -112,15 +112,15 @@ pub fn standing_report<K: Keeper>(
     }
 }
 
-/// Withdraws a posting, and returns a line with the result.
-pub fn withdraw_report<K: Keeper>(
+/// Assigns a posting to concept 2, and returns a line with the result.
+pub fn assign_report<K: Keeper>(
     alloc: Global,
     keeper: &mut K,
     number: PostNo,
 ) -> Result<String, Failure> {
-    match commit_one(alloc, keeper, Change::Withdraw(number)) {
-        Ok(_) => Ok(String::from_str(alloc, "withdraw: done\n")?),
-        Err(fault) => Ok(call_fault_line(alloc, "withdraw", fault)?),
+    match commit_one(alloc, keeper, Change::SetPlace(number, ResNo::new(2))) {
+        Ok(_) => Ok(String::from_str(alloc, "assign: done\n")?),
+        Err(fault) => Ok(call_fault_line(alloc, "assign", fault)?),
     }
 }
 

@@ -1,7 +1,7 @@
 //! Calls of a storage in memory, one of which fails.
 use crate::calls::answers::{
-    answers, find_report, load_report, numbers_report, posting_report, row_report, standing_report,
-    withdraw_report,
+    answers, assign_report, find_report, load_report, numbers_report, posting_report, row_report,
+    standing_report,
 };
 use std::alloc::Global;
 use std::fmt::Write;
@@ -27,7 +27,7 @@ fn call_report(alloc: Global, keeper: &mut FailOnce, kind: Next) -> Result<Strin
     match kind {
         Next::Nothing => Ok(String::new(alloc)),
         Next::Load => load_report(alloc, keeper),
-        Next::Commit => withdraw_report(alloc, keeper, PostNo::new(1)),
+        Next::Commit => assign_report(alloc, keeper, PostNo::new(1)),
         Next::Find => find_report(alloc, keeper, "k2"),
         Next::Posting => posting_report(alloc, keeper, PostNo::new(1)),
         Next::Row => row_report(alloc, keeper, PostNo::new(1)),

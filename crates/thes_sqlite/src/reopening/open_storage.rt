@@ -7,7 +7,9 @@ ghost use Rattle.thes_store.specs.Storage.{DeltaFitsStorage, RawAfterChanges};
 ghost use Rattle.thes_sqlite.specs.Faults.{IsKeeperFault};
 ghost use Rattle.thes_sqlite.specs.Reopening.{IsKeeperStillUp, rows_still, storage_still};
 ghost use Rattle.thes_sqlite.specs.Reopening.{FindsOfFirst, IsStillOpen, KeepsOnFault, KeepsStill};
-ghost use Rattle.thes_sqlite.specs.Reopening.{StaysUnwritten, AppliesOpen, ShowsChanges};
+ghost use Rattle.thes_sqlite.specs.Reopening.{StaysUnwritten, AppliesOpen, ShowsChanges, Becomes};
+ghost use Rattle.thes_sqlite.specs.Reopening.{MakesAtMost, connection_of};
+ghost use Rattle.thes_sqlite.specs.Commits.{MakesAll, MakesNone};
 
 use crate::cause::FaultCause;
 use crate::opener::{HeldImage, Reopen};
@@ -28,6 +30,7 @@ impl<S: Alter + Drop, O: Reopen<Connection<S>> + HeldImage, L: Progress> Reopeni
         ensures keeps { KeepsStill S.Store self.old self.new }
         ensures gone { IsTrue result → self.new.first ≡ None }
         ensures shows { ShowsChanges S.Store changes.now self.old self.new result }
+        ensures whole { MakesAtMost S.Store MakesNone self.old self.new }
     {
         if !self.reopen_if_shut() {
             return false;
@@ -65,7 +68,7 @@ impl<S: Alter + Drop, O: Reopen<Connection<S>> + HeldImage, L: Progress> Reopeni
 
     // Applies changes atomically. The fault is `Store`, and nothing changes, if the file of the
     // database was moved away or no database is open.
-    #[tactic(auto, using(crate::proofs::ReopeningLemmas::stays_itself))]
+    #[tactic(auto, using(crate::proofs::ReopeningLemmas::becomes_itself, crate::proofs::ReopeningLemmas::stays_itself))]
     pub(super) fn commit_now(&mut self, changes: &[Change]) -> Result<(), Fault>
         requires { DeltaFitsStorage changes.now (storage_still S.Store self.old) }
         ensures ok { OnOk result (IsKeeperStillUp S.Store self.new
@@ -76,6 +79,9 @@ impl<S: Alter + Drop, O: Reopen<Connection<S>> + HeldImage, L: Progress> Reopeni
         ensures applies { OnOk result (AppliesOpen S.Store changes.now self.old.storage
             self.new.storage) }
         ensures stays { OnErr result (StaysUnwritten S.Store self.old.storage self.new.storage) }
+        ensures whole { Becomes S.Store (MakesAll changes.now) self.old.storage
+            (connection_of self.new.storage) }
+        ensures count { self.new.reopenings ≡ self.old.reopenings }
         ensures kind { IfErr result IsKeeperFault }
     {
         if !self.opener.is_in_place() {

@@ -13,10 +13,12 @@ returns-then-print-clause-serves g c =
     let prints = rw c.if-print.true at c.print.ensures in
     let served : ServesAll g.K.Keeper.view g.T.Errors.Write.contents g.M.PlanMode.takes c.args.listening.now.count
     c.new-handler.result c.args.given.now.streams.errors c.report_served-status.new.errors
-    c.report_served-status.new.connections c.report_served-status.result c.office_serve-ended.new.handler = record {
-      served = c.office_serve-ended.ensures.served;
-      reached = c.office_serve-ended.ensures.reached;
-      ends = done_or_not c.office_serve-ended.result c.args.listening.now.count _ _ c.office_serve-ended.ensures.all
+    c.office_serve-connections.result.connections c.report_served-status.result
+    c.office_serve-connections.new.handler = record {
+      served = c.office_serve-connections.ensures.served;
+      few = c.office_serve-connections.ensures.few;
+      reached = c.office_serve-connections.ensures.reached;
+      ends = done_or_not c.office_serve-connections.result.ended _ _ _ c.office_serve-connections.ensures.all
           c.report_served-status.ensures.ok c.report_served-status.ensures.err;
     } in
     inl (

@@ -10,7 +10,7 @@ use Rattle.thes_cli.proofs.stores.work_in_database.Goals as goal
 pub returns : goal.returns
 returns g c =
     works_to_closing g.D.Engine.Store g.T.PostingFile.Read.remaining g.T.Input.Read.remaining
-    g.T.Output.Write.contents g.T.Errors.Write.contents g.D.Databases.is_clean g.D.Databases.holds
+    g.T.Output.Write.contents g.T.Errors.Write.contents g.D.Databases.is_clean g.D.Databases.holds g.D.Databases.finds
     g.D.Opener.HeldImage.image c.args.job c.args.given.now.streams c.work_over_keeper-status.new.given.streams
     c.work_over_keeper-status.result.0 c.leave.result
     record {

@@ -31,4 +31,5 @@ returns-in-Ok-file_argument c =
       file = c.in-Ok-file_argument.ensures;
       base = c.in-Ok.ensures.1 ∙ c.base_argument.ensures;
       limits = c.limits_argument-limits.ensures;
+      must_exist = c.is_set.ensures;
     }

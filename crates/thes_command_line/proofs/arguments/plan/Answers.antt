@@ -29,8 +29,8 @@ matches_found app arguments m is_program none matches = (
 pub returns-in_err-program : goal.returns-in_err-program
 returns-in_err-program c = inr (search rules)
 
-pub job_of-requires : goal.job_of-requires
-job_of-requires c =
+pub matched_job-requires : goal.matched_job-requires
+matched_job-requires c =
     let arguments = map string_bytes c.args.arguments.now in
     let found = matches_found _ arguments c.in-Ok.options c.in_ok-program.ensures c.in-Ok.ensures.kinds
     c.in-Ok.ensures.matches in
@@ -44,7 +44,7 @@ returns-in-Ok c =
     let arguments = map string_bytes c.args.arguments.now in
     let found = matches_found _ arguments c.in-Ok.options c.in_ok-program.ensures c.in-Ok.ensures.kinds
     c.in-Ok.ensures.matches in
-    plan_found arguments c.in-Ok.options c.job_of.result (found.1 is_plain) found.0 c.job_of.ensures
+    plan_found arguments c.in-Ok.options c.matched_job.result (found.1 is_plain) found.0 c.matched_job.ensures
 
 pub returns-in-Err : goal.returns-in-Err
 returns-in-Err c =

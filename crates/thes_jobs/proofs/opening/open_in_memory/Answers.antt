@@ -11,8 +11,11 @@ returns-in-Ok-Some-clause-opens g c = record {
 }
 
 pub returns-in-Ok-None-clause-opens : goal.returns-in-Ok-None-clause-opens
-returns-in-Ok-None-clause-opens g c =
-    (migrates _ _ c.args.task (is_some c.screen_of-progress.result) (rw c.in-Ok-None.field-0-is at c.in-Ok-None.ensures), refl)
+returns-in-Ok-None-clause-opens g c = (
+  migrates _ _ c.args.task (is_some c.screen_of-progress.result)
+      (rw c.in-Ok-None.field-0-is at c.in-Ok-None.ensures),
+  refl,
+)
 
 pub returns-in-Err-clause-opens : goal.returns-in-Err-clause-opens
 returns-in-Err-clause-opens g c = ((is_some c.screen_of-progress.result, c.in-Err.ensures), refl, refl)

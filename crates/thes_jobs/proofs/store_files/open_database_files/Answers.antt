@@ -2,7 +2,7 @@ use Rattle.std.proofs.Common.{ℕ, Bool, cond, List, ap₂}
 use Rattle.sqlite_disk.specs.Events.{Event, replay}
 use Rattle.sqlite_wal.specs.Files.{image_at}
 use Rattle.sqlite_wal.specs.Recovery.{Image}
-use Rattle.thes_jobs.proofs.DatabaseLemmas.{keeps_image, left_as_opened, opened_from}
+use Rattle.thes_jobs.proofs.DatabaseLemmas.{keeps_image, left_as_opened}
 use Rattle.thes_jobs.proofs.store_files.open_database_files.Goals as goal
 
 abbrev image : List ℕ → List ℕ → Image
@@ -13,7 +13,7 @@ seen log db is_log history = (replay (cond is_log log db) history).seen
 
 pub returns-in-Ok-clause-opens : goal.returns-in-Ok-clause-opens
 returns-in-Ok-clause-opens g c =
-    opened_from (image_at g.S.Start) c.in-Ok.conn c.in-Ok.ensures.opens c.in-Ok.ensures.idle
+    record { idle = c.in-Ok.ensures.idle; opens = λ up. c.in-Ok.ensures.opens up.0 }
 
 pub returns-in-Err-clause-fails : goal.returns-in-Err-clause-fails
 returns-in-Err-clause-fails g c = rw c.take_files.ensures (keeps_image (image_at g.S.Start) _ (λ files fresh. record {

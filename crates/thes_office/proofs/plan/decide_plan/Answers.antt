@@ -7,7 +7,7 @@ use Rattle.thes_base.specs.declared.request.Answer.{Answer}
 use Rattle.thes_plans.specs.declared.plan.PlanRequest.{PlanRequest}
 use Rattle.thes_plans.specs.Resolving.{resolved_command}
 use Rattle.thes_store.proofs.StorageLemmas.{kept_after}
-use Rattle.thes_office.specs.PlanDecisions.{PlanDecided}
+use Rattle.thes_office.specs.PlanDecisions.{PlanIsAccepted}
 use Rattle.thes_office.proofs.PlanDecisionLemmas.{log_starts, place_counts, plan_continues, plan_decides, plan_refuses}
 use Rattle.thes_office.proofs.PlanDecisionLemmas.{plan_starts}
 use Rattle.thes_office.proofs.plan.decide_plan.Goals as goal
@@ -96,9 +96,10 @@ returns-clause-decides g c up =
     (given.1 ∙ c.args.plan.ok.0) in
     let ended = YieldsList-end road done c.loop-asked.asked-iterator c.loop-asked.yielded_by c.next.result
     c.next.new.self c.in-None.is c.next.ensures.steps in
-    subst (λ (l : List PlanRequest). PlanDecided (g.K.Keeper.view c.args.keeper.now).rows c.args.core.now.setting l
-    c.loop-asked.progress.decided.answers.items c.loop-asked.progress.decided.delta c.loop-asked.core)
-    (sym (map-id done) ∙ ended.0) (c.loop-asked.invariant.decides up).decided
+    let so_far = c.loop-asked.invariant.decides up in
+    subst (λ (l : List PlanRequest). PlanIsAccepted (g.K.Keeper.view c.args.keeper.now).rows c.args.core.now.setting l
+    c.loop-asked.progress.decided.answers.items c.loop-asked.progress.decided.delta c.loop-asked.progress.log
+    c.loop-asked.core) (sym (map-id done) ∙ ended.0) (record { decided = so_far.decided; steps = so_far.steps })
 
 pub returns-clause-each : goal.returns-clause-each
 returns-clause-each g c =

@@ -1,4 +1,4 @@
-use Rattle.std.proofs.Common.{◌≡◌, sym, subst, true, List, ℕ, Option, Some, Result, Ok, Err, inr}
+use Rattle.std.proofs.Common.{◌≡◌, sym, subst, true, List, ℕ, Option, Result, Ok, Err, inr}
 use Rattle.serde_json.specs.Data.{Data}
 use Rattle.thes_base.specs.declared.fault.Fault.{Fault}
 use Rattle.thes_requests.specs.RequestBehaviour.{RequestBehaviour}
@@ -18,5 +18,4 @@ pub returns : goal.returns
 returns g c = λ line same is.
     rw c.for_plan.ensures (plan_served g.D.RequestHandler.requests line _ _ _ is
     (subst (λ (value : Option Data). ServesPlan g.D.RequestHandler.requests c.args.handler.now value
-    c.perform_read_plan.result c.perform_read_plan.new.handler) (sym same)
-    (c.perform_read_plan.ensures (Some _) c.plan_in-plan.ensures)))
+    c.serve_plan_value.result c.serve_plan_value.new.handler) (sym same) c.serve_plan_value.ensures))

@@ -8,8 +8,8 @@ use Rattle.thes_service.proofs.office_handler.office_serve.Goals as goal
 
 pub returns-clause-reached : goal.returns-clause-reached
 returns-clause-reached g c =
-    connections_lead g.K.Keeper.view g.M.PlanMode.takes c.args.count c.args.handler.now
-    c.serve.new.service
+    connections_lead g.K.Keeper.view g.M.PlanMode.takes c.serve.result.connections.exchanges
+    c.args.handler.now c.serve.new.service
     (subst (λ (d : OfficeView _). (g.K.Keeper.view d.keeper).is_up → (base : List ℕ) × (s : State)
     × TablesOfState (g.K.Keeper.view d.keeper).rows base s × IsConsistentState base s) c.handler.view_is
     c.is_stale.ensures.shows)

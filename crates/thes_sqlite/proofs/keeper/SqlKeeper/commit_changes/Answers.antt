@@ -1,7 +1,10 @@
 use Rattle.std.proofs.lemmas.Grind.{common_steps}
-use Rattle.std.proofs.Common.{arith, ap}
+use Rattle.std.proofs.Common.{arith, ap, subst}
+use Rattle.sqlite.specs.Held.{state}
+use Rattle.sqlite.specs.State.{Survives}
+use Rattle.thes_sqlite.specs.Commits.{MakesAll}
 use Rattle.thes_sqlite.specs.KeeperView.{KeeperView}
-use Rattle.thes_sqlite.proofs.KeeperLemmas.{applies_done, is_done, is_either, frame_of_success, frame_of_fault}
+use Rattle.thes_sqlite.proofs.KeeperLemmas.{applies_done, makes_all, is_done, is_either, frame_of_success, frame_of_fault}
 use Rattle.thes_sqlite.proofs.keeper.SqlKeeper.commit_changes.Goals as goal
 
 pub invariant_of-self : goal.invariant_of-self
@@ -50,4 +53,16 @@ returns-in-Err-clause-frame g c = record {
 pub returns-in-Ok-clause-applies : goal.returns-in-Ok-clause-applies
 returns-in-Ok-clause-applies g c = applies_done g.S.Store _ _ c.commit_all.new.conn c.args.changes.now
     c.commit_all.result _ c.in-Ok.is (ap (λ (k : KeeperView _). k.conn) c.self.view_is) c.self.invariant.autocommit
-    c.commit_all.ensures.own c.commit_all.ensures.all
+    c.commit_all.ensures.own c.commit_all.ensures.all c.commit_all.ensures.users
+
+pub returns-in-Ok-clause-whole : goal.returns-in-Ok-clause-whole
+returns-in-Ok-clause-whole g c = subst (λ (k : KeeperView _). Survives (state g.S.Store k.conn)
+    (state g.S.Store c.commit_all.new.conn) (MakesAll c.args.changes.now (state g.S.Store k.conn))) c.self.view_is
+    (makes_all g.S.Store c.self.inside.conn c.commit_all.new.conn c.args.changes.now
+    c.commit_all.ensures.crash c.commit_all.ensures.crash_users)
+
+pub returns-in-Err-clause-whole : goal.returns-in-Err-clause-whole
+returns-in-Err-clause-whole g c = subst (λ (k : KeeperView _). Survives (state g.S.Store k.conn)
+    (state g.S.Store c.commit_all.new.conn) (MakesAll c.args.changes.now (state g.S.Store k.conn))) c.self.view_is
+    (makes_all g.S.Store c.self.inside.conn c.commit_all.new.conn c.args.changes.now
+    c.commit_all.ensures.crash c.commit_all.ensures.crash_users)

@@ -1,1 +1,0 @@
-"""The pages: a blueprint for each topic."""

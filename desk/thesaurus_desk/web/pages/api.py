@@ -1,0 +1,106 @@
+"""What a catalogue's program asks with a user's token while the desk runs: schemes, terms, and plans that are performed
+and written to the journal as that user's. INTERFACES.md has the answers."""
+from __future__ import annotations
+
+from typing import Any
+
+from flask import Blueprint, abort, request
+from werkzeug.exceptions import HTTPException
+
+from thesaurus_desk.auth.route_roles import role, takes_token
+from thesaurus_desk.journal import Request
+from thesaurus_desk.store.model import Hit
+from thesaurus_desk.store.plan_outcome import Outcome
+from thesaurus_desk.store.program import LONGEST_PLAN
+from thesaurus_desk.web.context import person, the_desk, the_mirror, the_rights
+
+pages = Blueprint("api", __name__)
+# The action of its plans in the journal.
+ACTION = "api"
+MOST_FOUND, LONGEST_TEXT = 50, 300
+WAIT = {"Retry-After": "5"}
+
+
+@pages.get("/api/schemes")
+@role("reader")
+@takes_token
+def schemes() -> Any:
+    """Lists the schemes, each with its number, its address and its names."""
+    mirror = the_mirror()
+    found = [it for it in map(mirror.get, mirror.numbers("scheme")) if it]
+    return [{"number": it.number, "uri": mirror.iri(it.number), "names": dict(it.terms("pref"))} for it in found]
+
+
+@pages.get("/api/find")
+@role("reader")
+@takes_token
+def find() -> Any:
+    """Lists concepts in use that a text finds, the best first: each with the label that it was found by."""
+    text, scheme = request.args.get("text", "")[:LONGEST_TEXT], request.args.get("scheme")
+    if not text.strip() or scheme and not (scheme.isascii() and scheme.isdigit()):
+        abort(400, "text=.. is needed; scheme, if it is given, is a number")
+    lang = request.args.get("lang")
+    found = the_mirror().search(
+        text, most=MOST_FOUND, lang=lang, prefer=lang, live=True, scheme=int(scheme) if scheme else None
+    )
+    return [found_one(it, lang) for it in found]
+
+
+def found_one(hit: Hit, lang: str | None) -> dict[str, Any]:
+    """Returns what is said of a concept that was found; `is_same` if no typing error was forgiven."""
+    tag, term = the_mirror().term(hit.number, [lang or hit.tag])
+    label = {"kind": hit.kind, "lang": hit.tag, "text": hit.text}
+    address = the_mirror().iri(hit.number)
+    return {
+        "number": hit.number,
+        "uri": address,
+        "term": term,
+        "lang": tag,
+        "label": label,
+        "is_same": not hit.is_alike,
+    }
+
+
+@pages.post("/api/plans")
+@role("indexer")
+@takes_token
+def perform() -> Any:
+    """Performs a plan, all of it or nothing."""
+    desk, asked = the_desk(), read_requests()
+    # (the program alone knows what a request must have)
+    tried = desk.tried(asked)
+    if "bad" in tried:
+        return tried, 400
+    if not tried or "fault" in tried:
+        return {"fault": "NotNow"}, 503, WAIT
+    requests = the_rights().completed(asked, person().role)
+    if the_rights().refusal(requests, person().role):
+        abort(403, "the token’s user may not make these requests")
+    return answer_of(desk.perform(person().name, ACTION, requests), len(asked))
+
+
+@pages.errorhandler(HTTPException)
+def explain(error: HTTPException) -> tuple[dict[str, str], int]:
+    """Says in JSON what is wrong with a request."""
+    return {"error": error.description or error.name}, error.code or 500
+
+
+def read_requests() -> list[Request]:
+    """Returns the requests of the body. Ends with 400 for what is no plan."""
+    found = request.get_json()
+    if not isinstance(found, list) or not 1 <= len(found) <= LONGEST_PLAN:
+        abort(400, f"a plan is a list of 1 to {LONGEST_PLAN} requests")
+    if not all(isinstance(it, dict) and isinstance(it.get("do"), str) and it["do"] != "set" for it in found):
+        abort(400, "each request is an object with a text `do`, which isn’t `set`")
+    return found
+
+
+def answer_of(outcome: Outcome, count: int) -> Any:
+    """Returns what came of a plan, with its number in the journal."""
+    plan: dict[str, Any] = {"plan": outcome.plan} if outcome.plan else {}
+    if outcome.is_done:
+        return {**plan, "done": [it.answer for it in outcome.steps[:count]]}
+    if outcome.state == "refused":
+        return {**plan, "at": outcome.at, **(outcome.answer or {})}, 409
+    # (nobody may know whether it was performed: the same key again counts once)
+    return {**plan, "fault": "NotNow" if outcome.state == "fault" else outcome.state}, 503, WAIT

@@ -1,0 +1,506 @@
+"""Bringing in: posting files, tables of changes with a preview, and whole vocabularies in SKOS."""
+from __future__ import annotations
+
+from dataclasses import replace
+from typing import Any, cast
+
+from flask import Blueprint, Response, abort, current_app, redirect, render_template, request
+from markupsafe import Markup
+
+from thesaurus_desk.auth.route_roles import role
+from thesaurus_desk.importing.exported_values import read_exported_values
+from thesaurus_desk.importing.posting_files import MOST_BYTES, Brought, Row
+from thesaurus_desk.importing.row_trial import NotTried
+from thesaurus_desk.importing.skos_reports import Findings
+from thesaurus_desk.importing.tables import (
+    Bringer,
+    TableRun,
+    plain,
+    preview_rows,
+    read_sent_table,
+    refused_rows,
+    run_table,
+    table_error_in_words,
+    table_of,
+)
+from thesaurus_desk.importing.uploads import Shelf
+from thesaurus_desk.importing.vocabularies import (
+    ENDS,
+    SkosError,
+    SkosOptions,
+    SkosRun,
+    convert_skos,
+    perform_script,
+    read_skos,
+    update_of,
+    vocabulary_of,
+)
+from thesaurus_desk.journal.entries import Answer, Batch, Request
+from thesaurus_desk.store.copies import StoreBusy
+from thesaurus_desk.store.plan_execution import TAKE_BACK
+from thesaurus_desk.web.context import (
+    go,
+    link,
+    may_act,
+    person,
+    say,
+    tags,
+    the_desk,
+    the_fields,
+    the_mirror,
+    the_rights,
+    words,
+)
+from thesaurus_desk.web.forms import FormState, Problem
+from thesaurus_desk.web.journal_text import LINKS, PageLinks, tell_outcome
+from thesaurus_desk.web.tick_lists import numbers_of, ranges_of, ticked_numbers
+from thesaurus_desk.web.refusals import explain
+from thesaurus_desk.web.request_text import sentence_of
+from thesaurus_desk.web.spreadsheets import sheet_of_rows
+from thesaurus_desk.web.table_columns import MOST_CHOICES, choices_of, chosen_columns, column_words, role_groups
+from thesaurus_tools.fields import table_fields
+from thesaurus_tools.files import TableError
+from thesaurus_tools.headings import ColumnsError
+from thesaurus_tools.row_running import RowPlan
+from thesaurus_tools.table_plans import KINDS, NewConceptsError, TableOptions
+
+pages = Blueprint("bring_in", __name__)
+# A form with a file: the file, and some room for the rest.
+LARGEST = MOST_BYTES + (1 << 16)
+# How many rows a page shows.
+SHOWN = 500
+# The encodings of CSV that a form may name, beside those that a file shows itself.
+ENCODINGS = ("cp1252",)
+# The fields of a form that are sent again with its typed rows.
+KEPT_FIELDS = ("kind", "tag", "scheme", "columns", "forget", "cells")
+# What the cells of a table say, as a form names it: by default the file says it by its marks.
+EXACT = {"": None, "exact": True, "add": False}
+
+
+@pages.app_errorhandler(NotTried)
+def not_tried(error: NotTried) -> Any:
+    """Returns the forms with why the program can't say now what rows would do."""
+    return refused("table", say(f"refusals.{error.fault}.text"), "")
+
+
+def the_shelf() -> Shelf:
+    """Returns what is kept for users until they go on."""
+    return cast(Shelf, current_app.extensions["shelf"])
+
+
+def keep(what: TableRun | SkosRun | Brought) -> str:
+    """Keeps something for the reader, and returns its name."""
+    rows = len(what.requests) + what.table.count("\n") if isinstance(what, SkosRun) else len(what.rows)
+    return the_shelf().keep(person().name, what, rows)
+
+
+def has_two() -> bool:
+    """Whether a form has a file and typed rows: nobody knows which of them is meant."""
+    sent = request.files.get("file")
+    return bool(sent and sent.filename and request.form.get("typed", "").strip())
+
+
+def file_of_form() -> tuple[str, bytes]:
+    """Returns the name and the bytes of the file that a form has, or of the text typed in its place."""
+    sent = request.files.get("file")
+    if sent and sent.filename:
+        return sent.filename[:200], sent.read()
+    return say("bring_in.typed"), request.form.get("typed", "").replace("\r\n", "\n").encode()
+
+
+@pages.get("/bring-in")
+@role("indexer")
+def bring_in() -> Any:
+    """Shows what can be brought in."""
+    return start_page(FormState(), 200)
+
+
+def start_page(state: FormState, status: int) -> Any:
+    """Returns the page with the forms for files."""
+    schemes = [(it, LINKS.term(it)) for it in the_mirror().ordered(the_mirror().numbers("scheme"), tags())]
+    kinds = [("", say("bring_in.kind.guess"))] + [(it, say(f"bring_in.kind.{it}")) for it in KINDS]
+    encodings = [("", say("bring_in.encoding_guess")), (ENCODINGS[0], say("bring_in.encoding_windows"))]
+    most = MOST_BYTES >> 20
+    page = render_template(
+        "bring_in/start.html",
+        state=state,
+        schemes=schemes,
+        kinds=kinds,
+        encodings=encodings,
+        meanings=[(it, say(f"bring_in.cells_say.{it or 'guess'}")) for it in EXACT],
+        most=most,
+        skos_ends=",".join(ENDS),
+        onto=[("", say("bring_in.onto_new"))] + [(it, say("bring_in.onto_scheme", term=term)) for it, term in schemes],
+    )
+    return page, status
+
+
+def refused(form: str, text: str, field: str | None = None) -> Any:
+    """Returns the forms with what is wrong with a file, or with the text typed in its place."""
+    if field is None:
+        sent = request.files.get("file")
+        is_typed = not (sent and sent.filename) and request.form.get("typed", "").strip()
+        field = "typed" if is_typed else "file"
+    return start_page(FormState(form, request.form, [Problem(field, text)]), 409)
+
+
+# --- posting files ---
+
+
+@pages.post("/bring-in/postings")
+@role("indexer", LARGEST)
+def bring_postings() -> Any:
+    """Imports a posting file, and shows what came of its rows."""
+    if has_two():
+        return refused("postings", say("bring_in.two"), "typed")
+    name, data = file_of_form()
+    data = data.removeprefix(b"\xef\xbb\xbf")
+    heading = data.partition(b"\n")[0].strip().replace(b'"', b"")
+    if heading != b"key,record,concept":
+        return refused("postings", say("bring_in.heading"))
+    brought = the_desk().bring_in(person().name, data, name)
+    if brought.state in ("lost", "unknown"):
+        return refused("postings", say(f"bring_in.state.{brought.state}"))
+    if brought.state == "refused" or brought.answer and not brought.rows:
+        return refused("postings", explain(brought.answer or {}, {"do": "import"}, the_mirror(), words(), LINKS))
+    brought.name = name
+    return redirect(f"/bring-in/result/{keep(brought)}", 303)
+
+
+def postings_page(brought: Brought, kept: str) -> Any:
+    """Returns what came of a posting file."""
+    failed = kept if brought.failed else ""
+    rows = [(it, why_refused(it)) for it in brought.failed[:SHOWN]]
+    return render_template("bring_in/postings.html", brought=brought, rows=rows, failed=failed, name=brought.name)
+
+
+def why_refused(row: Row) -> Any:
+    """Returns why a row of a posting file was refused."""
+    key, record, concept = (*row.cells, "", "", "")[:3]
+    number = int(concept) if concept.isascii() and concept.isdigit() and len(concept) < 11 else 0
+    asked = {"do": "post", "key": key, "record": record, "concept": number}
+    answer = {"bad" if row.outcome.startswith("Bad") else "no": row.outcome}
+    return explain(answer, asked, the_mirror(), words(), LINKS)
+
+
+@pages.get("/bring-in/failed/<name>.csv")
+@role("indexer")
+def failed_rows(name: str) -> Response:
+    """Returns the rows that were refused as a table again, with a column of reasons."""
+    shelf, user = the_shelf(), person().name
+    what = shelf.find(user, name, Brought) or shelf.find(user, name, TableRun)
+    if what is None:
+        abort(404)
+    if isinstance(what, Brought):
+        rows = [("key", "record", "concept", "reason"), *((*it.cells, plain(why_refused(it))) for it in what.failed)]
+        return sheet_of_rows("refused", rows)
+    return sheet_of_rows("refused", map(tuple, refused_rows(what)))
+
+
+# --- tables ---
+
+
+@pages.post("/bring-in/table")
+@role("editor", LARGEST)
+def preview_table() -> Any:
+    """Shows row by row what a table would do."""
+    if has_two():
+        return refused("table", say("bring_in.two"), "typed")
+    name, data = file_of_form()
+    if not the_mirror().numbers("scheme"):
+        return refused("table", say("bring_in.no_scheme"))
+    scheme = request.form.get("scheme", "")
+    kind = request.form.get("kind", "")
+    options = TableOptions(
+        KINDS[kind][0] if kind in KINDS else "",
+        request.form.get("tag", "").strip().lower(),
+        int(scheme) if scheme.isascii() and scheme.isdigit() and len(scheme) < 11 else None,
+        forget="forget" in request.form,
+        exact=EXACT.get(request.form.get("cells", "")),
+    )
+    encoding = request.form.get("encoding", "")
+    try:
+        run = read_sent_table(
+            name,
+            data,
+            request.form.get("columns", ""),
+            options,
+            # (rows are about concepts: a column Title is none of a thesaurus's title)
+            {it: field for it, field in table_fields(the_fields()).items() if "concept" in field.owners},
+            encoding if encoding in ENCODINGS else "",
+        )
+        run.asked = {it: request.form[it] for it in KEPT_FIELDS if it in request.form}
+        run.typed = "" if (sent := request.files.get("file")) and sent.filename else request.form.get("typed", "")
+        preview_rows(the_desk(), run, the_bringer())
+    except ColumnsError as error:
+        key = "columns_wrong" if error.roles else "columns_unknown"
+        return refused("table", say(f"bring_in.{key}", roles=error.roles, names=error.names), "columns")
+    except TableError as error:
+        return refused("table", table_error_in_words(error, name, words()))
+    except NewConceptsError:
+        return refused("table", say("bring_in.new_concepts"), "tag")
+    return table_page(run, keep(run), 200)
+
+
+@pages.post("/bring-in/table/columns")
+@role("editor")
+def choose_columns() -> Any:
+    """Shows what a table would do if its columns held what its reader has chosen."""
+    run = the_shelf().find(person().name, request.form.get("name", ""), TableRun)
+    if run is None or run.is_done:
+        return refused("table", say("bring_in.not_kept"), "")
+    run = replace(run, columns=chosen_columns(run.columns, request.form), plans=[])
+    try:
+        preview_rows(the_desk(), run, the_bringer())
+    except NewConceptsError:
+        return refused("table", say("bring_in.new_concepts"), "tag")
+    return table_page(run, keep(run), 200)
+
+
+def the_bringer() -> Bringer:
+    """Returns the reader as one who brings a table in."""
+    return Bringer(person().name, person().role, the_rights(), words(), tell_outcome)
+
+
+def table_page(run: TableRun, name: str, status: int) -> Any:
+    """Returns the preview of a table, or what came of it."""
+    links = PageLinks(run.made)
+    telling = sorted((it for it in run.plans if it.reason or it.changes), key=lambda it: not it.reason)
+    shown = telling[:SHOWN]
+    # (a row that isn't shown can't be left out, nor one of a vocabulary or an export, which are compared anew)
+    has_ticks = not (run.is_done or run.vocabulary or run.exported) and len(shown) == len(telling)
+    lines = {
+        it.line: [sentence_of(one, answer_to(run, one), the_mirror(), words(), links) for one in it.changes]
+        for it in shown
+        if not it.reason
+    }
+    unclear, others = choices_of(run.columns, run.rows)
+    before = None if run.is_done or run.batch else the_desk().batches.same(run.digest)
+    page = render_template(
+        "bring_in/table.html",
+        run=run,
+        unclear=unclear[:MOST_CHOICES],
+        others=others[:MOST_CHOICES],
+        groups=role_groups(run.columns),
+        before=before,
+        column_words=column_words,
+        rows=shown,
+        lines=lines,
+        moving=moving_records(run),
+        offered=ranges_of(it.line for it in shown if not it.reason) if has_ticks else "",
+        meant={it.line: meant_by(it) for it in shown if it.error},
+        changing=sum(it.does_something and not it.reason for it in run.plans),
+        failed=sum(bool(it.reason) for it in run.plans),
+        name=name,
+        count=len(run.plans),
+        outside=count_outside(run),
+        room=the_desk().room(),
+    )
+    return page, status
+
+
+def count_outside(run: TableRun) -> int:
+    """Returns how many concepts elsewhere the rows of a table make that the store doesn't have."""
+    return sum(it["do"] == "outside" for plan in run.plans if not plan.reason for it in plan.requests)
+
+
+def moving_records(run: TableRun) -> dict[int, int]:
+    """Returns how many records the merges of rows move, by their lines."""
+    merges = {
+        it.line: [one["source"] for one in it.changes if one["do"] == "merge"] for it in run.plans if not it.reason
+    }
+    count = the_mirror().postings.count_records_at
+    return {line: sum(map(count, sources)) for line, sources in merges.items() if sources and not run.is_done}
+
+
+def answer_to(run: TableRun, request: Request) -> Answer:
+    """Returns the number of what a request of a table has made, as an answer; nothing if it has made nothing."""
+    number = run.numbers.get(str(request.get("as", "")))
+    return {"ok": number} if number else {}
+
+
+def meant_by(row: RowPlan) -> Markup:
+    """Returns a link to the concept that a row may mean whose term nothing has, or nothing."""
+    if row.error is None or row.error.key != "not_called":
+        return Markup()
+    kind, text = (str(row.error.values[it]) for it in ("kind", "text"))
+    hits = the_mirror().search(text, kinds=(kind,), live=True, prefer=tags()[0], most=1)
+    return link(hits[0].number) if hits else Markup()
+
+
+@pages.post("/bring-in/table/perform")
+@role("editor")
+def perform_table() -> Any:
+    """Performs a table that was looked at, once: each row is done whole or not at all. Leads to what came of it."""
+    run = the_shelf().take(person().name, request.form.get("name", ""), TableRun)
+    if run is None:
+        return refused("table", say("bring_in.not_kept"), "")
+    last = max((it.line for it in run.rows), default=0)
+    leave_out(run, numbers_of(request.form.get("offered", ""), last) - ticked_numbers("row"))
+    run_table(the_desk(), run, the_bringer())
+    return redirect(f"/bring-in/result/{keep(run)}", 303)
+
+
+def leave_out(run: TableRun, lines: set[int]) -> None:
+    """Leaves out the rows of some lines."""
+    run.rows = [it for it in run.rows if it.line not in lines]
+    run.plans = [it for it in run.plans if it.line not in lines]
+
+
+@pages.get("/bring-in/result/<name>")
+@role("indexer")
+def result(name: str) -> Any:
+    """Shows what came of a file."""
+    run = the_shelf().find(person().name, name, TableRun)
+    brought = the_shelf().find(person().name, name, Brought)
+    if brought is not None:
+        return postings_page(brought, name)
+    return table_page(run, name, 200) if run is not None else go("/changes")
+
+
+# --- SKOS ---
+
+
+@pages.post("/bring-in/skos")
+@role("editor", LARGEST, act="import")
+def preview_skos() -> Any:
+    """Converts a vocabulary, tries it on a copy of the store, and shows what is lost."""
+    name, data = file_of_form()
+    if "values" in request.form:
+        return preview_exported_values(name, data)
+    options = SkosOptions(
+        lang=request.form.get("tag", "").strip().lower(),
+        scheme=request.form.get("title", "").strip(),
+        has_old_addresses="addresses" in request.form,
+        adopts="adopt" in request.form,
+        trims="trim" in request.form,
+        qualifies="qualify" in request.form,
+        keeps_second="second" in request.form,
+    )
+    onto = request.form.get("onto", "")
+    scheme = int(onto) if onto.isascii() and onto.isdigit() and len(onto) < 11 else 0
+    if scheme and the_mirror().kind(scheme) != "scheme":
+        abort(404)
+    try:
+        if scheme:
+            return preview_update(name, data, options, scheme)
+        run = read_skos(the_desk(), name, data, options)
+    except StoreBusy:
+        return refused("skos", say("refusals.Busy.text"), "")
+    except SkosError as error:
+        return refused_skos(error)
+    run.refused = refused_sentences(run)
+    return skos_page(run, 200)
+
+
+def refused_skos(error: SkosError) -> Any:
+    """Returns the forms with why a file isn't read as a vocabulary."""
+    # (what the converter says is in English)
+    said = Markup(' <span lang="en" dir="ltr">{}</span>').format(error.said) if error.said else ""
+    return refused("skos", Markup("{}{}").format(say(f"bring_in.skos_error.{error.key}", **error.values), said))
+
+
+def preview_exported_values(name: str, data: bytes) -> Any:
+    """Shows which values of fields an export of this thesaurus has that are lacking, as a table."""
+    try:
+        run = read_exported_values(name, data, the_mirror().base, the_fields())
+    except SkosError as error:
+        return refused_skos(error)
+    preview_rows(the_desk(), run, the_bringer())
+    return table_page(run, keep(run), 200)
+
+
+def preview_update(name: str, data: bytes, options: SkosOptions, scheme: int) -> Any:
+    """Shows row by row how a vocabulary would bring a thesaurus up to date. Raises SkosError."""
+    tag, term = the_mirror().term(scheme, tags())
+    options = replace(options, lang=options.lang or tag, scheme=options.scheme or term, has_old_addresses=False)
+    run = update_of(convert_skos(the_desk(), name, data, options), scheme, "gone" in request.form)
+    preview_rows(the_desk(), run, the_bringer())
+    return table_page(run, keep(run), 200)
+
+
+def skos_page(run: SkosRun, status: int) -> Any:
+    """Returns the preview of a vocabulary; it says if the same file was brought in before."""
+    before, outside = the_desk().batches.same(run.digest), sum(it["do"] == "outside" for it in run.requests)
+    page = render_template(
+        "bring_in/skos.html", run=run, name=keep(run), before=before, outside=outside, room=the_desk().room()
+    )
+    return page, status
+
+
+@pages.get("/bring-in/skos/report/<name>.csv")
+@role("editor", act="import")
+def skos_report(name: str) -> Response:
+    """Returns all that is left out of a vocabulary as a table."""
+    shelf, user = the_shelf(), person().name
+    run = shelf.find(user, name, SkosRun) or shelf.find(user, name, TableRun)
+    if run is None:
+        abort(404)
+    headers = {"Content-Disposition": 'attachment; filename="left-out.csv"'}
+    return Response("\ufeff" + run.table, content_type="text/csv; charset=utf-8", headers=headers)
+
+
+def refused_sentences(run: SkosRun) -> list[Findings]:
+    """Returns what a copy of the store refused, with a sentence in place of each line of the script."""
+    links = PageLinks({f"${it['as']}": it.get("text") or it["iri"] for it in run.requests if "as" in it})
+
+    def sentence(line: str) -> str:
+        number = line.partition(":")[0]
+        if not (number.isdecimal() and 1 <= int(number) <= len(run.requests)):
+            return line
+        return sentence_of(run.requests[int(number) - 1], None, the_mirror(), words(), links)
+
+    return [Findings(it.rule, [sentence(line) for line in it.lines], it.more) for it in run.refused]
+
+
+@pages.post("/bring-in/skos/perform")
+@role("editor", act="import")
+def perform_skos() -> Any:
+    """Brings in a vocabulary that was looked at, once."""
+    run = the_shelf().take(person().name, request.form.get("name", ""), SkosRun)
+    if run is None:
+        return refused("skos", say("bring_in.not_kept"), "")
+    if the_desk().batches.same(run.digest) and "again" not in request.form:
+        return skos_page(run, 409)
+    return bring_vocabulary(run)
+
+
+def bring_vocabulary(run: SkosRun) -> Any:
+    """Brings in a vocabulary, or the rest of one, and leads to its scheme; or shows that it was cut by a refusal."""
+    if why := the_rights().refusal(run.requests, person().role):
+        return refused("skos", say(why), "")
+    outcome = perform_script(the_desk(), person().name, run)
+    if outcome.is_done:
+        return go(f"/c/{run.scheme}" if run.scheme else "/", run.batch.plan if run.batch else outcome.plan)
+    run.is_cut = True
+    return render_template("bring_in/skos.html", run=run, name="", outcome=outcome, before=None), 409
+
+
+# --- files that were cut short ---
+
+
+@pages.post("/bring-in/go-on/<int:plan>")
+@role("editor")
+def go_on(plan: int) -> Any:
+    """Brings in the rest of a vocabulary that was cut short, or takes back the rest of what was to be taken back; of a
+    table, shows first what is left to be done."""
+    batches = the_desk().batches
+    batch = next((it for it in batches.cut() if it.plan == plan), None)
+    rest = batches.rest(batch) if batch else None
+    if batch is None or rest is None:
+        return refused("table", say("bring_in.no_rest"), "")
+    if batch.action != "table" and not may_act("import"):
+        abort(403)
+    if batch.action == TAKE_BACK:
+        return go_on_taking_back(batch, rest)
+    if batch.action != "table":
+        return bring_vocabulary(vocabulary_of(rest, batch))
+    run = table_of(rest, batch)
+    preview_rows(the_desk(), run, the_bringer())
+    return table_page(run, keep(run), 200)
+
+
+def go_on_taking_back(batch: Batch, requests: list[Request]) -> Any:
+    """Takes the rest of a long change back, and leads to the changes; or shows why that isn't done."""
+    outcome = the_desk().go_on_taking_back(person().name, batch, requests)
+    return go("/changes", batch.plan) if outcome.is_done else refused("table", tell_outcome(outcome), "")

@@ -1,0 +1,177 @@
+"""Merges a concept into another one: both side by side, with what will move or be dropped, and the notes to copy."""
+from __future__ import annotations
+
+from collections.abc import Iterable
+from dataclasses import dataclass
+from functools import partial
+from typing import Any
+
+from flask import Blueprint, abort, render_template, request
+from markupsafe import Markup
+
+from thesaurus_desk.auth.route_roles import role
+from thesaurus_desk.journal.entries import Request
+from thesaurus_desk.journal.undo import fits
+from thesaurus_desk.store.model import Link, View
+from thesaurus_desk.web.concept_choice import choose, undecided
+from thesaurus_desk.web.context import acts_on, say, tags, the_desk, the_mirror, words
+from thesaurus_desk.web.form_submission import problem_in, submit
+from thesaurus_desk.web.forms import FormState, Problem
+from thesaurus_desk.web.journal_text import LINKS
+from thesaurus_desk.web.merge_preview import Merge, foresee_merge
+from thesaurus_desk.web.pages.move import live_concept
+from thesaurus_desk.web.refusals import explain, label_of
+from thesaurus_desk.web.value_copies import copies_to, copy_requests
+from thesaurus_desk.web.work_views import work_of
+from thesaurus_tools.kinds import BROADER
+
+pages = Blueprint("merge", __name__)
+
+CHOICE, FORM = "into", "merge"
+TURNED = {"broad": "narrow", "narrow": "broad"}
+
+
+@pages.route("/c/<int:number>/merge", methods=["GET", "POST"])
+@role("editor")
+def merge(number: int) -> Any:
+    """Asks into which concept, shows what a merge will do, and merges."""
+    source = live_concept(number)
+    if "merge" not in acts_on(number):
+        abort(403)
+    if not request.values.get("other") and not request.values.get("other_number"):
+        return merge_page(source, None, FormState(), 200)
+    chosen = choose(request.values, scheme=source.scheme, without=number)
+    if chosen.number is None:
+        return merge_page(source, None, undecided(CHOICE, request.values, chosen), 409)
+    target = the_mirror().view(chosen.number)
+    problem = wrong_target(source, target)
+    if target is None or problem:
+        return merge_page(source, None, FormState(CHOICE, request.values, [Problem("other", problem)]), 409)
+    again = partial(merge_page, source, target)
+    if request.method == "GET":
+        return again(FormState(), 200)
+    if "sure" not in request.form:
+        return again(problem_in(FORM, "sure", say("merge.tick")), 409)
+    return submit("merge", merge_requests(source, target), then=f"/c/{target.number}", show=again)
+
+
+def wrong_target(source: View, target: View | None) -> str:
+    """Returns why a concept can't be the target, as the program would; nothing if it can."""
+    name = ""
+    if target is None:
+        name = "UnknownResource"
+    elif target.kind != "concept":
+        name = "WrongKind"
+    elif not target.is_live:
+        name = "NotLive"
+    elif target.number == source.number:
+        name = "SameResource"
+    elif target.scheme != source.scheme:
+        name = "OtherScheme"
+    asked = {"do": "merge", "source": source.number, "target": target.number if target else 0}
+    return explain({"no": name}, asked, the_mirror(), words(), LINKS) if name else ""
+
+
+def merge_requests(source: View, target: View) -> list[Request]:
+    """Returns the requests of a merge: the notes and values that are copied or move, and itself, which nothing takes
+    back wholly."""
+    wanted = request.form.getlist("note")
+    requests: list[Request] = []
+    for place, (tag, text) in enumerate(source.scope):
+        if str(place) in wanted and (tag, text) not in target.scope:
+            requests.append({"do": "addLabel", "owner": target.number, "kind": "scope", "tag": tag, "text": text})
+    # (before the merge, since nothing is set at what has ended)
+    requests += copy_requests(copies_to(source.number, target.number), target.number, request.form.getlist("value"))
+    return [*requests, {"do": "merge", "source": source.number, "target": target.number}]
+
+
+def merge_page(source: View, target: View | None, state: FormState, status: int) -> Any:
+    """Returns the page of a merge: the question into which concept, and if there is an answer, what will happen."""
+    foreseen = foresee_merge(the_mirror(), source.number, target.number) if target is not None else None
+    seen = the_desk().seen
+    page = render_template(
+        "merge/page.html",
+        choice=CHOICE,
+        form=FORM,
+        state=state,
+        source=source,
+        target=target,
+        plan=foreseen,
+        terms=told_terms(source, target, foreseen) if target and foreseen else [],
+        links=told_links(foreseen) if foreseen else [],
+        notes=[(place, it) for place, it in enumerate(source.scope) if target is not None and it not in target.scope],
+        copies=copies_to(source.number, target.number) if target is not None else [],
+        broken=told_break(foreseen),
+        quoted=quoted,
+        candidates=told_candidates(source, target) if target is not None else [],
+        is_final=target is not None and not fits(the_mirror().postings.numbers_at(source.number)),
+        count_records=the_mirror().count_records,
+        marks=[seen.mark(it.number, "all") for it in (source, target) if it is not None],
+    )
+    return page, status
+
+
+@dataclass(frozen=True)
+class Terms:
+    """What becomes of the source's terms in a language."""
+
+    tag: str
+    # The labels, each with the key of what is said of it.
+    rows: list[tuple[str, str]]
+    # Whether the source has a preferred term in it, and the target has none.
+    lacks_preferred: bool
+
+
+def told_terms(source: View, target: View, plan: Merge) -> list[Terms]:
+    """Returns what becomes of the source's terms, by their languages, the reader's first."""
+    rows: dict[str, list[tuple[str, str]]] = {}
+    for kind, tag, text in plan.labels:
+        rows.setdefault(tag, []).append((f"becomes_{kind}", text))
+    for _, tag, text in plan.dropped_labels:
+        rows.setdefault(tag, []).append(("label_there", text))
+    lacking = {tag for tag, _ in source.pref} - {tag for tag, _ in target.pref}
+    places = {tag: place for place, tag in enumerate(tags())}
+    order = sorted(rows, key=lambda it: (places.get(it, len(places)), it))
+    return [Terms(tag, rows[tag], tag in lacking) for tag in order]
+
+
+def told_links(plan: Merge) -> list[tuple[str, int, str]]:
+    """Returns the source's links: the kind as seen from it, the other end, and moves, there or between."""
+    kinds: Iterable[tuple[str, tuple[Link, ...]]] = (
+        ("moves", plan.links),
+        ("there", plan.there),
+        ("between", plan.between),
+    )
+    return [(*seen_from(plan.source, it), what) for what, links in kinds for it in links]
+
+
+def seen_from(number: int, link: Link) -> tuple[str, int]:
+    """Returns the kind of a link as seen from one of its ends, and the other end."""
+    if link.kind == "member":
+        return "collection", link.a
+    if link.a == number:
+        return link.kind, link.b
+    kind = link.kind.replace("broader", "narrower") if link.kind in BROADER else TURNED.get(link.kind, link.kind)
+    return kind, link.a
+
+
+def told_candidates(source: View, target: View) -> list[str]:
+    """Returns what is said where one of two concepts is a candidate: what the public will see of them."""
+    is_source, is_target = (work_of(it.number).is_hidden for it in (source, target))
+    names = {"source": LINKS.link(source.number), "target": LINKS.link(target.number)}
+    if is_source == is_target:
+        return []
+    return [say("merge.candidate_source" if is_source else "merge.candidate_target", **names)]
+
+
+def told_break(plan: Merge | None) -> str | Markup:
+    """Returns which rule a merge will break, in words; nothing if it won't."""
+    if plan is None or plan.broken is None:
+        return ""
+    asked = {"do": "merge", "source": plan.source, "target": plan.target}
+    return explain({"no": plan.broken.rule}, asked, the_mirror(), words(), LINKS)
+
+
+def quoted(text: str, tag: str) -> Markup:
+    """Returns a label in quotes, with its language."""
+    return label_of(words(), text, tag)

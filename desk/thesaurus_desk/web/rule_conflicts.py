@@ -1,0 +1,132 @@
+"""Which rule a merge or a link would break, and the resources that break it: only to explain. The program has the last
+word."""
+from __future__ import annotations
+
+from collections.abc import Iterator
+from dataclasses import dataclass
+
+from thesaurus_desk.store.model import OPPOSITE, Link
+from thesaurus_desk.store.replica import Replica
+from thesaurus_tools.kinds import BROADER, MAPPINGS
+
+UP, DOWN, RELATED, EXACT, APART = "up", "down", "related", "exact", "apart"
+# The mappings, as seen from a resource, that lead so.
+MATCHES = {
+    UP: ("broad",),
+    DOWN: ("narrow",),
+    RELATED: ("relMatch",),
+    EXACT: ("exact",),
+    APART: ("broad", "narrow", "relMatch"),
+}
+
+
+@dataclass(frozen=True, slots=True)
+class Broken:
+    """A rule that a request would break, and the resources that break it.
+
+    Of Cycle, `way` is the ring: its first is its last. Of S27, `way` is the chain up from one of two related concepts
+    to the other. Of S46, `way` is the two that would be exact matches, and broader or related matches. In the ways of a
+    merge the target is in the place of the source."""
+
+    rule: str
+    way: tuple[int, ...]
+
+
+def rule_broken_by_merge(mirror: Replica, source: int, target: int) -> Broken | None:
+    """Returns the first of Cycle, S27 and S46 that a merge of two concepts would break."""
+    with mirror.reading():
+        graph = Graph(mirror, merged=(source, target))
+        return graph.cycle(target) or graph.related_in_chain(target, target) or graph.apart_but_exact(target)
+
+
+def rule_broken_by_link(mirror: Replica, link: Link) -> Broken | None:
+    """Returns the first of Cycle, S27 and S46 that a link would break. Its ends must be such as the kind joins."""
+    with mirror.reading():
+        graph = Graph(mirror, added=mirror.normal(link))
+        kind, a, b = link
+        if kind in BROADER or kind in ("broad", "narrow"):
+            low, high = (b, a) if kind == "narrow" else (a, b)
+            broken = graph.cycle(low) or graph.related_in_chain(low, high)
+        elif kind in ("related", "relMatch"):
+            broken = graph.chained(a, b) or graph.chained(b, a)
+        else:
+            broken = None
+        return broken or (graph.apart_but_exact(a) if kind in MAPPINGS else None)
+
+
+class Graph:
+    """The links as they would be after a merge, or with another link."""
+
+    def __init__(self, mirror: Replica, merged: tuple[int, int] | None = None, added: Link | None = None) -> None:
+        self.mirror, self.added = mirror, added
+        self.source, self.target = merged or (0, 0)
+
+    def next_to(self, number: int, which: str) -> set[int]:
+        """Returns what a resource is linked with: up, down, related, exact, or apart (by another match than an
+        exact one)."""
+        found: set[int] = set()
+        for node in (number, self.source) if self.source and number == self.target else (number,):
+            it = self.mirror.resource(node)
+            found.update(it.broader if which == UP else it.narrower if which == DOWN else ())
+            found.update(it.related if which == RELATED else ())
+            if it.matches:
+                found.update(other for kind, other in it.mappings() if kind in MATCHES[which])
+        if self.source in found:
+            found = found - {self.source} | {self.target}
+        if self.added and number in self.added[1:]:
+            found.update(self.added_next_to(number, which))
+        return found - {number}
+
+    def added_next_to(self, number: int, which: str) -> Iterator[int]:
+        """Yields the other end of the link that is added, if it is of the kind."""
+        kind, a, b = self.added or Link("", 0, 0)
+        other, is_a = (b, True) if a == number else (a, False)
+        seen = kind if is_a else OPPOSITE.get(kind, kind)
+        is_hierarchical = kind in BROADER and which == (UP if is_a else DOWN)
+        if is_hierarchical or kind == "related" == which or seen in MATCHES[which]:
+            yield other
+
+    def reach(self, start: int, which: str) -> set[int]:
+        """Returns a resource and what links of a kind lead to from it."""
+        found, waiting = {start}, [start]
+        while waiting:
+            news = self.next_to(waiting.pop(), which) - found
+            found |= news
+            waiting += news
+        return found
+
+    def chained(self, low: int, high: int, rule: str = "S27") -> Broken | None:
+        """Returns the shortest chain of one or more links up from one to another as what breaks a rule."""
+        came: dict[int, int] = {}
+        waiting = [low]
+        for at in waiting:
+            for above in sorted(self.next_to(at, UP)):
+                if above == high:
+                    way = [high, at]
+                    while way[-1] != low:
+                        way.append(came[way[-1]])
+                    return Broken(rule, tuple(way[::-1]))
+                if above not in came and above != low:
+                    came[above] = at
+                    waiting.append(above)
+        return None
+
+    def cycle(self, number: int) -> Broken | None:
+        """Returns the ring on which a resource is."""
+        return self.chained(number, number, "Cycle")
+
+    def related_in_chain(self, low: int, high: int) -> Broken | None:
+        """Returns two related ones, where one is `low` or below it, and the other one `high` or above it."""
+        above = self.reach(high, UP)
+        for one in sorted(self.reach(low, DOWN)):
+            for other in sorted(self.next_to(one, RELATED) & above - {one}):
+                return self.chained(one, other)
+        return None
+
+    def apart_but_exact(self, number: int) -> Broken | None:
+        """Returns two of those that are exact matches by a chain with a resource, and that have another match, too."""
+        alike = self.reach(number, EXACT)
+        for one in sorted(alike):
+            for other in sorted(self.next_to(one, APART) & alike):
+                return Broken("S46", (one, other))
+        return None

@@ -1,0 +1,83 @@
+"""Lists of resources as tables, for spreadsheets: each is understood when it is brought in, and does no harm."""
+from __future__ import annotations
+
+from collections.abc import Iterable, Iterator, Sequence
+from itertools import chain
+
+from flask import Response, abort, make_response, render_template, request, stream_with_context
+
+from thesaurus_desk.journal.history import to_csv
+from thesaurus_desk.store.model import Posting
+from thesaurus_desk.web.context import say, tags, the_desk, the_mirror
+from thesaurus_desk.web.list_columns import (
+    ListColumn,
+    cell_of_column,
+    chosen_columns,
+    heading_of,
+    is_seen,
+    usual_columns,
+)
+from thesaurus_tools.workbooks import MEDIA, workbook, writable_forms
+
+# The most cells of a file that is no CSV: the limits of tables allow to read these again.
+MOST_CELLS = 100_000
+Row = tuple[object, ...]
+
+
+class Sheet:
+    """A table of resources, with the columns that the request asks for, or else the usual ones."""
+
+    def __init__(self, usual: Sequence[ListColumn]) -> None:
+        asked = chosen_columns(request.args.getlist("column"), request.args.get("language", "").strip().lower())
+        self.columns = [it for it in asked or usual if is_seen(it)]
+        self.has_below = any(it.name == "narrower" for it in self.columns)
+        self.last = the_desk().journal.last_plan()
+
+    def rows(self, numbers: Iterable[int]) -> Iterator[Row]:
+        """Yields the rows of a table of resources, the headings first; external concepts have nothing to be changed."""
+        yield tuple(map(heading_of, self.columns))
+        for number in numbers:
+            view = the_mirror().view(number)
+            if view is not None and view.kind != "outside":
+                yield tuple(cell_of_column(view, it, self.last, self.has_below) for it in self.columns)
+
+
+def rows_of_postings(postings: Iterable[Posting]) -> Iterator[Row]:
+    """Yields the rows of a table of postings, the headings first."""
+    yield (say("edit.key"), *(say(f"lists.column.{it}") for it in ("record", "number", "term")))
+    for it in postings:
+        yield it.key, it.record, it.place, the_mirror().term(it.place, tags())[1]
+
+
+def is_table_asked() -> bool:
+    """Whether the request asks for a list as a table."""
+    return request.args.get("format") in writable_forms()
+
+
+def sheet(
+    name: str, numbers: Iterable[int], more: Sequence[str] = (), usual: Sequence[ListColumn] | None = None
+) -> Response:
+    """Returns a table of resources as a file; `more` names further columns, as members, or `usual` all of them."""
+    return sheet_of_rows(name, Sheet(usual_columns(more) if usual is None else usual).rows(numbers))
+
+
+def sheet_of_rows(name: str, rows: Iterable[Row]) -> Response:
+    """Returns a table as a file, in the form that the request asks for. CSV begins with a byte order mark, by which
+    spreadsheets know UTF-8."""
+    form = request.args.get("format", "")
+    headers = {"Content-Disposition": f'attachment; filename="{name}.{form if form in MEDIA else "csv"}"'}
+    if form in ("", "csv") or form not in writable_forms():
+        lines = stream_with_context(chain(("\ufeff",), map(to_csv, rows)))
+        return Response(lines, content_type=MEDIA["csv"], headers=headers)
+    return Response(workbook(form, bounded(rows)), content_type=MEDIA[form], headers=headers)
+
+
+def bounded(rows: Iterable[Row]) -> list[list[str]]:
+    """Returns rows as texts, if they are few enough for a file that is no CSV."""
+    found: list[list[str]] = []
+    for row in rows:
+        found.append(["" if it is None else str(it) for it in row])
+        if len(found) * len(row) > MOST_CELLS:
+            text = say("lists.too_large", n=MOST_CELLS)
+            abort(make_response(render_template("message.html", title=say("lists.as_table"), text=text), 409))
+    return found

@@ -1,0 +1,60 @@
+// Forms: one click sends one request, the focus goes to what is wrong, boxes are ticked by the page. Times are as the page's language writes them.
+"use strict";
+(() => {
+  // A second click before the answer is dropped.
+  document.addEventListener("submit", (event) => {
+    // (a file leaves the page as it is, to be sent again)
+    if (event.target.method !== "post" || event.submitter?.hasAttribute("data-file")) return;
+    if (event.target.dataset.sent) event.preventDefault();
+    event.target.dataset.sent = "1";
+  });
+  window.addEventListener("pageshow", () => document.querySelectorAll("form[data-sent]").forEach((it) => delete it.dataset.sent));
+
+  // A form that opens gives the focus to what is wrong in it, to its text, or to its first field; never to what it does.
+  const FIELDS = ["[aria-invalid]", "input[type=text], textarea", "input:not([type=hidden]), select"];
+  document.addEventListener("toggle", (event) => {
+    if (!event.target.matches("details.act[open]") || !event.isTrusted) return;
+    FIELDS.map((it) => event.target.querySelector(it)).find((it) => it)?.focus();
+  }, true);
+
+  // A list with a filter: `data-filter="ID"` on the field.
+  function filterBy(filter) {
+    const list = document.getElementById(filter.dataset.filter);
+    filter.addEventListener("input", () => {
+      const text = filter.value.toLowerCase();
+      [...list.children].forEach((it) => { it.hidden = !it.textContent.toLowerCase().includes(text); });
+    });
+    filter.addEventListener("keydown", (event) => { if (event.key === "Enter") event.preventDefault(); });
+  }
+
+  // The number of ticks in a list: `data-ticks="ID"`, with what is said of none, of one and of `#`, and those on other pages.
+  function countTicks(count) {
+    const list = document.getElementById(count.dataset.ticks);
+    const texts = JSON.parse(count.dataset.texts);
+    const report = () => {
+      const ticked = Number(count.dataset.elsewhere) + list.querySelectorAll("input:checked").length;
+      count.textContent = texts[Math.min(ticked, 2)].replace("#", ticked);
+    };
+    list.addEventListener("change", report);
+    // (a page that is shown again may have other boxes ticked than it was sent with)
+    window.addEventListener("pageshow", report);
+  }
+
+  // A time is by the office's clock, as the days that one asks for; with its zone, where the reader's clock shows another time.
+  function showTime(time) {
+    const at = new Date(time.dateTime), shown = new Date(`${time.dateTime.slice(0, 23)}Z`);
+    if (Number.isNaN(at.getTime()) || Number.isNaN(shown.getTime())) return;
+    // (in English with the month's name: 11/12 is two days)
+    const options = { year: "numeric", month: "short", day: "2-digit", hour: "2-digit", minute: "2-digit", timeZone: "UTC" };
+    const text = new Intl.DateTimeFormat(document.documentElement.lang, options).format(shown);
+    const isReaders = shown.getTime() - at.getTime() === -60000 * at.getTimezoneOffset();
+    time.textContent = isReaders ? text : `${text} ${time.dataset.zone}`;
+    time.title = time.dateTime;
+  }
+
+  document.querySelectorAll("[data-filter]").forEach(filterBy);
+  document.querySelectorAll("[data-ticks]").forEach(countTicks);
+  document.querySelectorAll("time[datetime]").forEach(showTime);
+  document.querySelectorAll("[data-print]").forEach((it) => { it.hidden = false; it.addEventListener("click", () => window.print()); });
+  (document.querySelector("[aria-invalid]") || document.querySelector(".why[role=alert]"))?.focus();
+})();

@@ -1,0 +1,216 @@
+"""The replica after random requests: it is as one that is made anew, as the export, and as all views."""
+from __future__ import annotations
+
+import threading
+from collections import Counter
+from collections.abc import Callable, Iterator
+from pathlib import Path
+from typing import Any
+
+from as_built import assert_as_built
+from as_plain import as_plain
+from conftest import BASE
+from dice import Requests
+from thesaurus_desk.store.model import Link
+from thesaurus_desk.store.plan_execution import Desk
+from thesaurus_desk.store.replica import Replica
+from thesaurus_desk.web.merge_preview import foresee_merge
+from thesaurus_desk.web.rule_conflicts import Broken, rule_broken_by_link, rule_broken_by_merge
+from thesaurus_tools.export_store import store_of_export
+from thesaurus_tools.kinds import BROADER
+from thesaurus_tools.ntriples import parse_ntriples
+from whole import postings, resources
+
+REQUESTS = 5000
+# Resources are made until there is this number of them.
+ENOUGH = 60
+RULES = ("Cycle", "S27", "S46")
+
+
+def assert_as_views(desk: Desk) -> None:
+    """The replica has each resource and posting as the program shows it."""
+    mirror, program = desk.replica, desk.program
+    for number in range(1, mirror.counts()["resources"] + 2):
+        shown, view = program.get("concept", number=number), mirror.view(number)
+        if view and view.kind == "concept":
+            assert view.answer() == shown
+            assert mirror.postings.count_at(number) == shown["postings"]
+            rows = program.get("postings", concept=number)["postings"]
+            assert [[it.number, it.key, it.record] for it in mirror.postings.page_at(number, 1, 10**6)] == rows
+        else:
+            assert shown == {"no": "WrongKind" if view else "UnknownResource"}
+    for number in range(1, mirror.counts()["postings"] + 2):
+        posting = mirror.postings.get(number)
+        assert (posting.answer() if posting else {"no": "UnknownPosting"}) == program.get("posting", number=number)
+    assert mirror.postings.totals() == program.get("totals")
+
+
+def assert_as_export(desk: Desk) -> None:
+    """The replica has the labels and links of a fresh export, which has no types of links."""
+    export = store_of_export("export", parse_ntriples(desk.copies.run("export"), "export"), BASE)
+    its = resources(desk.replica).values()
+    labels = {(it.number, *label) for it in its for label in it.labels}
+    assert labels == {tuple(it) for it in export.labels}
+    links = {link for it in its for link in it.links()}
+    outside = {it.number: it.iri for it in its if it.kind == "outside"}
+    plain = {("broader" if kind in BROADER else kind, a, outside.get(b, b)) for kind, a, b in links}
+    assert plain == {tuple(it) for it in export.links}
+    dead = {it.number: it.replaced for it in its if not it.is_live}
+    assert dead == {it.number: it.replaced for it in export.resources.values() if not it.is_live}
+
+
+def foreseen(mirror: Replica, request: dict[str, Any]) -> Broken | None:
+    """The rule that the desk says a merge or a link breaks, where nothing else refuses it."""
+    plain = as_plain(mirror)
+    if request["do"] == "merge" and not plain.refuses_merge(request["source"], request["target"]):
+        return rule_broken_by_merge(mirror, request["source"], request["target"])
+    if request["do"] == "link" and not plain.refuses("link", request):
+        return rule_broken_by_link(mirror, Link(request["kind"], request["a"], request["b"]))
+    return None
+
+
+def assert_breaks(desk: Desk, request: dict[str, Any], broken: Broken) -> None:
+    """The way that is shown for a broken rule is one: each step is a link, or joins the two of a merge."""
+    pair = {request.get("source"), request.get("target")}
+    added = {(request.get("a"), request.get("b")), (request.get("b"), request.get("a"))}
+    if broken.rule in ("Cycle", "S27"):
+        for low, high in zip(broken.way, broken.way[1:]):
+            ends = [{it} | (pair if it in pair else set()) for it in (low, high)]
+            up = any(
+                a in resources(desk.replica) and b in desk.replica.chained(a) for a in ends[0] for b in ends[1] if a
+            )
+            assert up or (low, high) in added
+    if broken.rule == "Cycle":
+        assert broken.way[0] == broken.way[-1] and len(broken.way) > 2
+
+
+def throw(desk: Desk, dice: Requests) -> dict[str, Any]:
+    """Throws a request that changes something; merges and links are likelier than by the dice alone."""
+    plain = as_plain(desk.replica)
+    drawn = dice.below(8)
+    if drawn == 0 and len(plain.resources) > 10:
+        source, target = dice.ends(plain.refuses_merge, len(plain.resources))
+        return {"do": "merge", "source": source, "target": target}
+    if drawn == 1 and len(plain.resources) > 10:
+        return dict(dice.linking(plain))
+    while "get" in (request := dice.request(plain, ENOUGH)):
+        pass
+    return dict(request)
+
+
+def thrown(desk: Desk, dice: Requests) -> Iterator[dict[str, Any]]:
+    """Yields random requests, and then those that the dice hardly throw."""
+    for _ in range(REQUESTS):
+        yield throw(desk, dice)
+    concept = desk.replica.numbers("concept", live=True)[0]
+    yield {"do": "link", "kind": "related", "a": concept, "b": concept}
+    yield {"do": "concept", "scheme": desk.replica.counts()["resources"] + 1, "tag": "en", "text": "t10"}
+
+
+def test_random_requests(room: Path, open_desk: Callable[[Path], Desk]) -> None:
+    desk = open_desk(room / "random.db")
+    dice, seen = Requests(1), Counter[str]()
+    for request in thrown(desk, dice):
+        broken = foreseen(desk.replica, request)
+        tried = desk.tried([request])
+        before = desk.replica.version
+        outcome = desk.perform("anna", "test", [request])
+        answer = outcome.steps[0].answer or {}
+        seen[f"{request['do']} {answer.get('no', 'done')}"] += 1
+        assert tried.get("no") == answer.get("no") or answer.get("known"), (request, answer, tried)
+        if broken or answer.get("no") in RULES:
+            assert broken is not None and answer == {"no": broken.rule}, (request, answer, broken)
+            assert_breaks(desk, request, broken)
+        if "no" in answer:
+            assert desk.replica.version == before
+        else:
+            assert outcome.steps[0].foreseen in (answer, {**answer, "known": True})
+    assert all(seen[f"merge {rule}"] for rule in RULES)
+    assert seen["merge done"] > 10 and seen["split done"] and seen["deprecate done"]
+    assert_as_views(desk)
+    assert_as_export(desk)
+    desk.stop()
+    assert_as_built(desk.journal.path, desk.db, room)
+
+
+def test_foreseen_merges(room: Path, open_desk: Callable[[Path], Desk]) -> None:
+    """What a merge is said to move and to drop is what it moves and drops."""
+    desk = open_desk(room / "merges.db")
+    dice, merges = Requests(5), 0
+    while merges < 60:
+        request = throw(desk, dice)
+        if request["do"] != "merge" or as_plain(desk.replica).refuses_merge(request["source"], request["target"]):
+            desk.perform("anna", "test", [request])
+            continue
+        source, target = request["source"], request["target"]
+        merge = foresee_merge(desk.replica, source, target)
+        before = desk.replica.view(target)
+        own = {link for it in resources(desk.replica).values() for link in it.links()}
+        moving = desk.replica.postings.numbers_at(source)
+        outcome = desk.perform("anna", "merge", [request])
+        after = desk.replica.view(target)
+        assert outcome.is_done == (merge.broken is None)
+        if not outcome.is_done or not before or not after:
+            continue
+        merges += 1
+        assert outcome.steps[0].answer == {"moved": len(moving)}
+        assert merge.records == len({postings(desk.replica)[it - 1].record for it in moving})
+        assert after.postings == before.postings + len(moving)
+        labels = {
+            (kind, *term) for kind in ("alt", "hidden") for term in set(after.terms(kind)) - set(before.terms(kind))
+        }
+        assert labels == set(merge.labels)
+        assert after.pref == before.pref and after.scope == before.scope
+        now = {link for it in resources(desk.replica).values() for link in it.links()}
+        ended = {*merge.links, *merge.there, *merge.between}
+        assert own - now == ended
+        sent = {
+            desk.replica.normal(Link(it.kind, *(target if end == source else end for end in it[1:])))
+            for it in merge.links
+        }
+        assert now - own == sent
+
+
+def test_eight_threads(room: Path, open_desk: Callable[[Path], Desk]) -> None:
+    """Eight editors and four readers at once; no reader fails, and the replica is right in the end."""
+    desk = open_desk(room / "threads.db")
+    for seed in range(40):
+        desk.perform("anna", "test", [throw(desk, Requests(seed))])
+    failures: list[BaseException] = []
+    is_over = threading.Event()
+
+    def edit(seed: int) -> None:
+        dice = Requests(seed)
+        for _ in range(REQUESTS // 8):
+            desk.perform(f"user {seed}", "test", [throw(desk, dice)])
+
+    def read(seed: int) -> None:
+        dice = Requests(seed)
+        while not is_over.is_set():
+            mirror, number = desk.replica, dice.between(1, ENOUGH)
+            mirror.search(f"t{dice.between(1, 39)}", prefer="en")
+            mirror.path_up(number)
+            mirror.count_below(number)
+            mirror.ordered(mirror.tops(1), ["de"])
+            view = mirror.view(number)
+            assert view is None or view.kind != "concept" or view.scheme is not None
+
+    def tried(work: Callable[[int], None], seed: int) -> None:
+        try:
+            work(seed)
+        except BaseException as error:
+            failures.append(error)
+
+    editors = [threading.Thread(target=tried, args=(edit, 100 + it)) for it in range(8)]
+    readers = [threading.Thread(target=tried, args=(read, 200 + it)) for it in range(4)]
+    for it in (*editors, *readers):
+        it.start()
+    for it in editors:
+        it.join()
+    is_over.set()
+    for it in readers:
+        it.join()
+    assert not failures
+    assert_as_views(desk)
+    desk.stop()
+    assert_as_built(desk.journal.path, desk.db, room)

@@ -1,0 +1,77 @@
+"""Tasks with many concepts at once in a browser, by keyboard alone and on a page as narrow as a telephone, with the
+clicks that they take: one misspelling in eight concepts, and a branch that moves."""
+from __future__ import annotations
+
+import json
+import subprocess
+from collections.abc import Iterator
+from pathlib import Path
+
+import pytest
+from hands import HANDS, SAY, Hand, Narrow, address_of, come_in_as
+from processes import Running, running
+from selenium.webdriver.common.keys import Keys
+
+pytestmark = pytest.mark.needs("chromedriver", "selenium")
+# The concepts of the sample that get a misspelt term, and those below Bowed instruments that move.
+MISSPELT = range(5, 13)
+BRANCH = ("Bows", "Cellos", "Double basses", "Fiddles", "Violas", "Violins")
+# By hand the misspelling took 30 clicks.
+BY_HAND = 30
+
+
+@pytest.fixture
+def misspelt_desk(program: str, store: Path, users: Path) -> Iterator[Running]:
+    """A desk with one misspelling in eight concepts."""
+    label = {"do": "addLabel", "kind": "alt", "tag": "en"}
+    lines = [json.dumps({**label, "owner": it, "text": f"Instrumant {it}"}) for it in MISSPELT]
+    subprocess.run([program, "--db", store, "script"], input="\n".join(lines).encode(), capture_output=True, check=True)
+    with running("--db", store, "--users", users, "--program", program) as found:
+        yield found
+
+
+@pytest.fixture(params=("keyboard", "narrow"))
+def hand(request: pytest.FixtureRequest, misspelt_desk: Running) -> Hand:
+    """An editor at the desk."""
+    name = "narrow_driver" if request.param == "narrow" else "driver"
+    made = {**HANDS, "narrow": Narrow}[request.param]
+    found = come_in_as(made(request.getfixturevalue(name), address_of(misspelt_desk)), "ben")
+    found.clicks = 0
+    return found
+
+
+def test_one_misspelling_in_eight_concepts(hand: Hand) -> None:
+    hand.fill(SAY("shell.search_label"), "Instrumant")
+    hand.type_keys(Keys.ENTER)
+    hand.press(SAY("replace.link"))
+    hand.fill(SAY("replace.new"), "Instrument")
+    hand.press(SAY("bring_in.preview"))
+    hand.sees(SAY("bring_in.rows_change", n=8))
+    hand.press(SAY("bring_in.perform_ticked"))
+    hand.sees(SAY("bring_in.rows_changed", n=8))
+    assert hand.clicks == 3 <= BY_HAND / 2
+    hand.open("/c/12")
+    hand.sees("Instrument 12")
+
+
+def test_a_branch_moves(hand: Hand) -> None:
+    hand.open("/c/4")
+    hand.press(SAY("bulk.branch"))
+    hand.press(SAY("records.tick_all", n=7))
+    hand.sees(SAY("records.ticked", n=7, of=7))
+    # (one of them is below another one, and stays there)
+    hand.tick("Messiah Stradivarius")
+    hand.pick(SAY("bulk.above"), "Drums")
+    hand.press(SAY("bulk.do_move"))
+    hand.sees(SAY("bring_in.rows_change", n=6))
+    hand.press(SAY("bring_in.perform_ticked"))
+    hand.sees(SAY("bring_in.rows_changed", n=6))
+    assert hand.clicks == 6
+    hand.press(SAY("shell.changes"))
+    hand.sees("6 concepts: move below Drums")
+    hand.press(SAY("changes.back"))
+    hand.sees("Violas")
+    hand.press(SAY("changes.back"))
+    hand.open("/c/4")
+    for term in BRANCH:
+        hand.sees(term)
