@@ -289,7 +289,7 @@ def test_the_document_restores_the_newest_backup_of_this_store(tmp_path: Path) -
     for name in ("museum-20261129T020000Z", "museum-20261130T020000Z", "museum-3-20991231T020000Z"):
         (tmp_path / "backups" / name).mkdir(parents=True)
     text = (ROOT / "docs" / "OPERATING.md").read_text(encoding="utf-8")
-    found = re.findall(r'(?m)^last=\$\((ls -d backups/museum-[^)]*)\)$', text)
+    found = re.findall(r"(?m)^last=\$\((ls -d backups/museum-[^)]*)\)$", text)
     assert found
     for it in found:
         ran = subprocess.run(["sh", "-c", it], cwd=tmp_path, capture_output=True, text=True, check=True)

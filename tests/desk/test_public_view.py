@@ -1,9 +1,11 @@
 """The public view: what visitors and other programs see while some concepts are candidates."""
 from __future__ import annotations
 
+import io
 import json
 import random
 import subprocess
+import zipfile
 from collections import Counter
 from collections.abc import Callable, Iterator
 from pathlib import Path
@@ -197,11 +199,23 @@ def addresses(site: Site, number: int) -> Iterator[tuple[str, str]]:
                 yield from ((rule.endpoint, f"{its}?{urlencode(it)}") for it in asked)
 
 
+def text_within(body: bytes) -> str:
+    """The text of a file: of an archive that of its members, of a PDF that of its pages."""
+    if body.startswith(b"PK"):
+        with zipfile.ZipFile(io.BytesIO(body)) as archive:
+            return " ".join(text_within(archive.read(name)) for name in archive.namelist())
+    if body.startswith(b"%PDF"):
+        words = ["pdftotext", "-", "-"]
+        return subprocess.run(words, input=body, capture_output=True, check=True).stdout.decode("utf-8")
+    return body.decode("utf-8", "replace")
+
+
 def shown(client: Client, address: str) -> str:
     """What an address shows: with a redirection where it leads to."""
     answer = client.get(address)
-    assert answer.status_code < 500, (address, answer.text)
-    return f"{answer.text} {answer.headers.get('Location', '')} {answer.headers.get('Link', '')}"
+    said = text_within(answer.data)
+    assert answer.status_code < 500, (address, said)
+    return f"{said} {answer.headers.get('Location', '')} {answer.headers.get('Link', '')}"
 
 
 def named_in(said: str, address: str, number: int) -> list[str]:
@@ -214,6 +228,7 @@ def named_in(said: str, address: str, number: int) -> list[str]:
     return [it for it in found if it in said]
 
 
+@pytest.mark.needs("pdftotext")
 def test_no_public_address_shows_a_candidate(desk: Desk, users: Path, candidate: int) -> None:
     site = site_of(desk, users, is_public=True)
     assert "definition" in shown(site.client("rita"), f"/c/{candidate}")
@@ -223,6 +238,7 @@ def test_no_public_address_shows_a_candidate(desk: Desk, users: Path, candidate:
         assert not named_in(shown(visitor, address), address, candidate), address
 
 
+@pytest.mark.needs("pdftotext")
 def test_no_interface_shows_a_candidate_to_a_user(desk: Desk, users: Path, candidate: int) -> None:
     site = site_of(desk, users)
     for endpoint, address in addresses(site, candidate):
@@ -230,6 +246,7 @@ def test_no_interface_shows_a_candidate_to_a_user(desk: Desk, users: Path, candi
             assert not named_in(shown(site.client("anna"), address), address, candidate), address
 
 
+@pytest.mark.needs("pdftotext")
 def test_no_public_address_shows_what_is_not_public_of_a_concept(desk: Desk, users: Path) -> None:
     """An editorial note, and a value of the office's own field: nowhere to a visitor, and in no interface to a user."""
     desk.values.write_field(Field("inner", "line", is_public=False, names={"en": "Inner"}, is_own=True))
