@@ -53,19 +53,19 @@ def made_anew(desk: Desk) -> tuple[list[tuple[int, ...]], list[tuple[int, ...]]]
 
 
 def plain_places(desk: Desk) -> set[tuple[int, int]]:
-    """The pairs of concepts that are seen below each other: by the rule, over the mirror."""
-    mirror, statuses = desk.replica, desk.replica.statuses()
+    """The pairs of concepts that are seen below each other: by the rule, over the replica."""
+    replica, statuses = desk.replica, desk.replica.statuses()
     hidden = {it for it, name in statuses.items() if name in ("candidate", "review")}
 
     def seen_above(low: int) -> set[int]:
-        above = mirror.resource(low).broader
+        above = replica.resource(low).broader
         return {it for it in above if it not in hidden}.union(*(seen_above(it) for it in above if it in hidden))
 
-    return {(low, high) for low in mirror.numbers("concept") if low not in hidden for high in seen_above(low)}
+    return {(low, high) for low in replica.numbers("concept") if low not in hidden for high in seen_above(low)}
 
 
 def assert_as_filtered(desk: Desk) -> None:
-    """Each look-up of the public view has what the mirror has of what isn't hidden."""
+    """Each look-up of the public view has what the replica has of what isn't hidden."""
     hidden = {it for it, name in desk.replica.statuses().items() if name in ("candidate", "review")}
     seen = [it for it in resources(desk.replica).values() if it.number not in hidden]
     for it in seen:

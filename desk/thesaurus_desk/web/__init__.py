@@ -19,7 +19,7 @@
   tick_lists         ticks in a long list: of postings, of concepts
   posting_keys       keys of postings that no person has given
   record_forms       the form for all concepts of a record, and the plan that it asks for
-  openings           who has which record open
+  open_records       who has which record open
   annif              concepts for a text, by another service
   proposal_forms     what the form for a proposal asks for
   merge_preview      what a merge would do

@@ -10,12 +10,12 @@ from flask import Flask, current_app, g, request
 from werkzeug.exceptions import HTTPException
 
 from thesaurus_desk.auth.authentication import Entry
-from thesaurus_desk.auth.passwords import GateFull
+from thesaurus_desk.auth.passwords import TooManyHashes
 from thesaurus_desk.auth.request_checks import install_checks, refusal, send_again
 from thesaurus_desk.auth.roles import role_named
 from thesaurus_desk.auth.route_roles import READING, DeskApp
 from thesaurus_desk.clock import distance_now, time_element
-from thesaurus_desk.importing.uploads import Shelf
+from thesaurus_desk.importing.uploads import Uploads
 from thesaurus_desk.interfaces import Changes, Source, interfaces_of
 from thesaurus_desk.interfaces.whole_thesaurus import WholeAnswers
 from thesaurus_desk.journal.rights import ACTS
@@ -28,8 +28,8 @@ from thesaurus_desk.store.program import NoAnswer
 from thesaurus_desk.store.saved_files import SavedFiles
 from thesaurus_desk.web.context import (
     acts_on,
-    begin_moment,
-    end_moment,
+    begin_transaction,
+    end_transaction,
     field_words,
     label_link,
     link,
@@ -43,15 +43,15 @@ from thesaurus_desk.web.context import (
     tags,
     term,
     the_desk,
-    the_mirror,
+    the_replica,
     the_settings,
     visitor_may_propose,
     watched_kinds,
 )
 from thesaurus_desk.web.form_keys import install_once, token_field
 from thesaurus_desk.web.help_topics import topic_of
-from thesaurus_desk.web.notices import said
-from thesaurus_desk.web.openings import Openings
+from thesaurus_desk.web.notices import notice_of_plan
+from thesaurus_desk.web.open_records import OpenRecords
 from thesaurus_desk.web.posting_keys import posting_name
 from thesaurus_desk.web.static_files import install_static_files
 from thesaurus_desk.words import LANGUAGES
@@ -98,13 +98,15 @@ def create_app(desk: Desk, entry: Entry, settings: Settings, health: Health | No
     something and has no role."""
     app = DeskApp("thesaurus_desk.web")
     entry.keep_in(desk.journal)
-    app.extensions.update(desk=desk, entry=entry, settings=settings, shelf=Shelf(desk.journal), openings=Openings())
+    app.extensions.update(
+        desk=desk, entry=entry, settings=settings, uploads=Uploads(desk.journal), openings=OpenRecords()
+    )
     app.extensions["health"] = health
     app.extensions.update(loads=Loads(desk.db, desk.decisions))
     app.jinja_env.trim_blocks = app.jinja_env.lstrip_blocks = True
     app.json.ensure_ascii = False  # type: ignore[attr-defined]
     install_checks(app)
-    install_moments(app)
+    install_transactions(app)
     install_once(app)
     install_languages(app)
     install_words(app)
@@ -118,17 +120,17 @@ def create_app(desk: Desk, entry: Entry, settings: Settings, health: Health | No
     return app
 
 
-def install_moments(app: Flask) -> None:
+def install_transactions(app: Flask) -> None:
     """Has each page see one moment of the store, visitors and other programs as the public sees it; a plan that it
     performs begins another one."""
 
     @app.before_request
     def begin() -> None:
-        begin_moment(not person().name or request.blueprint in FOR_PROGRAMS)
+        begin_transaction(not person().name or request.blueprint in FOR_PROGRAMS)
 
     @app.teardown_request
     def end(error: BaseException | None) -> None:
-        end_moment()
+        end_transaction()
 
 
 def source_of(desk: Desk, settings: Settings) -> Source:
@@ -153,7 +155,9 @@ def source_of(desk: Desk, settings: Settings) -> Source:
 
 def install_words(app: Flask) -> None:
     """Gives templates what they may use."""
-    app.jinja_env.globals.update(_=say, term=term, link=link, time=time_element, language_name=language_name, said=said)
+    app.jinja_env.globals.update(
+        _=say, term=term, link=link, time=time_element, language_name=language_name, notice_of_plan=notice_of_plan
+    )
     app.jinja_env.globals.update(token_field=token_field, posting_name=posting_name, distance_now=distance_now)
     app.jinja_env.globals.update(field_words=field_words, label_link=label_link, status_mark=status_mark)
     app.jinja_env.globals.update(term_languages=tags, may_act=may_act, acts_on=acts_on, watched_kinds=watched_kinds)
@@ -209,7 +213,7 @@ def site_name() -> str:
         return the_settings().title
     if not person().name and not the_settings().is_public:
         return say("shell.site")
-    return " · ".join(term(it) for it in the_mirror().numbers("scheme")[:3]) or say("shell.site")
+    return " · ".join(term(it) for it in the_replica().numbers("scheme")[:3]) or say("shell.site")
 
 
 def install_errors(app: Flask) -> None:
@@ -238,8 +242,8 @@ def install_errors(app: Flask) -> None:
             return failure("500", 500)
         return send_again("replaced" if isinstance(error, FileReplaced) else "journal", 503)
 
-    @app.errorhandler(GateFull)
-    def gate_full(error: GateFull) -> Any:
+    @app.errorhandler(TooManyHashes)
+    def gate_full(error: TooManyHashes) -> Any:
         answer = app.make_response(failure("429", 429))
         answer.headers["Retry-After"] = "1"
         return answer

@@ -28,7 +28,7 @@ log = logging.getLogger("desk")
 
 
 @dataclass
-class Sendings:
+class FormsUnderWay:
     """The forms that are being answered. Safe for several threads."""
 
     under_way: set[str] = field(default_factory=set)
@@ -51,7 +51,7 @@ class Sendings:
 
 def install_once(app: Flask) -> None:
     """Has each form that was sent before led to what came of it; installed after the checks of who may send it."""
-    sendings = Sendings()
+    sendings = FormsUnderWay()
 
     @app.before_request
     def lead_second() -> Any:

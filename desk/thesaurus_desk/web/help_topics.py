@@ -106,7 +106,7 @@ PARTS = ("purpose", "mistake1", "mistake2", "mistake3")
 
 
 @dataclass(frozen=True)
-class Found:
+class HelpEntry:
     """A task or a page of the help that has the words that are asked for."""
 
     name: str
@@ -126,18 +126,18 @@ def keys_of(topic: str) -> dict[str, str]:
     return {key: say(f"home.key.{KEYS[key]}") for key in (*EVERYWHERE, *FURTHER.get(topic, ()))}
 
 
-def tasks_with(query: str) -> list[Found]:
+def tasks_with(query: str) -> list[HelpEntry]:
     """Returns the tasks that have all words of a text, or all tasks."""
-    return found_in(query, [Found(it, say(f"help.task.{it}.title"), say(f"help.task.{it}.text")) for it in TASKS])
+    return found_in(query, [HelpEntry(it, say(f"help.task.{it}.title"), say(f"help.task.{it}.text")) for it in TASKS])
 
 
-def pages_with(query: str) -> list[Found]:
+def pages_with(query: str) -> list[HelpEntry]:
     """Returns the topics whose help has all words of a text, or all topics."""
     told = [(it, [say(f"help.{it}.{part}") for part in ("name", *PARTS)]) for it in TOPICS]
-    return found_in(query, [Found(it, texts[0], " ".join(texts[1:])) for it, texts in told])
+    return found_in(query, [HelpEntry(it, texts[0], " ".join(texts[1:])) for it, texts in told])
 
 
-def found_in(query: str, those: list[Found]) -> list[Found]:
+def found_in(query: str, those: list[HelpEntry]) -> list[HelpEntry]:
     """Returns those that have all words of a text, but for case and accents."""
     asked = fold(query).split()
     return [it for it in those if all(word in fold(f"{it.title} {it.text}") for word in asked)]

@@ -13,7 +13,7 @@ from email.message import EmailMessage
 from typing import TYPE_CHECKING
 
 from thesaurus_desk.auth.accounts import Accounts
-from thesaurus_desk.journal.schema import written
+from thesaurus_desk.journal.schema import time_text
 from thesaurus_desk.journal.watches import News, Watcher
 from thesaurus_desk.words import Words
 
@@ -82,7 +82,7 @@ class WatchMail:
         nothing.
 
         What is sent is noted before, so that nothing is sent twice; not what surely wasn't taken."""
-        watches, until = self.desk.watches, written(datetime.now(UTC) - SETTLED)
+        watches, until = self.desk.watches, time_text(datetime.now(UTC) - SETTLED)
         if self.accounts.find(watcher.user) is None:
             return ""
         with self.desk.replica.reading():

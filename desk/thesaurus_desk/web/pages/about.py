@@ -9,7 +9,7 @@ from flask import Blueprint, render_template
 
 from thesaurus_desk.auth.route_roles import public
 from thesaurus_desk.store.verdict import PATH, Verdict, read_verdict
-from thesaurus_desk.web.context import person, say, the_desk, the_mirror
+from thesaurus_desk.web.context import person, say, the_desk, the_replica
 from thesaurus_desk.web.pages.state import the_health
 
 pages = Blueprint("about", __name__)
@@ -31,7 +31,7 @@ LINES = {
 @public
 def about() -> Any:
     """Shows what is proved, tested and trusted, and the numbers."""
-    totals = the_mirror().postings.totals()
+    totals = the_replica().postings.totals()
     return render_template(
         "about.html",
         groups={name: [line_of(name, *it) for it in lines] for name, lines in LINES.items()},

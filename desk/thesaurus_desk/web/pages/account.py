@@ -7,9 +7,9 @@ from flask import Blueprint, abort, g, make_response, redirect, render_template,
 from markupsafe import Markup
 
 from thesaurus_desk.auth.accounts import Account, Accounts
-from thesaurus_desk.auth.authentication import Alone
+from thesaurus_desk.auth.authentication import SingleUserEntry
 from thesaurus_desk.auth.devices import KNOWN
-from thesaurus_desk.auth.passwords import LONGEST, GateFull, fault_of
+from thesaurus_desk.auth.passwords import LONGEST, TooManyHashes, fault_of
 from thesaurus_desk.auth.request_checks import RELOAD, keep_cookie, start_session
 from thesaurus_desk.auth.route_roles import role
 from thesaurus_desk.web.context import go, own_path, person, say, session, the_entry, the_settings
@@ -45,7 +45,7 @@ def login() -> Any:
 def enter() -> Any:
     """Lets the one person in who has the key of the address, once."""
     entry, key = the_entry(), request.args.get("key", "")
-    if not isinstance(entry, Alone):
+    if not isinstance(entry, SingleUserEntry):
         abort(404)
     if not entry.use_key(key):
         # (who is in already may have loaded the page again)
@@ -82,7 +82,7 @@ def compare_password(name: str, password: str, place: str) -> tuple[Account | No
         return None, wait
     try:
         account = accounts_here().check(name, password)
-    except GateFull:
+    except TooManyHashes:
         limits.take_back(place, name)
         return None, MOMENT
     if account is not None:

@@ -13,7 +13,7 @@ from thesaurus_desk.auth.route_roles import role
 from thesaurus_desk.clock import span_of
 from thesaurus_desk.journal import Filter, Plan, Step
 from thesaurus_desk.journal.undo import Remark, TakeBack
-from thesaurus_desk.web.context import go, own_path, page_number, person, say, the_desk, the_mirror, the_rights, words
+from thesaurus_desk.web.context import go, own_path, page_number, person, say, the_desk, the_replica, the_rights, words
 from thesaurus_desk.web.forms import FormState, Problem
 from thesaurus_desk.web.journal_text import LINKS, tell_outcome, tell_plan, tell_plans
 from thesaurus_desk.web.request_text import sentence_of
@@ -62,7 +62,7 @@ def changes() -> Any:
         "changes/page.html",
         plans=tell_plans(found[:PAGE], number),
         further=f"/changes?{urlencode({**asked, 'before': found[PAGE - 1].id})}" if len(found) > PAGE else "",
-        number=number if number and the_mirror().kind(number) else None,
+        number=number if number and the_replica().kind(number) else None,
         asked=asked,
         table=f"/changes.csv?{urlencode(asked)}" if asked else "/changes.csv",
         users=the_desk().history.users(),
@@ -119,7 +119,7 @@ def changed_since() -> Any:
     since = request.args.get("since", "")
     span = span_of(since.strip())
     found = the_desk().history.changed_since(span[0]) if span else []
-    known = [it for it, _ in found if the_mirror().kind(it)]
+    known = [it for it, _ in found if the_replica().kind(it)]
     if is_table_asked():
         return sheet("changed", known)
     page, begin = page_number(), span[0] if span else ""
@@ -194,7 +194,7 @@ def look_at_taking_back(number: int) -> Any:
 
 def back_page(plan: Plan, back: TakeBack, state: FormState, status: int) -> Any:
     """Returns the page on which a plan is taken back. Its form carries the last plan that its author sees."""
-    lines = [sentence_of(it, None, the_mirror(), words(), LINKS) for it in back.requests[:MOST_LINES]]
+    lines = [sentence_of(it, None, the_replica(), words(), LINKS) for it in back.requests[:MOST_LINES]]
     return (
         render_template(
             "changes/back.html",
@@ -216,7 +216,7 @@ def back_page(plan: Plan, back: TakeBack, state: FormState, status: int) -> Any:
 
 def tell_remark(remark: Remark) -> Markup:
     """Returns what isn't taken back as a sentence."""
-    is_resource = remark.name not in ("withdrawn", "moved on") and the_mirror().kind(remark.number or 0)
+    is_resource = remark.name not in ("withdrawn", "moved on") and the_replica().kind(remark.number or 0)
     about = LINKS.link(remark.number or 0) if is_resource else Markup("{}").format(remark.number or "")
     return Markup("{}").format(say(f"changes.remark.{remark.name.replace(' ', '_')}", about=about, text=remark.text))
 

@@ -9,11 +9,11 @@ from flask import Blueprint, abort, g, redirect, render_template, request
 from markupsafe import Markup
 
 from thesaurus_desk.auth.route_roles import public, role
-from thesaurus_desk.journal.schema import now, written
+from thesaurus_desk.journal.schema import now, time_text
 from thesaurus_desk.journal.watches import KINDS, News, Watch, Watcher
-from thesaurus_desk.web.context import go, own_path, person, say, the_desk, the_entry, the_mirror, words
+from thesaurus_desk.web.context import go, own_path, person, say, the_desk, the_entry, the_replica, words
 from thesaurus_desk.web.journal_text import tell_plans
-from thesaurus_desk.web.pages.edit import given, given_number
+from thesaurus_desk.web.pages.edit import form_text, given_number
 from thesaurus_desk.words import Words
 
 pages = Blueprint("for_me", __name__)
@@ -37,7 +37,7 @@ def for_me() -> Any:
     """Shows what others have done since the reader has looked, and what the reader watches."""
     watches, user = the_desk().watches, person().name
     watcher, at = watches.watcher(user), now()
-    news = watches.news(user, watcher.seen, the_mirror(), at) if watcher else None
+    news = watches.news(user, watcher.seen, the_replica(), at) if watcher else None
     return render_template(
         "for_me.html",
         watcher=watcher,
@@ -59,11 +59,11 @@ def feed_address(watcher: Watcher) -> str:
 def watch() -> Any:
     """Has the reader watch something, or no more."""
     watches, user = the_desk().watches, person().name
-    chosen = Watch(given("kind", KINDS), given_number("number"))
-    there = the_desk().proposals.get(chosen.number) if chosen.kind == "proposal" else the_mirror().get(chosen.number)
+    chosen = Watch(form_text("kind", KINDS), given_number("number"))
+    there = the_desk().proposals.get(chosen.number) if chosen.kind == "proposal" else the_replica().get(chosen.number)
     if there is None:
         abort(404)
-    if given("do", ("watch", "leave")) == "watch":
+    if form_text("do", ("watch", "leave")) == "watch":
         watches.watch(user, chosen, words().language)
     else:
         watches.leave(user, chosen)
@@ -75,7 +75,7 @@ def watch() -> Any:
 def note_read() -> Any:
     """Notes until when the reader has read what has happened: until the page was made."""
     watches = the_desk().watches
-    watcher, at = watches.watcher(person().name), given("at")
+    watcher, at = watches.watcher(person().name), form_text("at")
     if watcher is not None and watcher.seen < at <= now():
         watches.note_seen(watcher.user, at)
     return go("/for-me")
@@ -98,10 +98,10 @@ def renew_address() -> Any:
 @public
 def public_feed() -> Any:
     """Returns what has changed of what everybody sees."""
-    since = written(datetime.now(UTC) - FEED_SINCE)
-    mirror = the_desk().public_view()
-    shown = [(it, at) for it, at in the_desk().history.changed_since(since) if mirror.get(it)][:MOST_ENTRIES]
-    return feed([Entry(f"/c/{it}", at, mirror.term(it, [words().language])[1]) for it, at in shown], "feed.xml")
+    since = time_text(datetime.now(UTC) - FEED_SINCE)
+    replica = the_desk().public_view()
+    shown = [(it, at) for it, at in the_desk().history.changed_since(since) if replica.get(it)][:MOST_ENTRIES]
+    return feed([Entry(f"/c/{it}", at, replica.term(it, [words().language])[1]) for it, at in shown], "feed.xml")
 
 
 @pages.get("/feed/<secret>.xml")
@@ -112,7 +112,7 @@ def own_feed(secret: str) -> Any:
     if watcher is None or accounts is not None and accounts.find(watcher.user) is None:
         abort(404)
     g.words = Words(watcher.language)
-    since = written(datetime.now(UTC) - FEED_SINCE)
+    since = time_text(datetime.now(UTC) - FEED_SINCE)
     news = the_desk().watches.news(watcher.user, since, the_desk().replica)
     return feed(entries_of(news)[:MOST_ENTRIES], f"feed/{secret}.xml")
 

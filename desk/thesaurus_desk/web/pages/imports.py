@@ -8,12 +8,12 @@ from flask import Blueprint, Response, abort, current_app, redirect, render_temp
 from markupsafe import Markup
 
 from thesaurus_desk.auth.route_roles import role
-from thesaurus_desk.importing.exported_values import read_exported_values
-from thesaurus_desk.importing.posting_files import MOST_BYTES, Brought, Row
-from thesaurus_desk.importing.row_trial import NotTried
+from thesaurus_desk.importing.export_rows import read_export_rows
+from thesaurus_desk.importing.posting_files import MOST_BYTES, PostingImport, Row
+from thesaurus_desk.importing.row_trial import NoTrial
 from thesaurus_desk.importing.skos_reports import Findings
 from thesaurus_desk.importing.tables import (
-    Bringer,
+    Importer,
     TableRun,
     plain,
     preview_rows,
@@ -23,7 +23,7 @@ from thesaurus_desk.importing.tables import (
     table_error_in_words,
     table_of,
 )
-from thesaurus_desk.importing.uploads import Shelf
+from thesaurus_desk.importing.uploads import Uploads
 from thesaurus_desk.importing.vocabularies import (
     ENDS,
     SkosError,
@@ -47,21 +47,21 @@ from thesaurus_desk.web.context import (
     tags,
     the_desk,
     the_fields,
-    the_mirror,
+    the_replica,
     the_rights,
     words,
 )
 from thesaurus_desk.web.forms import FormState, Problem
 from thesaurus_desk.web.journal_text import LINKS, PageLinks, tell_outcome
-from thesaurus_desk.web.tick_lists import numbers_of, ranges_of, ticked_numbers
 from thesaurus_desk.web.refusals import explain
 from thesaurus_desk.web.request_text import sentence_of
 from thesaurus_desk.web.spreadsheets import sheet_of_rows
 from thesaurus_desk.web.table_columns import MOST_CHOICES, choices_of, chosen_columns, column_words, role_groups
+from thesaurus_desk.web.tick_lists import numbers_of, ranges_of, ticked_numbers
 from thesaurus_tools.fields import table_fields
 from thesaurus_tools.files import TableError
 from thesaurus_tools.headings import ColumnsError
-from thesaurus_tools.row_running import RowPlan
+from thesaurus_tools.row_runner import RowPlan
 from thesaurus_tools.table_plans import KINDS, NewConceptsError, TableOptions
 
 pages = Blueprint("bring_in", __name__)
@@ -77,21 +77,21 @@ KEPT_FIELDS = ("kind", "tag", "scheme", "columns", "forget", "cells")
 EXACT = {"": None, "exact": True, "add": False}
 
 
-@pages.app_errorhandler(NotTried)
-def not_tried(error: NotTried) -> Any:
+@pages.app_errorhandler(NoTrial)
+def not_tried(error: NoTrial) -> Any:
     """Returns the forms with why the program can't say now what rows would do."""
-    return refused("table", say(f"refusals.{error.fault}.text"), "")
+    return refusal_answer("table", say(f"refusals.{error.fault}.text"), "")
 
 
-def the_shelf() -> Shelf:
+def the_uploads() -> Uploads:
     """Returns what is kept for users until they go on."""
-    return cast(Shelf, current_app.extensions["shelf"])
+    return cast(Uploads, current_app.extensions["uploads"])
 
 
-def keep(what: TableRun | SkosRun | Brought) -> str:
+def keep(what: TableRun | SkosRun | PostingImport) -> str:
     """Keeps something for the reader, and returns its name."""
     rows = len(what.requests) + what.table.count("\n") if isinstance(what, SkosRun) else len(what.rows)
-    return the_shelf().keep(person().name, what, rows)
+    return the_uploads().keep(person().name, what, rows)
 
 
 def has_two() -> bool:
@@ -117,7 +117,7 @@ def bring_in() -> Any:
 
 def start_page(state: FormState, status: int) -> Any:
     """Returns the page with the forms for files."""
-    schemes = [(it, LINKS.term(it)) for it in the_mirror().ordered(the_mirror().numbers("scheme"), tags())]
+    schemes = [(it, LINKS.term(it)) for it in the_replica().ordered(the_replica().numbers("scheme"), tags())]
     kinds = [("", say("bring_in.kind.guess"))] + [(it, say(f"bring_in.kind.{it}")) for it in KINDS]
     encodings = [("", say("bring_in.encoding_guess")), (ENCODINGS[0], say("bring_in.encoding_windows"))]
     most = MOST_BYTES >> 20
@@ -135,7 +135,7 @@ def start_page(state: FormState, status: int) -> Any:
     return page, status
 
 
-def refused(form: str, text: str, field: str | None = None) -> Any:
+def refusal_answer(form: str, text: str, field: str | None = None) -> Any:
     """Returns the forms with what is wrong with a file, or with the text typed in its place."""
     if field is None:
         sent = request.files.get("file")
@@ -152,22 +152,24 @@ def refused(form: str, text: str, field: str | None = None) -> Any:
 def bring_postings() -> Any:
     """Imports a posting file, and shows what came of its rows."""
     if has_two():
-        return refused("postings", say("bring_in.two"), "typed")
+        return refusal_answer("postings", say("bring_in.two"), "typed")
     name, data = file_of_form()
     data = data.removeprefix(b"\xef\xbb\xbf")
     heading = data.partition(b"\n")[0].strip().replace(b'"', b"")
     if heading != b"key,record,concept":
-        return refused("postings", say("bring_in.heading"))
+        return refusal_answer("postings", say("bring_in.heading"))
     brought = the_desk().bring_in(person().name, data, name)
     if brought.state in ("lost", "unknown"):
-        return refused("postings", say(f"bring_in.state.{brought.state}"))
+        return refusal_answer("postings", say(f"bring_in.state.{brought.state}"))
     if brought.state == "refused" or brought.answer and not brought.rows:
-        return refused("postings", explain(brought.answer or {}, {"do": "import"}, the_mirror(), words(), LINKS))
+        return refusal_answer(
+            "postings", explain(brought.answer or {}, {"do": "import"}, the_replica(), words(), LINKS)
+        )
     brought.name = name
     return redirect(f"/bring-in/result/{keep(brought)}", 303)
 
 
-def postings_page(brought: Brought, kept: str) -> Any:
+def postings_page(brought: PostingImport, kept: str) -> Any:
     """Returns what came of a posting file."""
     failed = kept if brought.failed else ""
     rows = [(it, why_refused(it)) for it in brought.failed[:SHOWN]]
@@ -180,18 +182,18 @@ def why_refused(row: Row) -> Any:
     number = int(concept) if concept.isascii() and concept.isdigit() and len(concept) < 11 else 0
     asked = {"do": "post", "key": key, "record": record, "concept": number}
     answer = {"bad" if row.outcome.startswith("Bad") else "no": row.outcome}
-    return explain(answer, asked, the_mirror(), words(), LINKS)
+    return explain(answer, asked, the_replica(), words(), LINKS)
 
 
 @pages.get("/bring-in/failed/<name>.csv")
 @role("indexer")
 def failed_rows(name: str) -> Response:
     """Returns the rows that were refused as a table again, with a column of reasons."""
-    shelf, user = the_shelf(), person().name
-    what = shelf.find(user, name, Brought) or shelf.find(user, name, TableRun)
+    uploads, user = the_uploads(), person().name
+    what = uploads.find(user, name, PostingImport) or uploads.find(user, name, TableRun)
     if what is None:
         abort(404)
-    if isinstance(what, Brought):
+    if isinstance(what, PostingImport):
         rows = [("key", "record", "concept", "reason"), *((*it.cells, plain(why_refused(it))) for it in what.failed)]
         return sheet_of_rows("refused", rows)
     return sheet_of_rows("refused", map(tuple, refused_rows(what)))
@@ -205,10 +207,10 @@ def failed_rows(name: str) -> Response:
 def preview_table() -> Any:
     """Shows row by row what a table would do."""
     if has_two():
-        return refused("table", say("bring_in.two"), "typed")
+        return refusal_answer("table", say("bring_in.two"), "typed")
     name, data = file_of_form()
-    if not the_mirror().numbers("scheme"):
-        return refused("table", say("bring_in.no_scheme"))
+    if not the_replica().numbers("scheme"):
+        return refusal_answer("table", say("bring_in.no_scheme"))
     scheme = request.form.get("scheme", "")
     kind = request.form.get("kind", "")
     options = TableOptions(
@@ -231,14 +233,14 @@ def preview_table() -> Any:
         )
         run.asked = {it: request.form[it] for it in KEPT_FIELDS if it in request.form}
         run.typed = "" if (sent := request.files.get("file")) and sent.filename else request.form.get("typed", "")
-        preview_rows(the_desk(), run, the_bringer())
+        preview_rows(the_desk(), run, the_importer())
     except ColumnsError as error:
         key = "columns_wrong" if error.roles else "columns_unknown"
-        return refused("table", say(f"bring_in.{key}", roles=error.roles, names=error.names), "columns")
+        return refusal_answer("table", say(f"bring_in.{key}", roles=error.roles, names=error.names), "columns")
     except TableError as error:
-        return refused("table", table_error_in_words(error, name, words()))
+        return refusal_answer("table", table_error_in_words(error, name, words()))
     except NewConceptsError:
-        return refused("table", say("bring_in.new_concepts"), "tag")
+        return refusal_answer("table", say("bring_in.new_concepts"), "tag")
     return table_page(run, keep(run), 200)
 
 
@@ -246,20 +248,20 @@ def preview_table() -> Any:
 @role("editor")
 def choose_columns() -> Any:
     """Shows what a table would do if its columns held what its reader has chosen."""
-    run = the_shelf().find(person().name, request.form.get("name", ""), TableRun)
+    run = the_uploads().find(person().name, request.form.get("name", ""), TableRun)
     if run is None or run.is_done:
-        return refused("table", say("bring_in.not_kept"), "")
+        return refusal_answer("table", say("bring_in.not_kept"), "")
     run = replace(run, columns=chosen_columns(run.columns, request.form), plans=[])
     try:
-        preview_rows(the_desk(), run, the_bringer())
+        preview_rows(the_desk(), run, the_importer())
     except NewConceptsError:
-        return refused("table", say("bring_in.new_concepts"), "tag")
+        return refusal_answer("table", say("bring_in.new_concepts"), "tag")
     return table_page(run, keep(run), 200)
 
 
-def the_bringer() -> Bringer:
+def the_importer() -> Importer:
     """Returns the reader as one who brings a table in."""
-    return Bringer(person().name, person().role, the_rights(), words(), tell_outcome)
+    return Importer(person().name, person().role, the_rights(), words(), tell_outcome)
 
 
 def table_page(run: TableRun, name: str, status: int) -> Any:
@@ -270,7 +272,7 @@ def table_page(run: TableRun, name: str, status: int) -> Any:
     # (a row that isn't shown can't be left out, nor one of a vocabulary or an export, which are compared anew)
     has_ticks = not (run.is_done or run.vocabulary or run.exported) and len(shown) == len(telling)
     lines = {
-        it.line: [sentence_of(one, answer_to(run, one), the_mirror(), words(), links) for one in it.changes]
+        it.line: [sentence_of(one, answer_to(run, one), the_replica(), words(), links) for one in it.changes]
         for it in shown
         if not it.reason
     }
@@ -309,7 +311,7 @@ def moving_records(run: TableRun) -> dict[int, int]:
     merges = {
         it.line: [one["source"] for one in it.changes if one["do"] == "merge"] for it in run.plans if not it.reason
     }
-    count = the_mirror().postings.count_records_at
+    count = the_replica().postings.count_records_at
     return {line: sum(map(count, sources)) for line, sources in merges.items() if sources and not run.is_done}
 
 
@@ -324,7 +326,7 @@ def meant_by(row: RowPlan) -> Markup:
     if row.error is None or row.error.key != "not_called":
         return Markup()
     kind, text = (str(row.error.values[it]) for it in ("kind", "text"))
-    hits = the_mirror().search(text, kinds=(kind,), live=True, prefer=tags()[0], most=1)
+    hits = the_replica().search(text, kinds=(kind,), live=True, prefer=tags()[0], most=1)
     return link(hits[0].number) if hits else Markup()
 
 
@@ -332,12 +334,12 @@ def meant_by(row: RowPlan) -> Markup:
 @role("editor")
 def perform_table() -> Any:
     """Performs a table that was looked at, once: each row is done whole or not at all. Leads to what came of it."""
-    run = the_shelf().take(person().name, request.form.get("name", ""), TableRun)
+    run = the_uploads().take(person().name, request.form.get("name", ""), TableRun)
     if run is None:
-        return refused("table", say("bring_in.not_kept"), "")
+        return refusal_answer("table", say("bring_in.not_kept"), "")
     last = max((it.line for it in run.rows), default=0)
     leave_out(run, numbers_of(request.form.get("offered", ""), last) - ticked_numbers("row"))
-    run_table(the_desk(), run, the_bringer())
+    run_table(the_desk(), run, the_importer())
     return redirect(f"/bring-in/result/{keep(run)}", 303)
 
 
@@ -351,8 +353,8 @@ def leave_out(run: TableRun, lines: set[int]) -> None:
 @role("indexer")
 def result(name: str) -> Any:
     """Shows what came of a file."""
-    run = the_shelf().find(person().name, name, TableRun)
-    brought = the_shelf().find(person().name, name, Brought)
+    run = the_uploads().find(person().name, name, TableRun)
+    brought = the_uploads().find(person().name, name, PostingImport)
     if brought is not None:
         return postings_page(brought, name)
     return table_page(run, name, 200) if run is not None else go("/changes")
@@ -367,7 +369,7 @@ def preview_skos() -> Any:
     """Converts a vocabulary, tries it on a copy of the store, and shows what is lost."""
     name, data = file_of_form()
     if "values" in request.form:
-        return preview_exported_values(name, data)
+        return preview_export_rows(name, data)
     options = SkosOptions(
         lang=request.form.get("tag", "").strip().lower(),
         scheme=request.form.get("title", "").strip(),
@@ -379,14 +381,14 @@ def preview_skos() -> Any:
     )
     onto = request.form.get("onto", "")
     scheme = int(onto) if onto.isascii() and onto.isdigit() and len(onto) < 11 else 0
-    if scheme and the_mirror().kind(scheme) != "scheme":
+    if scheme and the_replica().kind(scheme) != "scheme":
         abort(404)
     try:
         if scheme:
             return preview_update(name, data, options, scheme)
         run = read_skos(the_desk(), name, data, options)
     except StoreBusy:
-        return refused("skos", say("refusals.Busy.text"), "")
+        return refusal_answer("skos", say("refusals.Busy.text"), "")
     except SkosError as error:
         return refused_skos(error)
     run.refused = refused_sentences(run)
@@ -397,25 +399,25 @@ def refused_skos(error: SkosError) -> Any:
     """Returns the forms with why a file isn't read as a vocabulary."""
     # (what the converter says is in English)
     said = Markup(' <span lang="en" dir="ltr">{}</span>').format(error.said) if error.said else ""
-    return refused("skos", Markup("{}{}").format(say(f"bring_in.skos_error.{error.key}", **error.values), said))
+    return refusal_answer("skos", Markup("{}{}").format(say(f"bring_in.skos_error.{error.key}", **error.values), said))
 
 
-def preview_exported_values(name: str, data: bytes) -> Any:
+def preview_export_rows(name: str, data: bytes) -> Any:
     """Shows which values of fields an export of this thesaurus has that are lacking, as a table."""
     try:
-        run = read_exported_values(name, data, the_mirror().base, the_fields())
+        run = read_export_rows(name, data, the_replica().base, the_fields())
     except SkosError as error:
         return refused_skos(error)
-    preview_rows(the_desk(), run, the_bringer())
+    preview_rows(the_desk(), run, the_importer())
     return table_page(run, keep(run), 200)
 
 
 def preview_update(name: str, data: bytes, options: SkosOptions, scheme: int) -> Any:
     """Shows row by row how a vocabulary would bring a thesaurus up to date. Raises SkosError."""
-    tag, term = the_mirror().term(scheme, tags())
+    tag, term = the_replica().term(scheme, tags())
     options = replace(options, lang=options.lang or tag, scheme=options.scheme or term, has_old_addresses=False)
     run = update_of(convert_skos(the_desk(), name, data, options), scheme, "gone" in request.form)
-    preview_rows(the_desk(), run, the_bringer())
+    preview_rows(the_desk(), run, the_importer())
     return table_page(run, keep(run), 200)
 
 
@@ -432,8 +434,8 @@ def skos_page(run: SkosRun, status: int) -> Any:
 @role("editor", act="import")
 def skos_report(name: str) -> Response:
     """Returns all that is left out of a vocabulary as a table."""
-    shelf, user = the_shelf(), person().name
-    run = shelf.find(user, name, SkosRun) or shelf.find(user, name, TableRun)
+    uploads, user = the_uploads(), person().name
+    run = uploads.find(user, name, SkosRun) or uploads.find(user, name, TableRun)
     if run is None:
         abort(404)
     headers = {"Content-Disposition": 'attachment; filename="left-out.csv"'}
@@ -448,7 +450,7 @@ def refused_sentences(run: SkosRun) -> list[Findings]:
         number = line.partition(":")[0]
         if not (number.isdecimal() and 1 <= int(number) <= len(run.requests)):
             return line
-        return sentence_of(run.requests[int(number) - 1], None, the_mirror(), words(), links)
+        return sentence_of(run.requests[int(number) - 1], None, the_replica(), words(), links)
 
     return [Findings(it.rule, [sentence(line) for line in it.lines], it.more) for it in run.refused]
 
@@ -457,9 +459,9 @@ def refused_sentences(run: SkosRun) -> list[Findings]:
 @role("editor", act="import")
 def perform_skos() -> Any:
     """Brings in a vocabulary that was looked at, once."""
-    run = the_shelf().take(person().name, request.form.get("name", ""), SkosRun)
+    run = the_uploads().take(person().name, request.form.get("name", ""), SkosRun)
     if run is None:
-        return refused("skos", say("bring_in.not_kept"), "")
+        return refusal_answer("skos", say("bring_in.not_kept"), "")
     if the_desk().batches.same(run.digest) and "again" not in request.form:
         return skos_page(run, 409)
     return bring_vocabulary(run)
@@ -468,7 +470,7 @@ def perform_skos() -> Any:
 def bring_vocabulary(run: SkosRun) -> Any:
     """Brings in a vocabulary, or the rest of one, and leads to its scheme; or shows that it was cut by a refusal."""
     if why := the_rights().refusal(run.requests, person().role):
-        return refused("skos", say(why), "")
+        return refusal_answer("skos", say(why), "")
     outcome = perform_script(the_desk(), person().name, run)
     if outcome.is_done:
         return go(f"/c/{run.scheme}" if run.scheme else "/", run.batch.plan if run.batch else outcome.plan)
@@ -488,7 +490,7 @@ def go_on(plan: int) -> Any:
     batch = next((it for it in batches.cut() if it.plan == plan), None)
     rest = batches.rest(batch) if batch else None
     if batch is None or rest is None:
-        return refused("table", say("bring_in.no_rest"), "")
+        return refusal_answer("table", say("bring_in.no_rest"), "")
     if batch.action != "table" and not may_act("import"):
         abort(403)
     if batch.action == TAKE_BACK:
@@ -496,11 +498,11 @@ def go_on(plan: int) -> Any:
     if batch.action != "table":
         return bring_vocabulary(vocabulary_of(rest, batch))
     run = table_of(rest, batch)
-    preview_rows(the_desk(), run, the_bringer())
+    preview_rows(the_desk(), run, the_importer())
     return table_page(run, keep(run), 200)
 
 
 def go_on_taking_back(batch: Batch, requests: list[Request]) -> Any:
     """Takes the rest of a long change back, and leads to the changes; or shows why that isn't done."""
     outcome = the_desk().go_on_taking_back(person().name, batch, requests)
-    return go("/changes", batch.plan) if outcome.is_done else refused("table", tell_outcome(outcome), "")
+    return go("/changes", batch.plan) if outcome.is_done else refusal_answer("table", tell_outcome(outcome), "")

@@ -10,10 +10,10 @@ from thesaurus_desk.auth.route_roles import role
 from thesaurus_desk.importing.replacements import HEADING, MOST, REPLACE, Replacement
 from thesaurus_desk.importing.tables import TableRun, preview_rows
 from thesaurus_desk.web.concept_choice import is_number
-from thesaurus_desk.web.context import field_words, say, tags, term, the_desk, the_fields, the_mirror
+from thesaurus_desk.web.context import field_words, say, tags, term, the_desk, the_fields, the_replica
 from thesaurus_desk.web.form_submission import problem_in
 from thesaurus_desk.web.forms import FormState
-from thesaurus_desk.web.pages.imports import keep, table_page, the_bringer
+from thesaurus_desk.web.pages.imports import keep, table_page, the_importer
 from thesaurus_tools.fields import text_fields
 from thesaurus_tools.kinds import LABEL_KINDS
 from thesaurus_tools.table_plans import TableOptions
@@ -58,7 +58,7 @@ def preview_replacement() -> Any:
     run.asked = {"back": f"/replace?{urlencode(fields)}"}
     if len(rows) > MOST:
         run.asked["note"] = say("replace.more", n=MOST)
-    preview_rows(the_desk(), run, the_bringer())
+    preview_rows(the_desk(), run, the_importer())
     return table_page(run, keep(run), 200)
 
 
@@ -76,7 +76,7 @@ def all_places() -> list[tuple[str, str]]:
 
 def replace_page(state: FormState, status: int) -> Any:
     """Returns the form."""
-    schemes = [(it, term(it)) for it in the_mirror().ordered(the_mirror().numbers("scheme"), tags())]
+    schemes = [(it, term(it)) for it in the_replica().ordered(the_replica().numbers("scheme"), tags())]
     page = render_template(
         "replace.html",
         form=FORM,

@@ -14,7 +14,7 @@ from thesaurus_desk.web.form_submission import problem_in, submit
 from thesaurus_desk.web.list_columns import columns_named
 from thesaurus_desk.web.list_forms import in_other_form
 from thesaurus_desk.web.pages.edit import resource, show_again
-from thesaurus_desk.web.work_views import APPROVED, FORM, LISTS, Work, list_counts, listed, names, work_of
+from thesaurus_desk.web.work_views import APPROVED, FORM, LISTS, Work, list_counts, concepts_of_list, names, work_of
 from thesaurus_tools.fields import OF_WORK, STATUSES, tidy
 
 pages = Blueprint("work", __name__)
@@ -65,7 +65,7 @@ def work_requests(number: int, before: Work, after: Work) -> list[Request]:
 @role("reader")
 def work_list(which: str) -> Any:
     """Shows the concepts that are in the reader's charge, that are due, or of a status."""
-    numbers = listed(which)
+    numbers = concepts_of_list(which)
     if (other := in_other_form(which, lambda: numbers, usual=WORK_COLUMNS)) is not None:
         return other
     page = page_number()
