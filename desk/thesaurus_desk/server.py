@@ -8,6 +8,7 @@ import os
 import signal
 import socket
 import sys
+import tempfile
 import threading
 import webbrowser
 from functools import partial
@@ -22,6 +23,7 @@ from thesaurus_desk.auth.accounts import Accounts, fault_of_name
 from thesaurus_desk.auth.authentication import SingleUserEntry, PasswordEntry, ProxyEntry, Entry, Proxy
 from thesaurus_desk.command_line import LIMITS
 from thesaurus_desk.page_processes import PageProcesses, usual_count
+from thesaurus_desk.sample import GUEST, make_sample
 from thesaurus_desk.settings import Settings
 from thesaurus_desk.store.background_tasks import BackgroundTask
 from thesaurus_desk.store.backups import BackupSettings, DeskBackups
@@ -150,6 +152,15 @@ def serve(given: argparse.Namespace) -> int:
         finally:
             processes.end()
     return DONE
+
+
+def serve_sample(given: argparse.Namespace) -> int:
+    """Makes the sample in a folder of its own, serves it to one person, and returns the exit status."""
+    signal.signal(signal.SIGTERM, end)
+    given.alone = given.alone or GUEST
+    with tempfile.TemporaryDirectory(prefix="thesaurus-sample-") as folder:
+        given.db = make_sample(find_program(given.program), Path(folder), given.alone)
+        return serve(given)
 
 
 def serve_started(

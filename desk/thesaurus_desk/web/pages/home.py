@@ -23,8 +23,7 @@ MOST_RECENT = 8
 FLAWS = ("undefined", "orphans", "alike", "homographs", "plurals", "redundant", "related_siblings", "mapped_twice")
 MOST_FLAWS = 5
 # How whoever runs the desk looks at the sample.
-SAMPLE = """./thesaurus --db sample.db --base https://museum.example/id/ script < examples/instruments.jsonl
-tools/desk --db sample.db --alone anna"""
+SAMPLE = "tools/desk --sample"
 YEAR = 31_536_000
 
 
