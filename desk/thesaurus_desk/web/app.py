@@ -52,6 +52,7 @@ from thesaurus_desk.web.form_keys import install_once, token_field
 from thesaurus_desk.web.help_topics import topic_of
 from thesaurus_desk.web.notices import notice_of_plan
 from thesaurus_desk.web.open_records import OpenRecords
+from thesaurus_desk.web.paths import concept_path, install_paths, path_to
 from thesaurus_desk.web.posting_keys import posting_name
 from thesaurus_desk.web.static_files import install_static_files
 from thesaurus_desk.words import LANGUAGES
@@ -65,27 +66,27 @@ PAGES = (
     *("changes", "past", "releases", "downloads", "proposals", "imports", "replacement", "bulk_changes", "state"),
     *("about", "help", "api"),
 )
-# The pages in the navigation: path, key of its words, the lowest role that sees it, or the act that it is for.
+# The pages in the navigation: route, key of its words, the lowest role that sees it, or the act that it is for.
 NAVIGATION = (
-    ("/tree", "shell.tree", "visitor"),
-    ("/az", "shell.az", "visitor"),
-    ("/collections", "shell.collections", "visitor"),
-    ("/releases", "shell.releases", "visitor"),
-    ("/save", "files.title", "visitor"),
-    ("/record", "shell.records", "reader"),
-    ("/index", "shell.index", "indexer"),
-    ("/lists", "shell.lists", "reader"),
-    ("/bring-in", "shell.bring_in", "indexer"),
-    ("/mapping", "shell.mapping", "editor"),
-    ("/proposals", "shell.proposals", "reader"),
-    ("/for-me", "shell.for_me", "reader"),
-    ("/changes", "shell.changes", "reader"),
-    ("/new", "shell.new", "editor"),
-    ("/fields", "shell.fields", "fields"),
-    ("/users", "shell.users", "head"),
-    ("/rights", "shell.rights", "head"),
-    ("/quality", "shell.quality", "head"),
-    ("/state", "shell.state", "head"),
+    ("tree.tree", "shell.tree", "visitor"),
+    ("search.az", "shell.az", "visitor"),
+    ("tree.collections", "shell.collections", "visitor"),
+    ("releases.releases", "shell.releases", "visitor"),
+    ("downloads.start", "files.title", "visitor"),
+    ("records.record", "shell.records", "reader"),
+    ("indexing.open_record", "shell.index", "indexer"),
+    ("lists.lists", "shell.lists", "reader"),
+    ("imports.bring_in", "shell.bring_in", "indexer"),
+    ("mapping.mapping", "shell.mapping", "editor"),
+    ("proposals.proposals", "shell.proposals", "reader"),
+    ("for_me.for_me", "shell.for_me", "reader"),
+    ("changes.changes", "shell.changes", "reader"),
+    ("create.new_concept", "shell.new", "editor"),
+    ("own_fields.fields", "shell.fields", "fields"),
+    ("users.users", "shell.users", "head"),
+    ("rights.rights", "shell.rights", "head"),
+    ("lists.quality", "shell.quality", "head"),
+    ("state.state", "shell.state", "head"),
 )
 # The blueprints whose answers are for programs.
 FOR_PROGRAMS = ("interfaces", "api")
@@ -111,6 +112,7 @@ def create_app(desk: Desk, entry: Entry, settings: Settings, health: Health | No
     install_languages(app)
     install_words(app)
     install_static_files(app)
+    install_paths(app)
     install_errors(app)
     for name in PAGES:
         app.register_blueprint(import_module(f"thesaurus_desk.web.pages.{name}").pages)
@@ -148,7 +150,7 @@ def source_of(desk: Desk, settings: Settings) -> Source:
         lambda: desk.arrays.now(desk.public_view()),
         desk.releases.edition,
         desk.values.public_fields,
-        page=lambda number: f"/c/{number}",
+        page=concept_path,
         title=settings.title,
     )
 
@@ -166,9 +168,8 @@ def install_words(app: Flask) -> None:
 
     @app.context_processor
     def context() -> dict[str, Any]:
-        paths = {rule.rule for rule in app.url_map.iter_rules()}
-        hidden = set() if app.extensions["entry"].accounts else {"/users"}
-        seen = [(path, key) for path, key, low in NAVIGATION if path in paths - hidden and may_see(low)]
+        hidden = "" if app.extensions["entry"].accounts else "users.users"
+        seen = [(path_to(page), key) for page, key, low in NAVIGATION if page != hidden and may_see(low)]
         return {
             "_": g.words,
             "person": person(),

@@ -17,6 +17,7 @@ from thesaurus_desk.auth.sessions import Session
 from thesaurus_desk.journal.past_replica import PastReplica
 from thesaurus_desk.settings import Settings
 from thesaurus_desk.store.model import best_of
+from thesaurus_desk.web.paths import concept_path
 from thesaurus_desk.words import Words
 from thesaurus_desk.words.field_words import field_name
 from thesaurus_tools.arrays import Places, node_label
@@ -166,7 +167,9 @@ def link(number: int) -> Markup:
     gone = "" if the_replica().is_live(number) else ' class="gone"'
     small = f" <small>{escape(tag)}</small>" if is_other else ""
     # (joined by hand: a page has many, and Markup.format takes long)
-    return Markup(f'<a href="/c/{int(number)}"{lang}{gone} dir="auto">{escape(text)}</a>{small}{status_mark(number)}')
+    return Markup(
+        f'<a href="{concept_path(number)}"{lang}{gone} dir="auto">{escape(text)}</a>{small}{status_mark(number)}'
+    )
 
 
 def link_elsewhere(number: int, iri: str) -> Markup:
@@ -228,7 +231,7 @@ def status_mark(number: int) -> Markup:
 def label_link(number: int) -> Markup:
     """Returns a link to the page of an array, with its name as a node label."""
     tag, text = the_replica().term(number, tags())
-    return Markup('<a href="/c/{}" lang="{}" dir="auto">{}</a>').format(number, tag, node_label(text))
+    return Markup('<a href="{}" lang="{}" dir="auto">{}</a>').format(concept_path(number), tag, node_label(text))
 
 
 def the_places() -> Places[int]:

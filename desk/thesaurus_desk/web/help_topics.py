@@ -79,14 +79,12 @@ TASKS = tuple(
 )
 # The topics of the pages of a blueprint, where it isn't called as its topic, and of single pages.
 OF_BLUEPRINTS = {
-    "coming_in": "account",
-    "find": "search",
-    "bring_in": "import",
+    "create": "new",
+    "imports": "import",
     "own_fields": "fields",
     "values": "lists",
     "work": "lists",
-    "people": "users",
-    "printing": "print",
+    "print_displays": "print",
     "visitors": "proposals",
     "indexing": "index",
     "queue": "index",
@@ -95,7 +93,7 @@ OF_BLUEPRINTS = {
     "list_tables": "tables",
 }
 OF_PAGES = {
-    "find.az": "az",
+    "search.az": "az",
     "tree.schemes": "collections",
     "tree.collections": "collections",
     "lists.quality": "quality",

@@ -13,6 +13,7 @@ from thesaurus_desk.journal.entries import Request
 from thesaurus_desk.journal.queue import KEY, read_indexing
 from thesaurus_desk.web.concept_choice import is_number
 from thesaurus_desk.web.context import link, say, the_desk, the_replica
+from thesaurus_desk.web.paths import path_to
 from thesaurus_desk.web.posting_keys import new_key
 
 SEEN = re.compile(r"([0-9]{1,10})-([0-9]{1,10})")
@@ -85,7 +86,7 @@ def text_of(seen: Standing) -> str:
 
 def page_to_index(name: str) -> str:
     """Returns the path of the page on which a record is indexed."""
-    return f"/index?{urlencode({'record': name})}"
+    return f"{path_to('indexing.open_record')}?{urlencode({'record': name})}"
 
 
 def catalogue_link(record: str) -> str:

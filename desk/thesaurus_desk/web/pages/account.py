@@ -14,8 +14,9 @@ from thesaurus_desk.auth.request_checks import RELOAD, keep_cookie, start_sessio
 from thesaurus_desk.auth.route_roles import role
 from thesaurus_desk.web.context import go, own_path, person, say, session, the_entry, the_settings
 from thesaurus_desk.web.forms import FormState, Problem
+from thesaurus_desk.web.paths import path_to
 
-pages = Blueprint("coming_in", __name__)
+pages = Blueprint("account", __name__)
 ONWARDS = Markup(RELOAD).format("/")
 # The seconds after which one tries again when too many passwords are compared at once.
 MOMENT = 1
@@ -49,7 +50,7 @@ def enter() -> Any:
         abort(404)
     if not entry.use_key(key):
         # (who is in already may have loaded the page again)
-        return redirect("/" if person().name else "/login", 303) if key in entry.used else abort(404)
+        return redirect("/" if person().name else path_to("account.login"), 303) if key in entry.used else abort(404)
     start_session(entry.name, "")
     # (a redirection after a click on another page wouldn't send the new cookie, which is SameSite=Strict)
     return make_response(ONWARDS)
@@ -125,7 +126,7 @@ def log_out() -> Any:
         if entry.accounts is not None and entry.kind == "password":
             entry.accounts.note_ended(ended)
         note_entry(person().name, entry.address(request), "out")
-    answer = redirect("/login", 303)
+    answer = redirect(path_to("account.login"), 303)
     answer.delete_cookie(
         the_settings().cookie, path="/", secure=the_settings().is_secure, httponly=True, samesite="Strict"
     )
@@ -159,7 +160,7 @@ def change_password() -> Any:
     account = accounts_here().find(name)
     assert isinstance(account, Account)
     start_session(name, account.mark)
-    return go("/me?changed=1")
+    return go(f"{path_to('account.me')}?changed=1")
 
 
 def problems_of_password(name: str, address: str) -> list[Problem]:

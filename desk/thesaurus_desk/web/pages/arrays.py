@@ -20,6 +20,7 @@ from thesaurus_desk.web.form_submission import problem_in, submit
 from thesaurus_desk.web.forms import FormState
 from thesaurus_desk.web.pages.create import FORM, known_name, of_same_name, page_of_new
 from thesaurus_desk.web.pages.edit import form_text, given_tag, given_text, is_slip, resource, show_again
+from thesaurus_desk.web.paths import concept_path, path_to
 from thesaurus_tools.fields import ORDER, SUPERORDINATE, WITHIN
 from thesaurus_tools.kinds import BROADER
 
@@ -101,7 +102,7 @@ def array_requests(view: View) -> list[Request]:
 def change_place(number: int) -> Any:
     """Puts a collection below a concept, or within another one; without a name, nowhere."""
     view, field = collection(number), form_text("field", tuple(PLACES))
-    again, then = partial(show_again, number), f"/c/{number}#place"
+    again, then = partial(show_again, number), f"{concept_path(number)}#place"
     new = None
     if form_text("other"):
         chosen = choose(request.form, kinds=(PLACES[field],), scheme=view.scheme, without=number)
@@ -119,7 +120,7 @@ def link_members(number: int) -> Any:
     collection(number)
     kind, above = form_text("kind", BROADER), the_places().superordinate(number)
     members = [int(it) for it in request.form.getlist("member") if is_number(it)]
-    then, again = f"/c/{number}#members", partial(show_again, number)
+    then, again = f"{concept_path(number)}#members", partial(show_again, number)
     if above is None or not members:
         return again(problem_in(form_text("form"), "", say("arrays.none_ticked")), 409)
     requests: list[Request] = [{"do": "link", "kind": kind, "a": it, "b": above} for it in members]
@@ -140,7 +141,7 @@ def order(number: int) -> Any:
     parts = parts_of(the_replica(), the_places(), number, tags())
     moved = next((int(it) for name in ("up", "down") if is_number(it := form_text(name))), None)
     new = None if "alphabetical" in request.form else moved_by_one(parts, moved) if moved else order_of_form(parts)
-    then = f"/c/{number}/order" + (f"#part-{moved}" if moved else "")
+    then = path_to("arrays.order", number=number) + (f"#part-{moved}" if moved else "")
     requests = place_requests(number, ORDER, new)
     return submit("order", requests, then=then, show=again) if requests else redirect(then, 303)
 

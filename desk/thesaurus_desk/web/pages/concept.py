@@ -26,6 +26,7 @@ from thesaurus_desk.web.context import (
 )
 from thesaurus_desk.web.forms import FormState
 from thesaurus_desk.web.journal_text import tell_plans
+from thesaurus_desk.web.paths import concept_path
 from thesaurus_desk.web.posting_keys import new_key
 from thesaurus_desk.web.resource_history import history_of
 from thesaurus_desk.web.spreadsheets import rows_of_postings, sheet, sheet_of_rows
@@ -294,7 +295,7 @@ def count_below(number: int) -> BaseResponse:
     if the_replica().kind(number) != "concept":
         abort(404)
     the_desk().below.count(number)
-    return redirect(f"/c/{number}#records", 303)
+    return redirect(f"{concept_path(number)}#records", 303)
 
 
 @pages.get("/c/<int:number>/records.csv")

@@ -17,11 +17,12 @@ from thesaurus_desk.web.context import person, say, tags, the_replica, the_right
 from thesaurus_desk.web.form_submission import problem_in, submit
 from thesaurus_desk.web.forms import FormState, Problem
 from thesaurus_desk.web.pages.edit import form_text, given_tag, given_text, is_slip
+from thesaurus_desk.web.paths import concept_path, path_to
 from thesaurus_desk.web.work_views import work_of
 from thesaurus_tools.fields import tidy
 from thesaurus_tools.kinds import BROADER
 
-pages = Blueprint("new", __name__)
+pages = Blueprint("create", __name__)
 
 FORM = "new"
 # How many further languages the form has fields for.
@@ -140,9 +141,11 @@ def page_after(above: int | None, scheme: int) -> Any:
 
     def path(outcome: Outcome) -> str:
         if form_text("then") != "another":
-            return f"/c/{outcome.made}"
+            return concept_path(outcome.made)
         more = "&more=1" if has_more() else ""
-        return f"/new?scheme={scheme}&kind={form_text('kind', BROADER)}{more}" + (f"&parent={above}" if above else "")
+        return f"{path_to('create.new_concept')}?scheme={scheme}&kind={form_text('kind', BROADER)}{more}" + (
+            f"&parent={above}" if above else ""
+        )
 
     return path
 
@@ -221,4 +224,4 @@ def scheme_page(state: FormState, status: int) -> Any:
 
 def page_of_new(outcome: Outcome) -> str:
     """Returns the page of what was made."""
-    return f"/c/{outcome.made}"
+    return concept_path(outcome.made)

@@ -15,6 +15,7 @@ from thesaurus_desk.interfaces.whole_thesaurus import response_of
 from thesaurus_desk.journal.releases import Release
 from thesaurus_desk.store.saved_files import Busy, SavedFile, SavedFiles, FileOrder
 from thesaurus_desk.web.context import tags, the_desk
+from thesaurus_desk.web.paths import path_to
 from thesaurus_tools.file_forms import FORMS, Choice
 
 pages = Blueprint("downloads", __name__)
@@ -110,7 +111,11 @@ def make() -> Any:
         found = the_files().ask(wish, it.file_name())
     except Busy:
         return later(render_template("downloads/state.html", file=None), 503)
-    return file_answer(found) if found.is_there(PATIENCE) else redirect(f"/save/file/{found.ticket}", 303)
+    return (
+        file_answer(found)
+        if found.is_there(PATIENCE)
+        else redirect(path_to("downloads.wait", ticket=found.ticket), 303)
+    )
 
 
 @pages.get("/save/file/<ticket>")
@@ -119,10 +124,10 @@ def wait(ticket: str) -> Any:
     """Returns a file that was asked for, or says that it is being made."""
     found = the_files().find(ticket)
     if found is None:
-        return redirect("/save", 303)
+        return redirect(path_to("downloads.start"), 303)
     if found.is_there(PATIENCE):
         return file_answer(found)
-    return later(render_template("downloads/state.html", file=found), 202, f"/save/file/{ticket}")
+    return later(render_template("downloads/state.html", file=found), 202, path_to("downloads.wait", ticket=ticket))
 
 
 def later(page: str, status: int, path: str = "") -> Response:

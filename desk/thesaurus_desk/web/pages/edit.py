@@ -15,6 +15,7 @@ from thesaurus_desk.web.context import own_path, say, the_replica
 from thesaurus_desk.web.form_submission import problem_in, submit
 from thesaurus_desk.web.forms import FormState
 from thesaurus_desk.web.pages.concept import resource_page
+from thesaurus_desk.web.paths import concept_path
 from thesaurus_tools.entities import entity_address
 from thesaurus_tools.kinds import BROADER, LABEL_KINDS, MAPPINGS
 
@@ -87,7 +88,7 @@ def add_term(number: int) -> Any:
     if is_slip(tag):
         return show_again(number, problem_in(form_text("form"), "tag", say("refusals.BadTag.text", tag=tag)), 409)
     label = {"do": "addLabel", "owner": number, "kind": kind, "tag": tag, "text": given_text()}
-    then = next_or(f"/c/{number}#at-add-term")
+    then = next_or(f"{concept_path(number)}#at-add-term")
     return submit("add_term", [label], then=then, show=partial(show_again, number))
 
 
@@ -98,7 +99,7 @@ def change_term(number: int) -> Any:
     resource(number)
     kind, tag, old, text = form_text("kind", LABEL_KINDS), given_tag(), request.form.get("old", ""), given_text()
     if old == text:
-        return redirect(f"/c/{number}#terms", 303)
+        return redirect(f"{concept_path(number)}#terms", 303)
     requests: list[Request]
     if kind == "pref":
         requests = [{"do": "relabel", "owner": number, "tag": tag, "text": text, "keep": "keep" in request.form}]
@@ -106,7 +107,7 @@ def change_term(number: int) -> Any:
         label = {"owner": number, "kind": kind, "tag": tag}
         requests = [{"do": "addLabel", **label, "text": text}, {"do": "dropLabel", **label, "text": old}]
     action = "rename" if kind == "pref" else "change_term"
-    return submit(action, requests, then=f"/c/{number}#terms", show=partial(show_again, number))
+    return submit(action, requests, then=f"{concept_path(number)}#terms", show=partial(show_again, number))
 
 
 @pages.post("/c/<int:number>/terms/prefer")
@@ -121,7 +122,7 @@ def prefer_term(number: int) -> Any:
     else:
         requests.append({"do": "addLabel", "owner": number, "kind": "pref", "tag": tag, "text": text})
     again = partial(show_again, number)
-    return submit("prefer_term", requests, then=f"/c/{number}#terms", show=again, hidden=("text",))
+    return submit("prefer_term", requests, then=f"{concept_path(number)}#terms", show=again, hidden=("text",))
 
 
 @pages.post("/c/<int:number>/terms/remove")
@@ -132,7 +133,7 @@ def remove_term(number: int) -> Any:
     kind, tag = form_text("kind", LABEL_KINDS), given_tag()
     label = {"do": "dropLabel", "owner": number, "kind": kind, "tag": tag, "text": request.form.get("text", "")}
     again = partial(show_again, number)
-    return submit("remove_term", [label], then=f"/c/{number}#terms", show=again, hidden=("text",))
+    return submit("remove_term", [label], then=f"{concept_path(number)}#terms", show=again, hidden=("text",))
 
 
 # --- links ---
@@ -146,14 +147,19 @@ def add_link(number: int) -> Any:
     again = partial(show_again, number)
     iri = match_address(form_text("other")) if kind in MAPPINGS else ""
     if kind in MAPPINGS and is_outside_iri(iri):
-        return submit("add_link", match_requests(number, kind, iri), then=f"/c/{number}#at-{form}", show=again)
+        return submit(
+            "add_link", match_requests(number, kind, iri), then=f"{concept_path(number)}#at-{form}", show=again
+        )
     chosen = choose_end(view, kind)
     if chosen.number is None:
         if kind in MAPPINGS and iri and not chosen.choices:
             chosen = ConceptChoice(None, say("refusals.Choice.match", text=iri))
         return again(needs_choice(form, request.form, chosen), 409)
     return submit(
-        "add_link", [link_request("link", number, kind, chosen.number)], then=f"/c/{number}#at-{form}", show=again
+        "add_link",
+        [link_request("link", number, kind, chosen.number)],
+        then=f"{concept_path(number)}#at-{form}",
+        show=again,
     )
 
 
@@ -201,7 +207,9 @@ def remove_link(number: int) -> Any:
     """Removes a link."""
     resource(number)
     link = {"do": "unlink", "kind": form_text("kind", LINK_KINDS), "a": given_number("a"), "b": given_number("b")}
-    return submit("remove_link", [link], then=next_or(f"/c/{number}#links"), show=partial(show_again, number))
+    return submit(
+        "remove_link", [link], then=next_or(f"{concept_path(number)}#links"), show=partial(show_again, number)
+    )
 
 
 @pages.post("/c/<int:number>/members/remove")
@@ -212,7 +220,7 @@ def remove_members(number: int) -> Any:
     requests: list[Request] = [{"do": "unlink", "kind": "member", "a": number, "b": it} for it in view.members]
     if not requests:
         return again(problem_in("remove-members", "", say("edit.collection_stays")), 409)
-    then, is_long = f"/c/{number}#members", len(requests) > LONGEST_PLAN
+    then, is_long = f"{concept_path(number)}#members", len(requests) > LONGEST_PLAN
     return submit("remove_members", requests, then=then, show=again, may_cut=is_long)
 
 
@@ -227,9 +235,9 @@ def retype_link(number: int) -> Any:
         {"a": given_number("a"), "b": given_number("b")},
     )
     if old == kind:
-        return redirect(f"/c/{number}#links", 303)
+        return redirect(f"{concept_path(number)}#links", 303)
     requests: list[Request] = [{"do": "link", "kind": kind, **ends}, {"do": "unlink", "kind": old, **ends}]
-    return submit("retype_link", requests, then=f"/c/{number}#links", show=partial(show_again, number))
+    return submit("retype_link", requests, then=f"{concept_path(number)}#links", show=partial(show_again, number))
 
 
 @pages.post("/c/<int:number>/deprecate")
@@ -240,5 +248,8 @@ def deprecate(number: int) -> Any:
     if not the_replica().is_live(number):
         return show_again(number, problem_in("deprecate", "", say("edit.is_dead")), 409)
     return submit(
-        "deprecate", [{"do": "deprecate", "concept": number}], then=f"/c/{number}", show=partial(show_again, number)
+        "deprecate",
+        [{"do": "deprecate", "concept": number}],
+        then=concept_path(number),
+        show=partial(show_again, number),
     )

@@ -14,6 +14,7 @@ from thesaurus_desk.journal.watches import KINDS, News, Watch, Watcher
 from thesaurus_desk.web.context import go, own_path, person, say, the_desk, the_entry, the_replica, words
 from thesaurus_desk.web.journal_text import tell_plans
 from thesaurus_desk.web.pages.edit import form_text, given_number
+from thesaurus_desk.web.paths import concept_path, path_to
 from thesaurus_desk.words import Words
 
 pages = Blueprint("for_me", __name__)
@@ -78,7 +79,7 @@ def note_read() -> Any:
     watcher, at = watches.watcher(person().name), form_text("at")
     if watcher is not None and watcher.seen < at <= now():
         watches.note_seen(watcher.user, at)
-    return go("/for-me")
+    return go(path_to("for_me.for_me"))
 
 
 @pages.post("/for-me/address")
@@ -88,7 +89,7 @@ def renew_address() -> Any:
     watches = the_desk().watches
     if watcher := watches.watcher(person().name):
         watches.renew_secret(watcher.user)
-    return go("/for-me")
+    return go(path_to("for_me.for_me"))
 
 
 # --- feeds ---
@@ -101,7 +102,7 @@ def public_feed() -> Any:
     since = time_text(datetime.now(UTC) - FEED_SINCE)
     replica = the_desk().public_view()
     shown = [(it, at) for it, at in the_desk().history.changed_since(since) if replica.get(it)][:MOST_ENTRIES]
-    return feed([Entry(f"/c/{it}", at, replica.term(it, [words().language])[1]) for it, at in shown], "feed.xml")
+    return feed([Entry(concept_path(it), at, replica.term(it, [words().language])[1]) for it, at in shown], "feed.xml")
 
 
 @pages.get("/feed/<secret>.xml")
@@ -122,20 +123,20 @@ def entries_of(news: News) -> list[Entry]:
     store = the_desk().replica
     name = {it: store.term(it, [words().language])[1] for it in (*news.changes, *(it.number for it in news.comments))}
     found = [
-        Entry(f"/c/{it}", plan.at, name[it], Markup("{}").format(plan.user))
+        Entry(concept_path(it), plan.at, name[it], Markup("{}").format(plan.user))
         for it, plans in news.changes.items()
         for plan in plans
     ]
     found += [
         Entry(
-            f"/proposals/{it.id}",
+            path_to("proposals.show_proposal", number=it.id),
             it.decided_at or "",
             f"{say('for_me.proposal', n=it.id)} {say(f'proposals.state.{it.state}')}",
         )
         for it in news.proposals
     ]
     found += [
-        Entry(f"/c/{it.number}", it.at, name[it.number], Markup("{}: {}").format(it.user, it.text))
+        Entry(concept_path(it.number), it.at, name[it.number], Markup("{}: {}").format(it.user, it.text))
         for it in news.comments
     ]
     return sorted(found, key=lambda it: it.at, reverse=True)

@@ -53,6 +53,7 @@ from thesaurus_desk.web.context import (
 )
 from thesaurus_desk.web.forms import FormState, Problem
 from thesaurus_desk.web.journal_text import LINKS, PageLinks, tell_outcome
+from thesaurus_desk.web.paths import concept_path, path_to
 from thesaurus_desk.web.refusals import explain
 from thesaurus_desk.web.request_text import sentence_of
 from thesaurus_desk.web.spreadsheets import sheet_of_rows
@@ -64,7 +65,7 @@ from thesaurus_tools.headings import ColumnsError
 from thesaurus_tools.row_runner import RowPlan
 from thesaurus_tools.table_plans import KINDS, NewConceptsError, TableOptions
 
-pages = Blueprint("bring_in", __name__)
+pages = Blueprint("imports", __name__)
 # A form with a file: the file, and some room for the rest.
 LARGEST = MOST_BYTES + (1 << 16)
 # How many rows a page shows.
@@ -166,7 +167,7 @@ def bring_postings() -> Any:
             "postings", explain(brought.answer or {}, {"do": "import"}, the_replica(), words(), LINKS)
         )
     brought.name = name
-    return redirect(f"/bring-in/result/{keep(brought)}", 303)
+    return redirect(path_to("imports.result", name=keep(brought)), 303)
 
 
 def postings_page(brought: PostingImport, kept: str) -> Any:
@@ -340,7 +341,7 @@ def perform_table() -> Any:
     last = max((it.line for it in run.rows), default=0)
     leave_out(run, numbers_of(request.form.get("offered", ""), last) - ticked_numbers("row"))
     run_table(the_desk(), run, the_importer())
-    return redirect(f"/bring-in/result/{keep(run)}", 303)
+    return redirect(path_to("imports.result", name=keep(run)), 303)
 
 
 def leave_out(run: TableRun, lines: set[int]) -> None:
@@ -357,7 +358,7 @@ def result(name: str) -> Any:
     brought = the_uploads().find(person().name, name, PostingImport)
     if brought is not None:
         return postings_page(brought, name)
-    return table_page(run, name, 200) if run is not None else go("/changes")
+    return table_page(run, name, 200) if run is not None else go(path_to("changes.changes"))
 
 
 # --- SKOS ---
@@ -473,7 +474,7 @@ def bring_vocabulary(run: SkosRun) -> Any:
         return refusal_answer("skos", say(why), "")
     outcome = perform_script(the_desk(), person().name, run)
     if outcome.is_done:
-        return go(f"/c/{run.scheme}" if run.scheme else "/", run.batch.plan if run.batch else outcome.plan)
+        return go(concept_path(run.scheme) if run.scheme else "/", run.batch.plan if run.batch else outcome.plan)
     run.is_cut = True
     return render_template("bring_in/skos.html", run=run, name="", outcome=outcome, before=None), 409
 
@@ -505,4 +506,8 @@ def go_on(plan: int) -> Any:
 def go_on_taking_back(batch: Batch, requests: list[Request]) -> Any:
     """Takes the rest of a long change back, and leads to the changes; or shows why that isn't done."""
     outcome = the_desk().go_on_taking_back(person().name, batch, requests)
-    return go("/changes", batch.plan) if outcome.is_done else refusal_answer("table", tell_outcome(outcome), "")
+    return (
+        go(path_to("changes.changes"), batch.plan)
+        if outcome.is_done
+        else refusal_answer("table", tell_outcome(outcome), "")
+    )

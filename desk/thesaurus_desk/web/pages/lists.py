@@ -24,6 +24,7 @@ from thesaurus_desk.web.context import may_act, page_number, person, say, tags, 
 from thesaurus_desk.web.list_forms import in_other_form
 from thesaurus_desk.web.pages.search import number_of
 from thesaurus_desk.web.pages.values import counts_without
+from thesaurus_desk.web.paths import path_to
 from thesaurus_desk.web.spreadsheets import is_table_asked, sheet_of_rows
 from thesaurus_desk.web.work_views import list_counts, today
 from thesaurus_desk.words.languages import language_name
@@ -32,14 +33,14 @@ pages = Blueprint("lists", __name__)
 LIST_PAGE, GROUP_PAGE, MOST_LANGUAGES = 500, 200, 40
 # Where the concept of a list is mended, and the lowest role that does it, or the act; the words are `lists.cure.NAME`.
 CURES = {
-    "undefined": ("/c/{}?add=definition#at-add-definition", "editor"),
-    "orphans": ("/c/{}/move", "editor"),
-    "single_child": ("/new?parent={}", "editor"),
-    "deep": ("/c/{}/move", "editor"),
-    "wide": ("/new/array?concept={}", "editor"),
-    "unmapped": ("/c/{}?open=add-match#at-add-match", "editor"),
-    "busiest": ("/c/{}/split", "split"),
-    "dead_ends": ("/c/{}#history", "reader"),
+    "undefined": ("concept.show", "?add=definition#at-add-definition", "editor"),
+    "orphans": ("move.move", "", "editor"),
+    "single_child": ("create.new_concept", "?parent={}", "editor"),
+    "deep": ("move.move", "", "editor"),
+    "wide": ("arrays.new_array", "?concept={}", "editor"),
+    "unmapped": ("concept.show", "?open=add-match#at-add-match", "editor"),
+    "busiest": ("split.split", "", "split"),
+    "dead_ends": ("concept.show", "#history", "reader"),
 }
 # What the sentence about a list names.
 BOUNDS = {"deep": MOST_LEVELS, "wide": MOST_NARROWER}
@@ -105,14 +106,19 @@ def work_list(kind: str) -> Any:
         cure=cure_of(kind),
         bound=BOUNDS.get(kind),
         counts=replica.count_records,
-        path=f"/lists/{kind}?{urlencode(chosen)}" if chosen else f"/lists/{kind}",
+        path=f"{path_to('lists.work_list', kind=kind)}?{urlencode(chosen)}"
+        if chosen
+        else path_to("lists.work_list", kind=kind),
     )
 
 
 def cure_of(kind: str) -> str:
-    """Returns where the reader mends a concept of a list, if there is such a page."""
-    path, lowest = CURES.get(kind, ("", "reader"))
-    return path if (may_act(lowest) if lowest in ACTS else person().may(lowest)) else ""
+    """Returns where the reader mends a concept of a list, with braces for its number, if there is such a page."""
+    if kind not in CURES:
+        return ""
+    page, rest, lowest = CURES[kind]
+    path = path_to(page) if "{}" in rest else path_to(page, number="{}")
+    return path + rest if (may_act(lowest) if lowest in ACTS else person().may(lowest)) else ""
 
 
 # --- over time ---

@@ -26,6 +26,7 @@ from thesaurus_desk.web.form_submission import problem_in, submit
 from thesaurus_desk.web.forms import FormState
 from thesaurus_desk.web.pages.edit import form_text, given_number, link_request, resource
 from thesaurus_desk.web.pages.imports import LARGEST, keep, table_page, the_importer
+from thesaurus_desk.web.paths import path_to
 from thesaurus_tools.headings import find_columns
 from thesaurus_tools.kinds import MAPPINGS
 from thesaurus_tools.spreadsheets import Row
@@ -136,7 +137,7 @@ def load() -> Any:
         return start_page(problem_in("load", "file", say("mapping.no_dump", ends=", ".join(ENDS))), 409)
     if not the_loads().start(name, sent.filename[:200], sent.read()):
         return start_page(problem_in("load", "", say("mapping.loading_another")), 409)
-    return go("/mapping#load")
+    return go(f"{path_to('mapping.mapping')}#load")
 
 
 # --- concepts of a vocabulary ---
@@ -166,7 +167,7 @@ def concepts(number: int) -> Any:
             matches=progress.mapped(),
             link_elsewhere=link_elsewhere,
             size=PAGE,
-            path=f"/mapping/{number}?state={state}&scheme={scheme or ''}",
+            path=f"{path_to('mapping.concepts', number=number)}?state={state}&scheme={scheme or ''}",
         )
 
 
@@ -221,7 +222,7 @@ def decide(number: int, concept: int) -> Any:
     """Maps a concept to a candidate; or notes that one is none, that there is none, or that it waits."""
     vocabulary, view, do, iri = vocabulary_of(number), concept_of(concept), form_text("do"), form_text("iri")
     again, desk = partial(side_by_side, vocabulary, view), the_desk()
-    here = f"/mapping/{number}/c/{concept}?scheme={scheme_asked() or ''}"
+    here = f"{path_to('mapping.candidates', number=number, concept=concept)}?scheme={scheme_asked() or ''}"
     if do in MAPPINGS:
         if not iri:
             return again(problem_in(FORM, "", say("mapping.choose")), 409)
@@ -253,8 +254,12 @@ def next_page(vocabulary: Vocabulary, concept: int) -> str:
     with the_desk().vocabularies.reading():
         left = [it for it in progress_of(vocabulary).by_state(scheme)[LEFT] if it != concept]
     following = next((it for it in left if it > concept), left[0] if left else None)
-    part = f"/c/{following}" if following else ""
-    return f"/mapping/{vocabulary.id}{part}?scheme={scheme or ''}"
+    number = vocabulary.id
+    if following:
+        path = path_to("mapping.candidates", number=number, concept=following)
+    else:
+        path = path_to("mapping.concepts", number=number)
+    return f"{path}?scheme={scheme or ''}"
 
 
 # --- all that have the same label ---
@@ -342,7 +347,7 @@ def changed_page(vocabulary: Vocabulary, state: FormState, status: int) -> Any:
 def mend(number: int) -> Any:
     """Takes the new name of a target; or maps a concept to what replaces its target, or to nothing."""
     vocabulary, do, iri = vocabulary_of(number), form_text("do", ("rename", "follow", "remove")), form_text("iri")
-    here = f"/mapping/{number}/changed"
+    here = path_to("mapping.changed", number=number)
     if do == "rename":
         the_desk().decisions.accept_names([iri])
         return go(here)

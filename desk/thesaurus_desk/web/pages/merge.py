@@ -20,6 +20,7 @@ from thesaurus_desk.web.forms import FormState, Problem
 from thesaurus_desk.web.journal_text import LINKS
 from thesaurus_desk.web.merge_preview import MergePreview, foresee_merge
 from thesaurus_desk.web.pages.move import live_concept
+from thesaurus_desk.web.paths import concept_path
 from thesaurus_desk.web.refusals import explain, label_of
 from thesaurus_desk.web.value_copies import copies_to, copy_requests
 from thesaurus_desk.web.work_views import work_of
@@ -52,7 +53,7 @@ def merge(number: int) -> Any:
         return again(FormState(), 200)
     if "sure" not in request.form:
         return again(problem_in(FORM, "sure", say("merge.tick")), 409)
-    return submit("merge", merge_requests(source, target), then=f"/c/{target.number}", show=again)
+    return submit("merge", merge_requests(source, target), then=concept_path(target.number), show=again)
 
 
 def wrong_target(source: View, target: View | None) -> str:

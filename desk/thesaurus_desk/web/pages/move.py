@@ -20,6 +20,7 @@ from thesaurus_desk.web.form_submission import problem_in, submit
 from thesaurus_desk.web.forms import FormState
 from thesaurus_desk.web.journal_text import tell_conflict
 from thesaurus_desk.web.pages.edit import form_text, resource
+from thesaurus_desk.web.paths import concept_path
 from thesaurus_tools.kinds import BROADER
 
 pages = Blueprint("move", __name__)
@@ -83,7 +84,7 @@ def move(number: int) -> Any:
         return again(problem_in(FORM, "other", say("move.same", concept=link(number), above=link(target))), 409)
     if len(requests) > LONGEST_PLAN:
         return again(problem_in(FORM, "", say("move.too_many", n=len(moved), most=LONGEST_PLAN // 2)), 409)
-    return submit("move", requests, then=f"/c/{number}", show=again)
+    return submit("move", requests, then=concept_path(number), show=again)
 
 
 def show_again(view: View, state: FormState, status: int, others: Sequence[int] = ()) -> Any:

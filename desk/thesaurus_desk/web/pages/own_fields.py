@@ -11,6 +11,7 @@ from thesaurus_desk.auth.route_roles import role
 from thesaurus_desk.web.context import say, the_desk, the_fields
 from thesaurus_desk.web.forms import FormState, Problem
 from thesaurus_desk.web.pages.edit import form_text
+from thesaurus_desk.web.paths import path_to
 from thesaurus_desk.words import LANGUAGES
 from thesaurus_tools.export_values import DATES, OF_VOCABULARY
 from thesaurus_tools.fields import IRI, KINDS, LINE, NAME, OWNERS, WITH_PAGES, WORK, Field, tidy
@@ -55,7 +56,7 @@ def make_field() -> Any:
     if problems := problems_of(made, the_fields()):
         return fields_page(FormState(FORM, request.form, problems), 409)
     the_desk().values.write_field(replace(made, place=len(own_fields())))
-    return redirect(f"/fields#field-{made.name}", 303)
+    return redirect(f"{path_to('own_fields.fields')}#field-{made.name}", 303)
 
 
 def own_fields() -> list[Field]:
@@ -133,13 +134,13 @@ def change_field(name: str) -> Any:
         return save_field(field)
     if do in ("up", "down"):
         move_field(field, -1 if do == "up" else 1)
-        return redirect(f"/fields#field-{name}", 303)
+        return redirect(f"{path_to('own_fields.fields')}#field-{name}", 303)
     if do in ("retire", "resume"):
         field = replace(field, is_retired=do == "retire")
     else:
         field = replace(field, is_public=do == "publish")
     the_desk().values.write_field(field)
-    return redirect(f"/fields#field-{name}", 303)
+    return redirect(f"{path_to('own_fields.fields')}#field-{name}", 303)
 
 
 def save_field(field: Field) -> Any:
@@ -149,7 +150,7 @@ def save_field(field: Field) -> Any:
     if problems := problems_of(changed, others):
         return fields_page(FormState(CHANGING, request.form, problems), 409, field)
     the_desk().values.write_field(changed)
-    return redirect(f"/fields#field-{field.name}", 303)
+    return redirect(f"{path_to('own_fields.fields')}#field-{field.name}", 303)
 
 
 def move_field(field: Field, by: int) -> None:

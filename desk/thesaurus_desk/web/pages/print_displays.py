@@ -14,6 +14,7 @@ from thesaurus_desk.store.model import View
 from thesaurus_desk.store.text_keys import has_language, sort_key
 from thesaurus_desk.web.context import begin_transaction, person, tags, the_replica, the_places, words
 from thesaurus_desk.web.field_views import public_values
+from thesaurus_desk.web.paths import path_to
 from thesaurus_desk.web.spreadsheets import is_table_asked, sheet
 from thesaurus_desk.web.work_views import work_of
 from thesaurus_desk.words import LANGUAGES, Words
@@ -21,7 +22,7 @@ from thesaurus_desk.words.field_words import field_name
 from thesaurus_tools.arrays import node_label
 from thesaurus_tools.fields import DESCRIPTION
 
-pages = Blueprint("printing", __name__)
+pages = Blueprint("print_displays", __name__)
 FORMS = ("alphabetical", "hierarchical")
 # The name of a kind of notes, and a note.
 Note = tuple[str, str]
@@ -194,5 +195,5 @@ def display(number: int) -> Any:
         has_notes="notes" in request.args,
         has_candidates=has_candidates,
         with_candidates=with_candidates,
-        path=f"/print/{number}?{urlencode({'form': form, 'in': lang})}",
+        path=f"{path_to('print_displays.display', number=number)}?{urlencode({'form': form, 'in': lang})}",
     )

@@ -31,6 +31,7 @@ from thesaurus_desk.web.forms import FormState, Problem
 from thesaurus_desk.web.journal_text import LINKS, tell_outcome, tell_plans, tell_step
 from thesaurus_desk.web.pages.edit import form_text
 from thesaurus_desk.web.pages.search import number_of
+from thesaurus_desk.web.paths import concept_path, path_to
 from thesaurus_desk.web.proposal_forms import (
     FORM,
     KINDS,
@@ -74,7 +75,9 @@ def proposals() -> Any:
     chosen = state if state in (*STATES, OWN) else "open"
     which_state, user = (None, person().name) if chosen == OWN else (chosen, None)
     found = the_proposals().find(state=which_state, user=user, before=number_of("before"), most=PAGE + 1)
-    further = f"/proposals?state={chosen}&before={found[PAGE - 1].id}" if len(found) > PAGE else ""
+    further = (
+        f"{path_to('proposals.proposals')}?state={chosen}&before={found[PAGE - 1].id}" if len(found) > PAGE else ""
+    )
     unread = the_proposals().unread(person().name, PAGE)
     page = render_template(
         "proposals/list.html",
@@ -209,7 +212,7 @@ def propose() -> Any:
         return propose_page(asked.wrong, 409, asked.alike)
     action = f"proposals.kind.{kind if field is None else 'value'}"
     made = the_proposals().propose(person().name, action, asked.requests, form_text("reason"), number)
-    return go(f"/proposals/{made}")
+    return go(path_to("proposals.show_proposal", number=made))
 
 
 # --- deciding ---
@@ -232,7 +235,7 @@ def accept_now(proposal: Proposal) -> Any:
     """Performs a proposal that is open, and shows what came of it."""
     number = proposal.id
     if proposal.state != "open":
-        return go(f"/proposals/{number}")
+        return go(path_to("proposals.show_proposal", number=number))
     word = request.form.get("word", "").strip()
     if len(word) > LONGEST_TEXT:
         return refusal_answer(number, "accept", "word", too_long(word))
@@ -241,14 +244,14 @@ def accept_now(proposal: Proposal) -> Any:
     requests = accepted_requests(proposal)
     if not requests:
         the_proposals().decide(number, "accepted", person().name, word)
-        return go(f"/proposals/{number}")
+        return go(path_to("proposals.show_proposal", number=number))
     if why := the_rights().refusal(requests, person().role):
         return refusal_answer(number, "accept", "", say(why))
     accepted = Acceptance(number, proposal.user, word)
     outcome = the_desk().perform(person().name, "accept", requests, accepted=accepted)
     if not outcome.is_done:
         return refusal_answer(number, "accept", "", tell_outcome(outcome))
-    return go(f"/proposals/{number}", outcome.plan)
+    return go(path_to("proposals.show_proposal", number=number), outcome.plan)
 
 
 def last_seen() -> int:
@@ -299,7 +302,7 @@ def decline(number: int) -> Any:
         if not is_free:
             return busy_page(number, "decline")
         the_proposals().decide(number, "declined", person().name, word)
-    return go(f"/proposals/{number}")
+    return go(path_to("proposals.show_proposal", number=number))
 
 
 @pages.post("/proposals/<int:number>/withdraw")
@@ -312,7 +315,7 @@ def withdraw(number: int) -> Any:
         if not is_free:
             return busy_page(number, "withdraw")
         the_proposals().decide(number, "withdrawn", person().name)
-    return go(f"/proposals/{number}")
+    return go(path_to("proposals.show_proposal", number=number))
 
 
 def busy_page(number: int, form: str) -> Any:
@@ -334,7 +337,7 @@ def comment(number: int) -> Any:
         abort(413)
     if text:
         the_proposals().comment(person().name, number, text)
-    return go(f"/c/{number}#comments")
+    return go(f"{concept_path(number)}#comments")
 
 
 @pages.post("/c/<int:number>/comments/<int:which>/remove")
@@ -347,4 +350,4 @@ def remove_comment(number: int, which: int) -> Any:
     if found.user != person().name and not person().may("head"):
         abort(403)
     the_proposals().remove_comment(which, person().name)
-    return go(f"/c/{number}#comments")
+    return go(f"{concept_path(number)}#comments")

@@ -19,6 +19,7 @@ from thesaurus_desk.web.form_submission import problem_in
 from thesaurus_desk.web.forms import FormState
 from thesaurus_desk.web.open_records import the_open_records
 from thesaurus_desk.web.pages.edit import form_text
+from thesaurus_desk.web.paths import path_to
 from thesaurus_desk.web.record_forms import page_to_index
 from thesaurus_tools.command_line import ToolError
 from thesaurus_tools.files import TableError
@@ -68,7 +69,7 @@ def path_of_next() -> str:
     # (more than others may open in the meantime)
     waiting = the_desk().queue.in_state("waiting", MOST_SHOWN, opened)
     found = the_open_records().take(waiting, person().name)
-    return page_to_index(found) if found else "/index"
+    return page_to_index(found) if found else path_to("indexing.open_record")
 
 
 @pages.get("/index/quality")
@@ -95,7 +96,7 @@ def bring_records() -> Any:
     except ToolError as error:
         return queue_page(problem_in("records", "file", str(error)), 409)
     new = keep(texts)
-    return redirect(f"/index?read={len(texts)}&new={new}&left={left}", 303)
+    return redirect(f"{path_to('indexing.open_record')}?read={len(texts)}&new={new}&left={left}", 303)
 
 
 def keep(texts: list[RecordText]) -> int:
@@ -116,4 +117,4 @@ def settle_indexing() -> Any:
     if annif and not ADDRESS.fullmatch(annif):
         return queue_page(problem_in("settings", "annif", say("indexing.wrong_service")), 409)
     write_indexing(the_desk().journal, IndexingSettings(catalogue, annif))
-    return redirect("/index#settings", 303)
+    return redirect(f"{path_to('indexing.open_record')}#settings", 303)

@@ -16,6 +16,7 @@ from thesaurus_desk.web.form_submission import problem_in, submit
 from thesaurus_desk.web.forms import FormState
 from thesaurus_desk.web.journal_text import PlanText, tell_plan
 from thesaurus_desk.web.pages.edit import form_text, given_number, resource, show_again
+from thesaurus_desk.web.paths import concept_path, path_to
 from thesaurus_desk.web.posting_keys import new_key
 from thesaurus_desk.web.record_forms import catalogue_link, post, withdrawal
 
@@ -38,7 +39,9 @@ def add_record(number: int) -> Any:
     requests, check = [post(record, number, form_text("key"))], partial(
         known_indexing, "post", "record", record, number
     )
-    return submit("post", requests, then=f"/c/{number}#at-post", show=partial(show_again, number), check=check)
+    return submit(
+        "post", requests, then=f"{concept_path(number)}#at-post", show=partial(show_again, number), check=check
+    )
 
 
 @pages.post("/c/<int:number>/postings/withdraw")
@@ -47,7 +50,7 @@ def withdraw_record(number: int) -> Any:
     """Withdraws a posting of a concept."""
     resource(number)
     requests = [withdrawal(given_number("posting"))]
-    return submit("withdraw", requests, then=f"/c/{number}#records", show=partial(show_again, number))
+    return submit("withdraw", requests, then=f"{concept_path(number)}#records", show=partial(show_again, number))
 
 
 def known_indexing(form: str, field: str, record: str, concept: int) -> FormState | None:
@@ -99,7 +102,7 @@ def record_page(name: str, state: FormState, status: int) -> Any:
 
 def page_of_record(name: str) -> str:
     """Returns the path of the page of a record."""
-    return f"/record?{urlencode({'name': name})}"
+    return f"{path_to('records.record')}?{urlencode({'name': name})}"
 
 
 @pages.post("/record/add")

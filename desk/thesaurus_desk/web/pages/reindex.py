@@ -15,6 +15,7 @@ from thesaurus_desk.web.form_submission import problem_in, submit
 from thesaurus_desk.web.forms import FormState
 from thesaurus_desk.web.pages.edit import form_text, resource
 from thesaurus_desk.web.pages.records import reindex_requests
+from thesaurus_desk.web.paths import concept_path, path_to
 from thesaurus_desk.web.record_forms import withdrawal
 from thesaurus_desk.web.tick_lists import is_looking, ticks_of
 
@@ -50,7 +51,11 @@ def perform(number: int, again: partial[Any]) -> Any:
     if len(numbers) > MOST_AT_ONCE:
         return again(problem_in(FORM, "", say("records.too_many", n=len(numbers), most=MOST_AT_ONCE)), 409)
     postings = the_replica().postings.several(numbers)
-    then = f"/c/{number}/records" if len(numbers) < the_replica().postings.count_at(number) else f"/c/{number}"
+    then = (
+        path_to("reindex.reindex_many", number=number)
+        if len(numbers) < the_replica().postings.count_at(number)
+        else concept_path(number)
+    )
     if do == "withdraw":
         requests = [withdrawal(it.number) for it in postings]
         return submit("withdraw", requests, then=then, show=again, may_cut=len(requests) > LONGEST_PLAN)

@@ -23,6 +23,7 @@ from thesaurus_desk.web.context import the_replica
 from thesaurus_desk.web.form_submission import refused_form
 from thesaurus_desk.web.forms import FormState, Problem
 from thesaurus_desk.web.pages.edit import form_text
+from thesaurus_desk.web.paths import path_to
 from thesaurus_desk.web.spreadsheets import is_table_asked, sheet_of_rows
 from thesaurus_tools.fields import LONGEST, tidy
 from thesaurus_tools.kinds import LABEL_PROPERTIES, LINK_PROPERTIES
@@ -108,7 +109,7 @@ def page_of_release(outcome: Outcome, name: str) -> Any:
     """Returns what follows a release: its page, or the form again."""
     if not outcome.is_done:
         return releases_page(refused_form(outcome), 409)
-    return go(f"/releases/{name}", outcome.plan)
+    return go(path_to("releases.release", name=name), outcome.plan)
 
 
 def is_day(text: str) -> bool:
@@ -128,7 +129,7 @@ def release(name: str) -> Any:
     """Shows a release, and what has changed since the one before."""
     found = the_desk().releases.find(name) or abort(404)
     changes = the_desk().releases.changes(found)
-    return changes_page(found, the_desk().releases.before(found), changes, f"/releases/{name}")
+    return changes_page(found, the_desk().releases.before(found), changes, path_to("releases.release", name=name))
 
 
 @pages.get("/releases/present")
@@ -136,7 +137,7 @@ def release(name: str) -> Any:
 def present() -> Any:
     """Shows what has changed since the last release."""
     last = the_desk().releases.last() or abort(404)
-    return changes_page(None, last, present_changes(last), "/releases/present")
+    return changes_page(None, last, present_changes(last), path_to("releases.present"))
 
 
 def changes_page(release: Release | None, before: Release | None, changes: list[Change] | None, path: str) -> Any:

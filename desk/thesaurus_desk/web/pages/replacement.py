@@ -14,6 +14,7 @@ from thesaurus_desk.web.context import field_words, say, tags, term, the_desk, t
 from thesaurus_desk.web.form_submission import problem_in
 from thesaurus_desk.web.forms import FormState
 from thesaurus_desk.web.pages.imports import keep, table_page, the_importer
+from thesaurus_desk.web.paths import path_to
 from thesaurus_tools.fields import text_fields
 from thesaurus_tools.kinds import LABEL_KINDS
 from thesaurus_tools.table_plans import TableOptions
@@ -55,7 +56,7 @@ def preview_replacement() -> Any:
         return replace_page(problem_in(FORM, "find", say("replace.none", text=find)), 409)
     run = TableRun(say("replace.name", old=find, new=new), list(HEADING), [], rows[:MOST], options_of_form())
     fields = [(name, value) for name, value in request.form.items(multi=True) if name not in ("token", "form")]
-    run.asked = {"back": f"/replace?{urlencode(fields)}"}
+    run.asked = {"back": f"{path_to('replacement.ask_replacement')}?{urlencode(fields)}"}
     if len(rows) > MOST:
         run.asked["note"] = say("replace.more", n=MOST)
     preview_rows(the_desk(), run, the_importer())

@@ -11,6 +11,7 @@ from thesaurus_desk.journal.rights import ACTS, CHOICES, Rights, write_rights
 from thesaurus_desk.web.context import say, tags, the_desk, the_entry, the_replica, the_rights
 from thesaurus_desk.web.forms import FormState
 from thesaurus_desk.web.pages.edit import form_text
+from thesaurus_desk.web.paths import path_to
 
 pages = Blueprint("rights", __name__)
 WORDS = tuple(it.word for it in CHOICES)
@@ -59,4 +60,4 @@ def settle_rights() -> Any:
         "visitors" in request.form,
     )
     write_rights(the_desk().journal, settled)
-    return redirect("/rights?saved", 303)
+    return redirect(f"{path_to('rights.rights')}?saved", 303)

@@ -13,11 +13,12 @@ from thesaurus_desk.auth.route_roles import public
 from thesaurus_desk.store.model import OPPOSITE, Hit
 from thesaurus_desk.web.context import page_number, person, say, status_words, tags, term, the_replica
 from thesaurus_desk.web.list_forms import in_other_form
+from thesaurus_desk.web.paths import concept_path, path_to
 from thesaurus_desk.web.value_search import found_values, has_notation
 from thesaurus_tools.entities import entity_address
 from thesaurus_tools.texts import fold
 
-pages = Blueprint("find", __name__)
+pages = Blueprint("search", __name__)
 KINDS = ("concept", "collection", "scheme")
 MOST_SUGGESTED, MOST_FOUND, MOST_RECORDS = 12, 300, 50
 # How many records are suggested after terms.
@@ -110,7 +111,7 @@ def suggest() -> Any:
             "tag": it.tag,
             "pref": it.pref,
             "note": " · ".join(filter(None, [it.note, status_words(it.number)])),
-            "href": f"/c/{it.number}",
+            "href": concept_path(it.number),
         }
         for it in found_by(hits)
     ]
@@ -121,7 +122,7 @@ def suggest() -> Any:
 
 def suggested_record(name: str) -> dict[str, object]:
     """Returns a record as a suggestion."""
-    href = f"/record?{urlencode({'name': name})}"
+    href = f"{path_to('records.record')}?{urlencode({'name': name})}"
     return {"number": None, "text": name, "tag": "", "pref": name, "note": say("find.record"), "href": href}
 
 
@@ -146,22 +147,22 @@ def search() -> Any:
     if len(whole) == 1 and "all" not in request.args:
         # (the page then leads to what else was found)
         others = f"?{urlencode({'q': query})}" if len(hits) + len(records) + len(matched) > 1 else ""
-        return redirect(f"/c/{whole[0].number}{others}", 303)
+        return redirect(concept_path(whole[0].number) + others, 303)
     coded = has_notation(query)
     if coded is not None and not whole and "all" not in request.args:
-        return redirect(f"/c/{coded}", 303)
+        return redirect(concept_path(coded), 303)
     values = found_values(query)
     within = found_within(query, hits)
     exact = [it for it in records if it == query]
     if exact and not hits and not values and "all" not in request.args:
-        return redirect(f"/record?{urlencode({'name': query})}", 303)
+        return redirect(f"{path_to('records.record')}?{urlencode({'name': query})}", 303)
     nothing = not (hits or records or values or matched or within)
     is_only_match = len(matched) == 1 and matched[0].is_whole and not (hits or records or values)
     if is_only_match and "all" not in request.args:
-        return redirect(f"/c/{matched[0].concept}", 303)
+        return redirect(concept_path(matched[0].concept), 303)
     keyed = the_replica().postings.with_key(query) if person().name and nothing else None
     if keyed is not None and "all" not in request.args:
-        return redirect(f"/posting/{keyed.number}", 303)
+        return redirect(path_to("records.show_posting", number=keyed.number), 303)
     return render_template(
         "search.html",
         query=query,
@@ -172,7 +173,7 @@ def search() -> Any:
         within=within,
         chosen=lang,
         is_full=len(hits) >= MOST_FOUND,
-        path=f"/search?q={quote(query)}&all=1",
+        path=f"{path_to('search.search')}?q={quote(query)}&all=1",
     )
 
 
@@ -237,7 +238,7 @@ def az() -> Any:
         hits=hits,
         count=sum(the_replica().count_beginning(it, lang) for it in firsts),
         size=LETTER_PAGE,
-        path=f"/az?letter={quote(letter)}",
+        path=f"{path_to('search.az')}?letter={quote(letter)}",
     )
 
 

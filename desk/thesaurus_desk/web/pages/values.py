@@ -14,6 +14,7 @@ from thesaurus_desk.web.form_submission import problem_in, submit
 from thesaurus_desk.web.forms import FormState
 from thesaurus_desk.web.list_forms import in_other_form
 from thesaurus_desk.web.pages.edit import form_text, resource, show_again
+from thesaurus_desk.web.paths import concept_path, path_to
 from thesaurus_desk.web.value_copies import copies_from_ended, copy_requests, values_of
 from thesaurus_tools.fields import DATES, OFFERED, WITH_PAGES, Field, text_fields, tidy
 
@@ -31,7 +32,7 @@ def change_value(number: int) -> Any:
     if field is None or view.kind not in field.owners or field.name in WITH_PAGES:
         abort(400)
     requests = requests_of(number, field)
-    then = f"/c/{number}#at-{form_text('form')}"
+    then = f"{concept_path(number)}#at-{form_text('form')}"
     if not requests:
         return redirect(then, 303)
     again = partial(show_again, number)
@@ -82,7 +83,7 @@ def field_list(name: str) -> Any:
         count=len(numbers),
         numbers=numbers[page * PAGE : (page + 1) * PAGE],
         size=PAGE,
-        path=f"/lists/field/{name}{'' if is_without else '?have=yes'}",
+        path=path_to("values.field_list", name=name) + ("" if is_without else "?have=yes"),
     )
 
 
@@ -114,8 +115,8 @@ def copy_values(number: int) -> Any:
     copies = copies_from_ended(number, target)
     requests = copy_requests(copies, target, [str(it.value.id) for it in copies])
     if not requests:
-        return redirect("/lists/ended-values", 303)
-    return submit("value", requests, then="/lists/ended-values", show=ended_page)
+        return redirect(path_to("values.ended_list"), 303)
+    return submit("value", requests, then=path_to("values.ended_list"), show=ended_page)
 
 
 @pages.get("/lists/taken-numbers")
@@ -140,12 +141,12 @@ def settle_taken(number: int) -> Any:
     resource(number)
     if form_text("do", ("keep", "drop")) == "keep":
         the_desk().values.keep_at(number)
-        return redirect("/lists/taken-numbers", 303)
+        return redirect(path_to("values.taken_list"), 303)
     held = [it for its in the_desk().values.of(number).values() for it in its]
     if not held:
-        return redirect("/lists/taken-numbers", 303)
+        return redirect(path_to("values.taken_list"), 303)
     requests = [set_request(number, it.field, it.tag, old=it.member) for it in held]
-    return submit("value", requests, then="/lists/taken-numbers", show=taken_page)
+    return submit("value", requests, then=path_to("values.taken_list"), show=taken_page)
 
 
 def counts_without() -> dict[str, int]:

@@ -14,6 +14,7 @@ from thesaurus_desk.web.form_submission import problem_in, submit
 from thesaurus_desk.web.list_columns import columns_named
 from thesaurus_desk.web.list_forms import in_other_form
 from thesaurus_desk.web.pages.edit import resource, show_again
+from thesaurus_desk.web.paths import concept_path
 from thesaurus_desk.web.work_views import APPROVED, FORM, LISTS, Work, list_counts, concepts_of_list, names, work_of
 from thesaurus_tools.fields import OF_WORK, STATUSES, tidy
 
@@ -30,7 +31,7 @@ def change_work(number: int) -> Any:
     if resource(number).kind != "concept":
         abort(404)
     sent = work_of_form()
-    before, then = work_of(number), f"/c/{number}"
+    before, then = work_of(number), concept_path(number)
     if sent.person not in ("", before.person, *names()):
         return show_again(number, problem_in(FORM, "person", say("status.unknown_person")), 409)
     requests = work_requests(number, before, sent)

@@ -6,17 +6,22 @@ from urllib.parse import urlencode
 from markupsafe import Markup
 
 from thesaurus_desk.web.context import record_name
+from thesaurus_desk.web.paths import path_to
 from thesaurus_desk.web.refusals.case import Case
 
 
 def record_link(record: str) -> Markup:
     """Returns a link to the page of a record."""
-    return Markup('<a href="/record?{}" dir="auto">{}</a>').format(urlencode({"name": record}), record_name(record))
+    path, query = path_to("records.record"), urlencode({"name": record})
+    return Markup('<a href="{}?{}" dir="auto">{}</a>').format(path, query, record_name(record))
 
 
 def explain_has_postings(case: Case) -> Markup:
     number = case.request["concept"]
-    pages = {"merge": f"/c/{number}/merge", "split": f"/c/{number}/split", "reindex": f"/c/{number}/records"}
+    pages = {
+        name: path_to(page, number=number)
+        for name, page in (("merge", "merge.merge"), ("split", "split.split"), ("reindex", "reindex.reindex_many"))
+    }
     ways = {
         name: Markup('<a href="{}">{}</a>').format(path, case.words(f"refusals.HasPostings.ways.{name}"))
         for name, path in pages.items()
