@@ -112,13 +112,13 @@ def create_app(desk: Desk, entry: Entry, settings: Settings, health: Health | No
     install_languages(app)
     install_words(app)
     install_static_files(app)
-    install_paths(app)
     install_errors(app)
     for name in PAGES:
         app.register_blueprint(import_module(f"thesaurus_desk.web.pages.{name}").pages)
     source = source_of(desk, settings)
     app.extensions.update(source=source, releases=WholeAnswers(source), files=SavedFiles(desk, source))
     app.register_blueprint(interfaces_of(source))
+    install_paths(app)
     return app
 
 

@@ -2,53 +2,41 @@
 from __future__ import annotations
 
 from collections.abc import Callable
-from typing import Any, cast
+from typing import Any
 
-from flask import Flask, current_app
-from werkzeug.routing import BaseConverter, IntegerConverter
+from flask import Flask
+from werkzeug.routing import IntegerConverter, Rule
 
-Pattern = tuple[str, dict[str, Callable[[Any], str]]]
-
-
-class RoutePaths:
-    """Makes the path of a route, as Flask's `url_for` does for a desk at the root of its host."""
-
-    def __init__(self, app: Flask) -> None:
-        self.app = app
-        self.patterns: dict[str, Pattern] = {}
-
-    def __call__(self, endpoint: str, **values: object) -> str:
-        """Returns the path of a route. Raises KeyError for a value that is lacking, and for an unknown route."""
-        pattern, texts = self.patterns.get(endpoint) or self.pattern_of(endpoint)
-        for name, quote in texts.items():
-            values[name] = quote(values[name])
-        return pattern % values
-
-    def pattern_of(self, endpoint: str) -> Pattern:
-        """Returns the pattern of a route, and what quotes those of its values that aren't numbers."""
-        rule = next(self.app.url_map.iter_rules(endpoint))
-        text = ""
-        texts: dict[str, Callable[[Any], str]] = {}
-        for is_value, it in rule._trace:
-            if is_value:
-                converter: BaseConverter = rule._converters[it]
-                text += f"%({it})s"
-                if not isinstance(converter, IntegerConverter):
-                    texts[it] = converter.to_url
-            else:
-                text += it.replace("%", "%%")
-        self.patterns[endpoint] = text.lstrip("|"), texts
-        return self.patterns[endpoint]
+Texts = dict[str, Callable[[Any], str]]
+# By the names of routes: the pattern of a path, and what quotes those of its values that aren't numbers.
+PATTERNS: dict[str, tuple[str, Texts]] = {}
 
 
 def install_paths(app: Flask) -> None:
-    """Gives templates `url_for`, and code `path_to`."""
-    app.extensions["paths"] = app.jinja_env.globals["url_for"] = RoutePaths(app)
+    """Notes the routes of the application, and gives templates `url_for`."""
+    PATTERNS.update((it.endpoint, pattern_of(it)) for it in app.url_map.iter_rules())
+    app.jinja_env.globals["url_for"] = path_to
+
+
+def pattern_of(rule: Rule) -> tuple[str, Texts]:
+    """Returns the pattern of a route."""
+    text = ""
+    texts: Texts = {}
+    # (what comes first is a separator behind the name of the host)
+    for is_value, it in rule._trace[1:]:
+        text += f"%({it})s" if is_value else it.replace("%", "%%")
+        if is_value and not isinstance(rule._converters[it], IntegerConverter):
+            texts[it] = rule._converters[it].to_url
+    return text, texts
 
 
 def path_to(endpoint: str, **values: object) -> str:
-    """Returns the path of a route."""
-    return cast(RoutePaths, current_app.extensions["paths"])(endpoint, **values)
+    """Returns the path of a route, as Flask's `url_for` does for a desk at the root of its host. Raises KeyError for a
+    value that is lacking, and for an unknown route."""
+    pattern, texts = PATTERNS[endpoint]
+    for name, quote in texts.items():
+        values[name] = quote(values[name])
+    return pattern % values
 
 
 def concept_path(number: int | None) -> str:

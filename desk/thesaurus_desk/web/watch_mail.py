@@ -15,6 +15,7 @@ from typing import TYPE_CHECKING
 from thesaurus_desk.auth.accounts import Accounts
 from thesaurus_desk.journal.schema import time_text
 from thesaurus_desk.journal.watches import News, Watcher
+from thesaurus_desk.web.paths import path_to
 from thesaurus_desk.words import Words
 
 if TYPE_CHECKING:
@@ -108,7 +109,8 @@ class WatchMail:
         message = EmailMessage()
         message["To"], message["Subject"] = watcher.mail, words("for_me.mail_subject")
         message["Auto-Submitted"] = "auto-generated"
-        text = "\n".join([*self.lines(news, words), "", f"{words('for_me.mail_why')} {self.root}/for-me"])
+        why = f"{words('for_me.mail_why')} {self.root}{path_to('for_me.for_me')}"
+        text = "\n".join([*self.lines(news, words), "", why])
         message.set_content(f"{text}\n")
         return message
 
