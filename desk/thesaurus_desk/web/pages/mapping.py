@@ -322,7 +322,7 @@ def same_table(number: int) -> Any:
 
 @pages.get("/mapping/<int:number>/changed")
 @role("editor")
-def changed(number: int) -> Any:
+def changed_targets(number: int) -> Any:
     """Lists the mappings whose targets are gone, deprecated, replaced or renamed in the newest dump."""
     return changed_page(vocabulary_of(number), FormState(), 200)
 
@@ -347,7 +347,7 @@ def changed_page(vocabulary: Vocabulary, state: FormState, status: int) -> Any:
 def mend(number: int) -> Any:
     """Takes the new name of a target; or maps a concept to what replaces its target, or to nothing."""
     vocabulary, do, iri = vocabulary_of(number), form_text("do", ("rename", "follow", "remove")), form_text("iri")
-    here = path_to("mapping.changed", number=number)
+    here = path_to("mapping.changed_targets", number=number)
     if do == "rename":
         the_desk().decisions.accept_names([iri])
         return go(here)
