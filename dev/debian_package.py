@@ -41,8 +41,10 @@ DESCRIPTION = """Description: thesauri, and catalogue records that are indexed w
  For offices that maintain thesauri (ISO 25964-1, SKOS) in several languages,
  and index records with their concepts, in a browser. A merge or a split moves
  the records, and notes each move; what would break an integrity rule of SKOS is
- refused. The program is proved to do this; the desk and the tools are tested.
+ refused. {said}
 """
+PROVED = "The program is proved to do this; the desk and the tools are tested."
+UNPROVED = "Nothing says that this build of the program is proved."
 # The parts of a release that programs need; all others are documents, but for the tool that installs an archive.
 NEEDED = ("thesaurus", "tools", "desk", "examples", "PROVED")
 UNITS = (".service", ".timer")
@@ -162,7 +164,8 @@ def control_of(made: Made, root: Path) -> str:
         "Section": "text",
         "Priority": "optional",
     }
-    return "".join(f"{name}: {value}\n" for name, value in fields.items()) + DESCRIPTION
+    said = PROVED if (made.tree / "PROVED").exists() else UNPROVED
+    return "".join(f"{name}: {value}\n" for name, value in fields.items()) + DESCRIPTION.format(said=said)
 
 
 def write_control(made: Made, root: Path) -> None:

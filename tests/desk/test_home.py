@@ -80,13 +80,17 @@ def test_the_last_release_is_named(site: Site, anna: Client) -> None:
 
 
 def test_an_empty_thesaurus_has_three_ways_to_begin(
-    program: str, open_desk: Callable[[Path], Desk], users: Path, tmp_path: Path
+    open_desk: Callable[[Path], Desk], users: Path, tmp_path: Path, monkeypatch: pytest.MonkeyPatch
 ) -> None:
     site = site_of(open_desk(tmp_path / "empty.db"), users)
     page = site.client("anna").get("/").text
     for path in ("/new/scheme", "/bring-in"):
         assert f'href="{path}"' in page and site.client("anna").get(path).status_code == 200
-    assert "tools/desk --db sample.db" in page
+    assert "tools/desk --sample" in page
+    installed = tmp_path / "thesaurus-desk"
+    installed.touch(0o755)
+    monkeypatch.setenv("PATH", str(tmp_path), prepend=":")
+    assert '<pre dir="ltr">thesaurus-desk --sample</pre>' in site.client("anna").get("/").text
     for name in ("ina", "rita"):
         assert (
             "An editor begins." in words_of(site.client(name)) and "/new/scheme" not in site.client(name).get("/").text

@@ -85,6 +85,7 @@ def test_program_is_as_it_was_given(made: Unpacked) -> None:
     assert (made.tree / "usr/lib/thesaurus/thesaurus").read_bytes() == good()
     assert made.fields()["Version"] == f"{version()}~unproved"
     assert not (made.tree / "usr/lib/thesaurus/PROVED").exists()
+    assert "Nothing says that this build of the program is proved" in made.control("control")
 
 
 def test_each_command_has_a_page(made: Unpacked) -> None:
@@ -219,6 +220,7 @@ def test_package_of_a_commit_is_of_what_was_proved(tmp_path: Path) -> None:
     output_of("dpkg-deb", "--extract", packages[0], tmp_path / "tree")
     proved = (tmp_path / "tree/usr/lib/thesaurus/PROVED").read_text(encoding="utf-8")
     assert "thes_core proved\n" in proved and "3 passed, 0 failed\n" in proved
+    assert "The program is proved to do this" in output_of("dpkg-deb", "--field", packages[0], "Description")
 
 
 def test_without_a_prover_there_is_no_package(tmp_path: Path) -> None:

@@ -1,6 +1,7 @@
 """The first page, the page of keys, and the choice of languages."""
 from __future__ import annotations
 
+import shutil
 from typing import Any
 
 from flask import Blueprint, render_template, request
@@ -22,8 +23,8 @@ MOST_RECENT = 8
 # The work lists that name a flaw, of which the first page shows the longest.
 FLAWS = ("undefined", "orphans", "alike", "homographs", "plurals", "redundant", "related_siblings", "mapped_twice")
 MOST_FLAWS = 5
-# How whoever runs the desk looks at the sample.
-SAMPLE = "tools/desk --sample"
+# By which name whoever runs the desk starts one, where it is installed and elsewhere.
+INSTALLED, HERE = "thesaurus-desk", "tools/desk"
 YEAR = 31_536_000
 
 
@@ -36,7 +37,8 @@ def home() -> str:
     notes = {"warnings": warnings(), "cut": the_desk().batches.cut() if may_edit else []}
     numbers = replica.ordered(replica.numbers("scheme"), tags())
     if not numbers:
-        return render_template("first.html", sample=SAMPLE, **notes)
+        command = INSTALLED if shutil.which(INSTALLED) else HERE
+        return render_template("first.html", sample=f"{command} --sample", **notes)
     schemes = [(it, replica.ordered(replica.tops(it), tags())) for it in numbers]
     below = {
         top: replica.ordered(replica.branch(top), tags()) for _, tops in schemes if len(tops) < FEW_TOPS for top in tops
