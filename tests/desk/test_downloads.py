@@ -198,7 +198,7 @@ def test_libreoffice_has_the_same_cells(defined: Site, tmp_path: Path, form: str
     # (commas, quotes and UTF-8, of the table that it reads and of the one that it writes)
     reading = ["--infilter=CSV:44,34,76,1"] if form == "csv" else []
     writing = ["--convert-to", "csv:Text - txt - csv (StarCalc):44,34,76,1,,0,false,true"]
-    words = ["soffice", home, "--headless", *reading, *writing, "--outdir", tmp_path / "made", table]
+    words = ["soffice", home, "--headless", *reading, *writing, "--outdir", str(tmp_path / "made"), str(table)]
     subprocess.run(words, capture_output=True, check=True, timeout=300)
     made = (tmp_path / "made" / "table.csv").read_text(encoding="utf-8-sig")
     found = [dict(it) for it in csv.DictReader(io.StringIO(made))]

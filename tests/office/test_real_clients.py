@@ -61,7 +61,7 @@ def export(store: Path) -> Path:
 @pytest.fixture(scope="module")
 def published(export: Path) -> Iterator[str]:
     """The address of tools/publish over the export."""
-    call = [ROOT / "tools" / "publish", export, "--port", "0"]
+    call = [str(ROOT / "tools" / "publish"), str(export), "--port", "0"]
     with subprocess.Popen(call, stdout=subprocess.PIPE, text=True) as process:
         try:
             assert process.stdout
