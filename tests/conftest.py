@@ -136,8 +136,10 @@ def tools_of(item: pytest.Item) -> Iterator[str]:
 
 
 def is_installed(tool: str) -> bool:
-    """Whether there is a program of this name, or a module of Python."""
-    return bool(shutil.which(tool)) or "/" not in tool and importlib.util.find_spec(tool) is not None
+    """Whether there is a program of this name, or a module of Python, or a file at this path."""
+    if "/" in tool:
+        return Path(tool).is_file()
+    return bool(shutil.which(tool)) or importlib.util.find_spec(tool) is not None
 
 
 def pytest_runtest_setup(item: pytest.Item) -> None:

@@ -430,24 +430,59 @@ BROKEN = """
 """
 
 
-@pytest.mark.needs("rdflib")
-@pytest.mark.parametrize(
-    ("language", "heading"),
-    [
-        ("en", "Two preferred terms in one language"),
-        ("de", "Zwei Vorzugsbenennungen in einer Sprache"),
-        ("fr", "Deux termes préférentiels dans une langue"),
+# What the report says of it, and of what is lost, in each language.
+IN_WORDS = {
+    "en": [
+        "Two preferred terms in one language",
+        "preferred term “Oslo” (en): a second one in its language",
+        "Christiania (http://old.example/c): related term: http://old.example/a (Europe)",
+        "further thesauri 1",
+        "a further thesaurus, http://old.example/t",
     ],
-)
-def test_the_report_of_a_vocabulary_is_in_words(site: Site, anna: Client, language: str, heading: str) -> None:
+    "de": [
+        "Zwei Vorzugsbenennungen in einer Sprache",
+        "Vorzugsbenennung „Oslo“ (en): eine zweite in dieser Sprache",
+        "Christiania (http://old.example/c): verwandter Begriff: http://old.example/a (Europe)",
+        "weitere Thesauri 1",
+        "ein weiterer Thesaurus, http://old.example/t",
+    ],
+    "fr": [
+        "Deux termes préférentiels dans une langue",
+        "terme préférentiel « Oslo » (en) : un second dans cette langue",
+        "Christiania (http://old.example/c): terme associé : http://old.example/a (Europe)",
+        "autres thésaurus 1",
+        "un autre thésaurus, http://old.example/t",
+    ],
+}
+
+
+@pytest.mark.needs("rdflib")
+@pytest.mark.parametrize("language", IN_WORDS)
+def test_the_report_of_a_vocabulary_is_in_words(anna: Client, language: str) -> None:
+    """Also the table of all of it."""
     anna.get(f"/language?pages={language}&next=/")
-    page = send(anna, "/bring-in/skos", (SKOS + BROKEN).encode(), "places.ttl")
+    further = ':t a skos:ConceptScheme ; skos:prefLabel "T"@en . :a skos:inScheme :t .'
+    page = send(anna, "/bring-in/skos", (SKOS + BROKEN + further).encode(), "places.ttl")
     assert page.status_code == 200, text_of(page)
-    headings = [" ".join(text_of_part(it).split()) for it in re.findall("<h3>(.*?)</h3>", page.text)]
-    assert heading in headings and len(headings) == 4, headings
-    assert not any(it in " ".join(headings) for it in ("S14", "S27", "BadTag", "NoLabel")), headings
-    assert "is a second preferred label" in text_of(page) and " --" not in text_of(page)
-    assert "Christiania (http://old.example/c): related http://old.example/a (Europe)" in text_of(page)
+    assert len(re.findall("<h3>(.*?)</h3>", page.text)) == 5
+    said = " ".join(text_of(page).split())
+    assert [it for it in IN_WORDS[language] if it not in said] == []
+    assert not re.search(r"S14|S27|BadTag|NoLabel| --|(pref|alt) label", said)
+    (path,) = re.findall(r'href="(/bring-in/skos/report/[^"]+)"', page.text)
+    table = anna.get(path).text
+    heading, _, *shown, last = IN_WORDS[language]
+    assert heading in table and last in table and "lost" not in table and "is a second" not in table
+    assert shown[0].partition(" (http")[0] in table
+
+
+@pytest.mark.needs("rdflib")
+def test_a_text_with_a_line_separator_comes_in(site: Site, anna: Client) -> None:
+    data = SKOS + ':a skos:altLabel "Eu\u2028rope"@en ; <http://x.example/p> "a\u2029b" .'
+    page = send(anna, "/bring-in/skos", data.encode(), "places.ttl", tag="en")
+    assert page.status_code == 200, text_of(page)
+    assert perform(anna, page, "/bring-in/skos/perform").status_code == 303
+    view = site.desk.replica.view(number(site, "Europe"))
+    assert view and [it[1] for it in view.alt] == ["Eu\u2028rope"]
 
 
 @pytest.mark.needs("rdflib")
@@ -459,9 +494,11 @@ def test_the_whole_report_of_a_vocabulary_is_a_table(anna: Client) -> None:
     assert "The copy has taken all of it." not in text_of(page)
     (path,) = re.findall(r'href="(/bring-in/skos/report/[^"]+)"', page.text)
     rows = list(csv.reader(io.StringIO(anna.get(path).text.removeprefix("\ufeff"))))
-    assert {tuple(it[:3]) for it in rows[1:]} == {("lost", "http://old.example/a", "Europe")}
+    assert rows[0] == ["Reason", "URI", "Term", "What is left out"]
+    reason = "What this thesaurus has no place for"
+    assert {tuple(it[:3]) for it in rows[1:]} == {(reason, "http://old.example/a", "Europe")}
     lost = [it[3] for it in rows[1:]]
-    assert sorted(lost) == sorted(f"http://purl.org/dc/terms/created '{n}'" for n in range(20))
+    assert sorted(lost) == sorted(f"http://purl.org/dc/terms/created “{n}”" for n in range(20))
     assert anna.get("/bring-in/skos/report/none.csv").status_code == 404
 
 
@@ -475,7 +512,7 @@ HOMOGRAPHS = """
 def test_homographs_and_second_terms_are_kept_if_that_is_wanted(anna: Client) -> None:
     data = (SKOS + HOMOGRAPHS).encode()
     page = send(anna, "/bring-in/skos", data, "places.ttl", tag="en")
-    assert "is that of http://old.example/c" in text_of(page) and "is a second preferred label" in text_of(page)
+    assert "is that of http://old.example/c" in text_of(page) and "a second one in its language" in text_of(page)
     page = send(anna, "/bring-in/skos", data, "places.ttl", tag="en", qualify="1", second="1")
     assert "Nothing is lost." in text_of(page), text_of(page)
 

@@ -188,6 +188,28 @@ def test_csv(defined: Site) -> None:
     assert next(it for it in rows if it["number"] == str(VIOLINS))["definition@en"] == f"'{GLOSS}"
 
 
+@pytest.mark.needs("soffice")
+@pytest.mark.parametrize("form", ["xlsx", "ods", "csv"])
+def test_libreoffice_has_the_same_cells(defined: Site, tmp_path: Path, form: str) -> None:
+    """As it writes them into a table of its own; none is a formula or a date to it."""
+    table = tmp_path / f"table.{form}"
+    table.write_bytes(saved(defined.client("rita"), form).data)
+    home = f"-env:UserInstallation={(tmp_path / 'profile').as_uri()}"
+    # (commas, quotes and UTF-8, of the table that it reads and of the one that it writes)
+    reading = ["--infilter=CSV:44,34,76,1"] if form == "csv" else []
+    writing = ["--convert-to", "csv:Text - txt - csv (StarCalc):44,34,76,1,,0,false,true"]
+    words = ["soffice", home, "--headless", *reading, *writing, "--outdir", str(tmp_path / "made"), str(table)]
+    subprocess.run(words, capture_output=True, check=True, timeout=300)
+    made = (tmp_path / "made" / "table.csv").read_text(encoding="utf-8-sig")
+    found = [dict(it) for it in csv.DictReader(io.StringIO(made))]
+    wanted = csv.DictReader(io.StringIO(saved(defined.client("rita"), "csv").data.decode("utf-8-sig")))
+    # (a table of text alone marks what a spreadsheet would take for a formula)
+    mark = "" if form == "csv" else "'"
+    expected = [{name: it.removeprefix(mark) if mark else it for name, it in row.items()} for row in wanted]
+    assert found == expected and len(found) > 20
+    assert any(it["definition@en"].endswith(GLOSS) for it in found)
+
+
 @pytest.mark.needs("yaz-marcdump")
 def test_marc_in_both_forms(defined: Site, tmp_path: Path) -> None:
     xml = ElementTree.fromstring(saved(defined.client("rita"), "marcxml").data)

@@ -4,6 +4,7 @@ from __future__ import annotations
 import contextlib
 import http.client
 import json
+import re
 import sqlite3
 import subprocess
 import threading
@@ -15,6 +16,7 @@ import pytest
 from flask import Flask
 from flask.testing import FlaskClient
 from thesaurus_desk.interfaces import Changes, Source, interfaces_of
+from thesaurus_desk.interfaces.skosmos import ANSWERS
 from thesaurus_desk.interfaces.skosmos_concepts import climb
 from made_replica import BASE
 from thesaurus_desk.store.changes import Changes as RowChanges
@@ -268,6 +270,38 @@ def test_other_methods(client: FlaskClient, replica: Replica) -> None:
     assert client.get("/rest/v1/1/broader?uri=https://other.example/1").status_code == 404
     assert client.get("/rest/v1/1/broader").status_code == 400
     assert client.get("/rest/v1/1/fly").status_code == 404
+
+
+# --- the tables of methods ---
+
+
+def addresses(app: Flask) -> set[str]:
+    """Returns the addresses of the interfaces as their page writes them, one for each method."""
+    found: set[str] = set()
+    for rule in app.url_map.iter_rules():
+        path = rule.rule.replace("<int:number>", "N").replace("<name>", "{v}").replace("<letter>", "{letter}")
+        if path.endswith("{v}/"):
+            continue
+        (names,) = re.findall(r"<any\(([^)]*)\):\w+>", path) or [",".join(filter(None, ANSWERS))]
+        whole = re.sub(r"<[^>]*>", "{what}", path)
+        found |= {whole.replace("{what}", it) for it in names.split(",")}
+    return {it for it in found if not it.startswith("/static")} | {"/rest/v1/{v}/"}
+
+
+def test_each_method_is_in_the_tables(client: FlaskClient) -> None:
+    """And each test that they name is there, and each method that they have."""
+    text = (ROOT / "docs" / "INTERFACES.md").read_text(encoding="utf-8")
+    own = addresses(client.application)
+    rows = [
+        it.split("|")[1] for it in text.splitlines() if it.startswith("| `/re") and not it.startswith("| `/releases")
+    ]
+    named = [path for it in rows for path in re.findall(r"`(/[^`]*)`", it)]
+    assert len(own) > 40 and own - {*re.findall(r"`(/[^`\s]*)`", text)} == set()
+    assert {*named} == {it for it in own if it.startswith(("/rest/", "/reconcile"))}
+    tests = re.findall(r"`(\w+)::(test_\w+)`", text)
+    here = {file: (ROOT / "tests" / "desk" / f"{file}.py").read_text(encoding="utf-8") for file, _ in tests}
+    assert [(file, it) for file, it in tests if f"\ndef {it}(" not in here[file]] == [] and len(tests) > 60
+    assert not re.findall(r"`test_[^`:]*`", text), "a test is named by its file, too"
 
 
 # --- reconciliation ---

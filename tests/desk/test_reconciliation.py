@@ -157,6 +157,9 @@ def test_suggestions_and_flyouts(client: FlaskClient, what: str, prefix: str, id
     assert client.get(f"/reconcile/flyout/{what}?id=nothing").status_code == 404
     assert client.get(f"/reconcile/flyout/{what}").status_code == 400
     assert client.get(f"/reconcile/suggest/{what}").status_code == 400
+    after = get(client, f"/reconcile/suggest/{what}", prefix=prefix, cursor=1)["result"]
+    assert after == found[1:]
+    assert client.get(f"/reconcile/suggest/{what}?prefix=a&cursor=x").status_code == 400
 
 
 def test_preview_and_properties(client: FlaskClient) -> None:
@@ -169,6 +172,7 @@ def test_preview_and_properties(client: FlaskClient) -> None:
     assert client.get("/reconcile/preview?id=99").status_code == 404
     proposed = get(client, "/reconcile/properties", type="1", limit=2)
     assert (proposed["type"], proposed["limit"], len(proposed["properties"])) == ("1", 2, 2)
+    assert client.get("/reconcile/properties?limit=some").status_code == 400
 
 
 @pytest.mark.parametrize(

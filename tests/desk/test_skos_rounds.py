@@ -2,8 +2,6 @@
 names and for what is said in another way."""
 from __future__ import annotations
 
-import csv
-import io
 from dataclasses import replace
 from pathlib import Path
 
@@ -126,7 +124,7 @@ def test_a_file_goes_out_as_it_came_in(site: Site, name: str) -> None:
     assert run.refused == [] and perform_script(site.desk, "anna", run).is_done
     old = Graph().parse(data=data, format=FORMS[Path(name).suffix])
     new = plain(written_out(site, run.scheme, old))
-    reported = [(address, what) for _, address, _, what in list(csv.reader(io.StringIO(run.table)))[1:]]
+    reported = [(it.resource, it.what) for it, _ in run.report]
 
     def is_reported(triple: Triple) -> bool:
         short = str(triple[1]).rstrip("/#").replace("#", "/").rpartition("/")[2]

@@ -223,6 +223,6 @@ def test_what_is_left_out_of_an_update_is_told(anna: Client, scheme: int) -> Non
         tag="en",
         onto=str(scheme),
     )
-    assert "Europa (http://old.example/1): http://purl.org/dc/terms/subject 'Asia'" in text_of(page)
+    assert "Europa (http://old.example/1): http://purl.org/dc/terms/subject “Asia”" in text_of(page)
     (path,) = re.findall(r'href="(/bring-in/skos/report/[^"]+)"', page.text)
-    assert "subject 'Asia'" in anna.get(path).text
+    assert "subject “Asia”" in anna.get(path).text

@@ -45,6 +45,7 @@ def test_global_search(client: FlaskClient) -> None:
     assert {it["vocab"] for it in everywhere} == {"1", "2"}, "all vocabularies are asked"
     both = get(client, "/rest/v1/search", query="cremona", vocab="1 2")["results"]
     assert uris(both) == [iri(CREMONA)] and get(client, "/rest/v1/search", query="cremona", vocab="1")["results"] == []
+    assert uris(get(client, "/rest/v1/search", query="cremona", vocab=iri(PLACES))["results"]) == [iri(CREMONA)]
     assert client.get("/rest/v1/search?query=a&vocab=1 9").status_code == 404
     assert client.get("/rest/v1/search").status_code == 400
 
@@ -91,6 +92,10 @@ def test_top_concepts(client: FlaskClient) -> None:
     assert client.get(f"{V1}/topConcepts?scheme={iri(PLACES)}").status_code == 404
 
 
+def test_types_of_a_vocabulary(client: FlaskClient) -> None:
+    assert [it["label"] for it in get(client, f"{V1}/types", lang="en")["types"]] == ["Concept", "Collection"]
+
+
 def test_letters_are_those_of_the_language_and_the_vocabulary(client: FlaskClient) -> None:
     assert get(client, f"{V1}/index/", lang="en")["indexLetters"] == ["F", "H", "S", "V", "0-9"]
     assert get(client, f"{V1}/index/", lang="de")["indexLetters"] == ["G", "V"]
@@ -124,7 +129,8 @@ def test_data(client: FlaskClient) -> None:
     assert "Geigen" in whole.text and "String quartet" in whole.text and "Cremona (Stadt)" not in whole.text
     for form in ("application/rdf+xml", "application/ld+json", "text/turtle"):
         assert client.get(f"{V1}/data", query_string={"format": form}).mimetype == form
-    assert client.get(f"{V1}/data?format=application/msword").status_code == 400
+    for form in ("application/msword", "application/marcxml+xml"):
+        assert client.get(f"{V1}/data", query_string={"format": form}).status_code == 400
     assert client.get(f"{V1}/data?uri={iri(CREMONA)}").status_code == 404, "it is of another vocabulary"
 
 
@@ -236,6 +242,9 @@ def test_hierarchies(client: FlaskClient) -> None:
     assert above[iri(VIOLINS)]["broader"] == [iri(STRINGS)] and above[iri(VIOLINS)]["prefLabel"] == "Geigen"
     below = get(client, f"{V1}/narrowerTransitive", uri=iri(STRINGS))["narrowerTransitive"]
     assert below.keys() == {iri(STRINGS), iri(VIOLINS), iri(HARPS)}
+    nearest = get(client, f"{V1}/narrowerTransitive", uri=iri(STRINGS), limit=2)["narrowerTransitive"]
+    assert nearest.keys() == {iri(STRINGS), iri(VIOLINS)}
+    assert client.get(f"{V1}/broaderTransitive?uri={iri(VIOLINS)}&limit=0").status_code == 400
     tree = get(client, f"{V1}/hierarchy", uri=iri(VIOLINS))["broaderTransitive"]
     assert tree[iri(STRINGS)]["top"] == iri(INSTRUMENTS)
 

@@ -531,9 +531,9 @@ def test_dates_general_notes_sources_and_the_offices_fields_come_in_and_go_out(s
         its = Field(name, kind, tag=tag, property=f"https://museum.example/terms#{name}", is_own=True)
         desk.values.write_field(its)
     run = read_skos(desk, "old.ttl", OFFICES.encode(), SkosOptions("en"))
-    lost = [line for it in run.report for line in it.lines]
+    lost = [(term, it.resource, it.what) for it, term in run.report]
     wrong = ("http://purl.org/dc/terms/created 'yesterday'", "https://museum.example/terms#maker 'nobody'")
-    assert lost[1:] == [f"Rebecs (https://old.example/rebecs): {it}" for it in wrong], lost
+    assert lost == [("Rebecs", "https://old.example/rebecs", it) for it in wrong], lost
     assert perform_script(desk, "anna", run).is_done
     lutes = number(desk, "Theorbos")
     path = f"/export.ttl?scheme={run.scheme}"
@@ -565,7 +565,7 @@ def test_dates_general_notes_sources_and_the_offices_fields_come_in_and_go_out(s
 def test_a_notation_that_two_have_is_reported(desk: Desk) -> None:
     double = SKOS_FILE.replace('"321.322" .\n:gone', '"321.321" .\n:gone')
     run = read_skos(desk, "old.ttl", double.encode(), SkosOptions("en"))
-    assert [it.rule for it in run.report] == ["ValueTaken"]
+    assert [it.rule for it, _ in run.report] == ["ValueTaken"]
     assert perform_script(desk, "anna", run).is_done
 
 

@@ -11,6 +11,7 @@ import thesaurus_tools
 from markupsafe import Markup
 from thesaurus_desk.words import LANGUAGES, Words, best_language, texts_of
 from thesaurus_desk.words.catalogues import forms_of, path_of, written_catalogue
+from thesaurus_tools.finding_messages import FINDINGS, LOST
 from thesaurus_tools.table_messages import ROWS, TABLES
 
 PACKAGE = Path(thesaurus_desk.__file__).parent
@@ -76,6 +77,18 @@ def test_why_a_row_of_a_table_cant_be_done() -> None:
     its = {key.removeprefix("rows."): str(text) for key, text in texts_of("en").items() if key.startswith("rows.")}
     assert its.keys() == ROWS.keys()
     assert {key: placeholders(it) for key, it in its.items()} == {key: placeholders(it) for key, it in ROWS.items()}
+
+
+def test_what_is_left_out_of_a_vocabulary() -> None:
+    """The tools have the same findings as the desk, with the same values; the desk has no advice on their options."""
+    texts = texts_of("en")
+    its = {key.removeprefix("findings."): it for key, it in texts.items() if key.startswith("findings.")}
+    assert its.keys() == FINDINGS.keys()
+    for key, text in FINDINGS.items():
+        assert placeholders(forms_of(its[key])[-1]) == placeholders(forms_of(text)[-1]), key
+    lost = {key.removeprefix("lost.") for key in texts if key.startswith("lost.")}
+    assert lost == LOST.keys() & FINDINGS.keys()
+    assert not [it for it in its.values() if "--" in "".join(forms_of(it))]
 
 
 def test_why_a_file_is_no_table() -> None:

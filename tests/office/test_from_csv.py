@@ -67,7 +67,7 @@ FOUND = {
     "a,A,,b,b,,\nb,B,,,,,\n": "S27: {file}:2: a: related b",
     "a,A,,z,,,\n": "UnknownResource: {file}:2: a: broader z",
     "a,A,,a,,,\n": "SameResource: {file}:2: a: broader a",
-    "a,A,,,,no IRI,\n": "BadIri: {file}:2: a: exact outside no IRI",
+    "a,A,,,,no IRI,\n": "BadIri: {file}:2: a: exact no IRI",
     "a," + "A" * 257 + ",,,,,\n": "BadText: {file}:2: a: pref label",
 }
 # Files that are no table, and what is reported.

@@ -381,6 +381,20 @@ def test_the_report_has_all_findings_with_terms(room: Path) -> None:
 
 
 @needs_rdflib
+def test_a_report_has_the_keys_of_its_sentences(room: Path) -> None:
+    """As lines of JSON, by which a desk says them in other languages; with terms behind addresses."""
+    file = write_turtle(room / "keys.ttl", SOUND + ":b skos:broader :a . :a skos:notation 'x' .")
+    from_skos("--report", room / "report.jsonl", file)
+    lines = [json.loads(it) for it in (room / "report.jsonl").read_text(encoding="utf-8").splitlines()]
+    a, b = "http://old.example/a (Bass)", "http://old.example/b (Fish)"
+    ring = {"link_kind": "broader", "target": a, "ring": f"{a} < {b}"}
+    assert [(it["key"], it["values"]) for it in lines if it["rule"] == "Cycle"] == [("ring", ring)]
+    (lost,) = [it for it in lines if it["rule"] == "lost"]
+    assert (lost["address"], lost["term"], lost["key"]) == ("http://old.example/a", "Bass", "text")
+    assert lost["values"] == {"property": "notation", "text": "x", "tag": ""}
+
+
+@needs_rdflib
 def test_no_cell_of_the_report_is_a_formula(room: Path) -> None:
     formula = '=HYPERLINK("http://x.example/")'
     file = write_turtle(room / "formulas.ttl", SOUND.replace('"Bass"', f"'{formula}'") + ":a skos:notation '-1' .")
@@ -440,7 +454,7 @@ def test_places_below_what_is_left_out_are_counted(room: Path) -> None:
     assert not status and not links_of(script)
     assert "from-skos: lost: http://old.example/gone: the place of 2 concepts below it; --adopt keeps one" in report
     assert "from-skos: lost: http://old.example/also: the place of 1 concept below it; --adopt keeps one" in report
-    assert "lost 2 (the place 2)" in report[-1] and report[-1].endswith("options that keep more: --adopt (the place)")
+    assert "lost 2 (place 2)" in report[-1] and report[-1].endswith("options that keep more: --adopt (place)")
 
 
 @needs_rdflib

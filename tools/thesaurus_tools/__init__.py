@@ -11,7 +11,7 @@ Fields and their values, how a tool reads them, what an export says of them, whe
 RDF: N-Triples, its other forms, a vocabulary of SKOS; what a parser of it may do:
   ntriples, rdf_files, parser_bounds, skos, skos_kinds, skos_xl, skos_update, mads, zthes
 What a converter makes of a vocabulary, the rules that it may break, and the script that loads it:
-  vocabulary, link_rules, conversion, script_writer
+  vocabulary, finding_messages, link_rules, conversion, script_writer
 Such a script, and how it is loaded:
   load_scripts, journal, loader, one_plan, recovery, progress
 A folder of backups, copies of a store, a program that waits meanwhile; a desk that sends its store:

@@ -6,9 +6,11 @@ import re
 from collections import Counter
 from collections.abc import Iterator
 from pathlib import Path
+from typing import Any, NamedTuple
 
 from thesaurus_tools.command_line import DONE, REFUSED, say
 from thesaurus_tools.files import write_output
+from thesaurus_tools.finding_messages import LOST
 from thesaurus_tools.requests import encode
 from thesaurus_tools.script_writer import ScriptWriter
 from thesaurus_tools.table_writer import table_text
@@ -50,7 +52,10 @@ def add_converter_options(parser: argparse.ArgumentParser) -> None:
     parser.add_argument("--texts", choices=["refuse", "trim", "cut"], default="refuse", help=texts)
     parser.add_argument("--drop", action="store_true", help="leave out what is lost and what breaks a rule")
     parser.add_argument("--all", action="store_true", help="list all findings of a rule, and not the first ten")
-    report = "write all findings to this file, too: a table (CSV) of rules, addresses, terms, and what is left out"
+    report = (
+        "write all findings to this file, too: a table (CSV) of rules, addresses, terms, and what is left out; lines "
+        "of JSON, with keys of the sentences, if its name ends with .jsonl"
+    )
     parser.add_argument("--report", type=Path, metavar="FILE", help=report)
     parser.add_argument(
         "-o", "--output", type=Path, metavar="FILE", help="write the script to this file, and not to standard output"
@@ -62,6 +67,8 @@ SHOWN, SHOWN_OF_KIND, LONGEST_SHOWN = 10, 3, 200
 # The most bytes of a term beside an address; the heading of a report.
 MOST_OF_TERM = 60
 HEADING = ["rule", "address", "term", "what is left out"]
+# The values of findings in which addresses are.
+ADDRESSES = ("target", "other", "ring")
 # Options that keep what is left out otherwise, by the rule or by what is lost.
 KEPT_BY = {
     "BadText": "--texts trim",
@@ -71,7 +78,7 @@ KEPT_BY = {
     "NoScheme": "--scheme TEXT",
     "NoLabel of a scheme": "--scheme TEXT",
     "notation": "--hidden-codes TAG",
-    "the place": "--adopt",
+    "places_below": "--adopt",
     **{
         it: f"--as-scope {it}" for it in ("definition", "example", "note", "historyNote", "editorialNote", "changeNote")
     },
@@ -98,7 +105,8 @@ def print_findings(vocabulary: Vocabulary, given: argparse.Namespace, tool: str,
         for it in options.split()
         if getattr(given, it.strip("-").replace("-", "_"), None) in (None, "", [], "refuse", False)
     ]
-    advice = ", ".join(f"{KEPT_BY[it]} ({it})" for it in kinds if KEPT_BY.get(it, "").split(" ")[0] in unused)
+    named = [(KEPT_BY[it], LOST.get(it, it)) for it in kinds if KEPT_BY.get(it, "").split(" ")[0] in unused]
+    advice = ", ".join(f"{option} ({name})" for option, name in named)
     if by_rule:
         left_out = "left out" if given.drop else "nothing is written, and --drop would leave out"
         counts = ", ".join(count_findings(*it) for it in by_rule.items())
@@ -112,18 +120,43 @@ def place_of(vocabulary: Vocabulary, finding: Finding) -> str:
     return vocabulary.places.get(name) or (f"{name} ({fit_text(term, MOST_OF_TERM, 'cut')})" if term else name)
 
 
-def report_rows(vocabulary: Vocabulary) -> Iterator[list[str]]:
-    """Yields the heading of the table of findings, and a row for each. Addresses of other resources of the file have
-    their terms beside them."""
-    yield HEADING
+class ReportRow(NamedTuple):
+    """A finding of a report, by the address or the place of what it is about, and the term of that. The addresses of
+    other resources of the file have their terms behind them."""
+
+    finding: Finding
+    term: str
+
+
+def report_rows(vocabulary: Vocabulary) -> Iterator[ReportRow]:
+    """Yields all findings as a report has them."""
     for it in dict.fromkeys(vocabulary.findings):
+        values = tuple(
+            (name, with_terms(value, vocabulary.terms) if name in ADDRESSES else value) for name, value in it.values
+        )
         place = vocabulary.places.get(it.resource, it.resource)
-        yield [it.rule, place, vocabulary.terms.get(it.resource, ""), with_terms(it.what, vocabulary.terms)]
+        yield ReportRow(it._replace(resource=place, values=values), vocabulary.terms.get(it.resource, ""))
 
 
-def report_table(vocabulary: Vocabulary) -> str:
-    """Returns all findings as a table (CSV), whose cells no spreadsheet takes for formulas."""
-    return table_text(report_rows(vocabulary), for_excel=False)
+def report_text(vocabulary: Vocabulary, as_lines: bool) -> str:
+    """Returns all findings as lines of JSON, or as a table (CSV), whose cells no spreadsheet takes for formulas."""
+    found = report_rows(vocabulary)
+    if as_lines:
+        return "".join(encode(row_members(it)).decode() for it in found)
+    rows = ([it.rule, it.resource, term, it.what] for it, term in found)
+    return "\ufeff" + table_text([HEADING, *rows], for_excel=False)
+
+
+def row_members(it: ReportRow) -> dict[str, Any]:
+    """Returns a finding as JSON has it."""
+    rule, address, key, values = it.finding
+    return {"rule": rule, "address": address, "term": it.term, "key": key, "values": dict(values)}
+
+
+def read_report_row(line: dict[str, Any]) -> ReportRow:
+    """Returns a finding from what JSON has of it."""
+    finding = Finding(line["rule"], line["address"], line["key"], tuple(line["values"].items()))
+    return ReportRow(finding, line["term"])
 
 
 def with_terms(what: str, terms: dict[str, str]) -> str:
@@ -150,14 +183,15 @@ def count_findings(rule: str, found: list[Finding]) -> str:
 
 def count_kinds(found: list[Finding]) -> str:
     """Returns the kinds of things that are lost, each with its number."""
-    return ", ".join(f"{kind} {count}" for kind, count in Counter(it.group() for it in found).most_common() if kind)
+    kinds = Counter(LOST.get(it.group(), it.group()) for it in found)
+    return ", ".join(f"{kind} {count}" for kind, count in kinds.most_common() if kind)
 
 
 def write_script(vocabulary: Vocabulary, given: argparse.Namespace, tool: str) -> int:
     """Prints the findings, writes the script if it may be written, and returns the exit status."""
     print_findings(vocabulary, given, tool, " ".join(f"--{it.replace('_', '-')}" for it in vars(given)))
     if given.report:
-        write_output(b"\xef\xbb\xbf" + report_table(vocabulary).encode(), given.report)
+        write_output(report_text(vocabulary, given.report.suffix == ".jsonl").encode(), given.report)
     if vocabulary.findings and not given.drop:
         return REFUSED
     if vocabulary.findings and not vocabulary.of_kind("concept"):

@@ -36,12 +36,11 @@ class LinkRules:
             return False
         why = self.refusal_of_ends(kind, a, b) or self.refusal(kind, a, b)
         if why:
-            ring = (
-                f", which closes the ring {' < '.join(self.chain(*self.low_and_high(kind, a, b)[::-1]))}"
-                if why == "Cycle"
-                else ""
+            ring = self.chain(*self.low_and_high(kind, a, b)[::-1]) if why == "Cycle" else []
+            said = {"ring": " < ".join(ring)} if ring else {}
+            self.vocabulary.find(
+                why, a, "ring" if ring else "link", link_kind=kind, target=b.removeprefix(OUTSIDE), **said
             )
-            self.vocabulary.find(why, a, f"{kind} {b}{ring}")
             return False
         self.seen.add(held)
         if kind in BROADER or kind in ("broad", "narrow"):

@@ -93,15 +93,19 @@ class SkosReader:
         self.is_title_label: set[str] = set()
         self.has_resources = False
 
-    def lose(self, resource: str, what: str) -> None:
-        self.vocabulary.find("lost", resource, what)
+    def lose(self, resource: str, key: str, **values: str) -> None:
+        self.vocabulary.find("lost", resource, key, **values)
 
     def lose_triple(self, subject: str, predicate: str, node: Any) -> None:
         """Notes a triple as lost; a class of MADS/RDF by its own name."""
-        text = f"{node.text!r}" + (f"@{node.tag}" if node.tag else "") if isinstance(node, Literal) else node
-        is_class = predicate == RDF + "type" and not isinstance(node, Literal) and bool(mads_name(node))
-        name = "class" if predicate == RDF + "type" else property_name(predicate)
-        self.lose(subject, f"{mads_name(node)} as its class" if is_class else f"{name} {text}")
+        if isinstance(node, Literal):
+            self.lose(subject, "text", property=property_name(predicate), text=node.text, tag=node.tag)
+        elif predicate != RDF + "type":
+            self.lose(subject, "resource", property=property_name(predicate), target=node)
+        elif name := mads_name(node):
+            self.lose(subject, "mads_class", property=name)
+        else:
+            self.lose(subject, "class", target=node)
 
     def read(self) -> Vocabulary:
         """Returns the vocabulary, checked."""
@@ -139,15 +143,12 @@ class SkosReader:
         self.has_resources = bool(kinds)
         for it in sorted(kinds, key=by_numbers):
             if isinstance(it, Blank):
-                self.lose(it, f"the {'/'.join(sorted(kinds[it]))} is a blank node")
+                self.lose(it, "blank", kinds="/".join(sorted(kinds[it])))
                 continue
             kind = next(kind for kind in ("concept", "scheme", "collection") if kind in kinds[it])
             if len(kinds[it]) > 1:
-                self.vocabulary.find(
-                    "S9" if "collection" not in kinds[it] else "S37",
-                    it,
-                    f"it is a {' and a '.join(sorted(kinds[it]))}; a {kind} stays",
-                )
+                rule = "S9" if "collection" not in kinds[it] else "S37"
+                self.vocabulary.find(rule, it, "several_kinds", kinds="/".join(sorted(kinds[it])), kind=kind)
             self.vocabulary.resources[it] = Resource(it, kind)
 
     # --- Schemes, deaths and labels ---
@@ -165,11 +166,11 @@ class SkosReader:
             found = [name for name in schemes[it.name] if self.kind(name) == "scheme"]
             if it.kind == "scheme":
                 for name in found:
-                    self.lose(it.name, f"inScheme {name}")
+                    self.lose(it.name, "resource", property="inScheme", target=name)
             else:
                 it.scheme = found[0] if found else self.usual_scheme(it)
                 for name in found[1:]:
-                    self.lose(it.name, f"a further scheme, {name}")
+                    self.lose(it.name, "further_scheme", target=name)
             if it.kind == "concept":
                 self.read_death(it)
 
@@ -190,7 +191,7 @@ class SkosReader:
             made = self.vocabulary.resources.setdefault("scheme", Resource("scheme", "scheme"))
             self.vocabulary.resources = {"scheme": made, **self.vocabulary.resources}
             return "scheme"
-        self.vocabulary.find("NoScheme", resource.name, "it has no scheme; --scheme makes one")
+        self.vocabulary.find("NoScheme", resource.name, "no_scheme")
         return ""
 
     def read_death(self, concept: Resource) -> None:
@@ -204,7 +205,7 @@ class SkosReader:
             if concept.is_dead and number == 0 and self.kind(it) == "concept":
                 concept.replaced = it
             else:
-                self.lose(concept.name, f"isReplacedBy {it}")
+                self.lose(concept.name, "resource", property="isReplacedBy", target=it)
 
     def read_labels(self, resource: Resource) -> None:
         values, vocabulary = self.values[resource.name], self.vocabulary
@@ -216,7 +217,7 @@ class SkosReader:
                     if isinstance(it, Literal):
                         vocabulary.add_label(resource, kind, it.tag or self.given.lang, it.text)
                     else:
-                        self.lose(resource.name, f"{property_name(predicate)} {it}, which is no text")
+                        self.lose(resource.name, "no_text", property=property_name(predicate), target=it)
         if resource.kind == "scheme" and not resource.labels["pref"]:
             self.read_titles(resource)
         if resource.kind == "concept" and self.given.hidden_codes:
@@ -274,7 +275,7 @@ class SkosReader:
                     if self.kind(member) == "concept":
                         links.append(("member", subject, member))
                     elif not self.is_place(member, subject):
-                        self.lose(subject, f"the member {member}, which is no concept of the file")
+                        self.lose(subject, "member", target=member)
         if self.given.keep_iris:
             links += self.old_iris()
 
@@ -284,7 +285,7 @@ class SkosReader:
             if end := self.successor(it):
                 yield "exact", end.name, OUTSIDE + it.name
             else:
-                self.lose(it.name, "the old IRI, as nothing replaces it")
+                self.lose(it.name, "old_iri")
 
     def successor(self, concept: Resource) -> Resource | None:
         """Returns the live concept of its scheme that a concept is, or that replaces it, if there is one."""
@@ -308,19 +309,18 @@ class SkosReader:
         a, b = (node, subject) if is_turned else (subject, node)
         name = property_name(predicate)
         if isinstance(node, Literal) or isinstance(a, Blank) or isinstance(b, Blank):
-            found = node[0] if isinstance(node, Literal) else node
-            self.lose(subject, f"{name} {found}, which is no resource with an IRI")
+            self.lose(subject, "no_resource", property=name, target=node[0] if isinstance(node, Literal) else node)
             return
         if kind in WITHIN and "collection" in (self.kind(a), self.kind(b)):
             if self.is_place(a, b):
                 return
-            self.lose(subject, f"{name} {node}: a collection isn't above or below a concept, and keeps its members")
+            self.lose(subject, "collection_link", property=name, target=node)
             return
         if kind in MAPPING:
             if self.kind(a) != "concept" and self.kind(b) == "concept":
                 kind, a, b = OPPOSITE.get(kind, kind), b, a
             if not self.kind(a):
-                self.lose(subject, f"{name} {node}: neither is a concept of the file")
+                self.lose(subject, "match_of_neither", property=name, target=node)
                 return
             b = b if self.kind(b) else OUTSIDE + b
         self.vocabulary.links.append((kind, a, b))
@@ -378,7 +378,7 @@ class SkosReader:
                 elif self.is_stated_place(subject, predicate, node):
                     continue
                 elif predicate == SKOS + "memberList":
-                    self.lose(subject, "memberList: the order of its members")
+                    self.lose(subject, "order", property="memberList")
                 elif predicate == RDF + "type" and node not in KINDS:
                     self.lose_triple(subject, predicate, node)
                 elif predicate == RDFS_LABEL and ("pref", node) in {
@@ -443,8 +443,8 @@ class SkosReader:
             values = self.values[subject]
             for concept, scheme in self.declared_tops(subject):
                 if concept in below or concept in resources and resources[concept].is_dead:
-                    self.lose(concept, f"topConceptOf {scheme}, though it is no top concept")
+                    self.lose(concept, "not_top", property="topConceptOf", target=scheme)
             for predicate, is_turned in TRANSITIVE.items():
                 for node in values.get(predicate, ()):
                     if not rules.is_above(*((node, subject) if is_turned else (subject, node))):
-                        self.lose(subject, f"{property_name(predicate)} {node}")
+                        self.lose(subject, "resource", property=property_name(predicate), target=node)

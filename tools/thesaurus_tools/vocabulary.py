@@ -4,9 +4,10 @@ from __future__ import annotations
 import re
 from collections.abc import Iterable, Mapping
 from dataclasses import dataclass, field
-from typing import NamedTuple
+from typing import Any, NamedTuple
 
 from thesaurus_tools.fields import ORDER, STANDARD, SUPERORDINATE, WITHIN, Field, is_tag, is_value, tidy
+from thesaurus_tools.finding_messages import FINDINGS, TABLE_FINDINGS
 from thesaurus_tools.kinds import BROADER, LABEL_KINDS
 from thesaurus_tools.link_rules import LINK_ORDER, LinkRules
 
@@ -30,22 +31,30 @@ def by_numbers(text: str) -> list:
 
 
 class Finding(NamedTuple):
-    """What a vocabulary has that a thesaurus can't have: the rule, the resource, and what is left out."""
+    """What a vocabulary has that a thesaurus can't have: the rule, the resource, and what is left out, as the key of
+    its text in FINDINGS, by which others translate it, and its values."""
 
     rule: str
     resource: str
-    what: str
+    key: str
+    values: tuple[tuple[str, Any], ...] = ()
+
+    @property
+    def what(self) -> str:
+        """What is left out, in English."""
+        values = dict(self.values)
+        at = f"@{values['tag']}" if values.get("tag") else ""
+        text = FINDINGS.get(self.key) or TABLE_FINDINGS[self.key]
+        return (text if isinstance(text, str) else text[values["n"] != 1]).format(**values, at=at)
 
     def about(self) -> str:
         """Returns what is concerned: what is lost, the rule that is broken, or that a scheme has no label."""
-        return self.group() or (f"{self.rule} of a scheme" if self.what.startswith("the scheme has no") else self.rule)
+        return self.group() or (f"{self.rule} of a scheme" if self.key == "no_label_of_scheme" else self.rule)
 
     def group(self) -> str:
-        """Returns what kind of thing is lost, such as `notation`; "" for a rule that is broken."""
-        words = self.what.split()
-        return (
-            " ".join(words[: 2 if words[0] in ("a", "the", "column") else 1]).strip(":") if self.rule == "lost" else ""
-        )
+        """Returns what kind of thing is lost: a property, such as `notation`, or a key of LOST; "" for a rule that is
+        broken."""
+        return (dict(self.values).get("property") or self.key) if self.rule == "lost" else ""
 
 
 class FieldValue(NamedTuple):
@@ -93,41 +102,33 @@ class Vocabulary:
     terms: dict[str, str] = field(default_factory=dict)  # the first preferred label of each resource, as it is read
     fields: Mapping[str, Field] = field(default_factory=lambda: STANDARD)
 
-    def find(self, rule: str, resource: str, what: str) -> None:
-        self.findings.append(Finding(rule, resource, what))
+    def find(self, rule: str, resource: str, key: str, **values: Any) -> None:
+        self.findings.append(Finding(rule, resource, key, tuple(values.items())))
 
     def of_kind(self, kind: str) -> list[Resource]:
         return [it for it in self.resources.values() if it.kind == kind]
 
     def add_label(self, owner: Resource, kind: str, tag: str, text: str) -> None:
         """Adds a label, unless it breaks a rule. Preferred labels are added before alternative and hidden ones."""
-        said = f"{kind} label {text!r}@{tag}"
+        said = {"label_kind": kind, "text": text, "tag": tag}
         fitted = fit_text(text, MOST_BYTES.get(kind, 256), self.texts)
         label = tag.lower(), fitted or ""
         held = owner.labels[kind]
         if kind == "pref":
             self.terms.setdefault(owner.name, text)
         if not TAG_FORM.fullmatch(tag):
-            self.find(
-                "BadTag",
-                owner.name,
-                f"{said} has no legal language tag" if tag else f"{said[:-1]} has no language tag; --lang gives one",
-            )
+            self.find("BadTag", owner.name, "label_tag" if tag else "label_without_tag", **said)
         elif fitted is None:
-            self.find(
-                "BadText",
-                owner.name,
-                f"{said} is empty, too long, or has spaces or control characters; --texts trim or cut",
-            )
+            self.find("BadText", owner.name, "label_form", **said)
         elif label in held:
             return
         elif kind == "pref" and any(label[0] == it for it, _ in held):
             if self.second:
                 self.add_label(owner, self.second, tag, text)
                 return
-            self.find("S14", owner.name, f"{said} is a second preferred label in its language")
+            self.find("S14", owner.name, "second_preferred", **said)
         elif kind != "scope" and label in owner.names():
-            self.find("S13", owner.name, f"{said} is a label of another kind already")
+            self.find("S13", owner.name, "other_kind", **said)
         else:
             self.changed += label[1] != text
             held.append(label)
@@ -136,17 +137,16 @@ class Vocabulary:
         """Adds a value of a field, unless the field doesn't take it, or another concept of the scheme has it."""
         its = self.fields[value.field]
         fitted = value._replace(text=tidy(value.text, its.kind), source=tidy(value.source, "line"))
-        said = f"{value.field} {value.text!r}" + (f"@{value.tag}" if value.tag else "")
+        said = {"property": value.field, "text": value.text, "tag": value.tag}
         if its.tag == "language" and not is_tag(its, fitted.tag):
-            wrong = "has no legal language tag" if fitted.tag else "has no language tag; --lang gives one"
-            self.find("BadTag", owner.name, f"{said} {wrong}")
+            self.find("BadTag", owner.name, "value_tag" if fitted.tag else "value_without_tag", **said)
             return
         if not is_value(its, fitted.tag, fitted.text):
-            self.find("BadText", owner.name, f"{said} is empty, too long, or has control characters")
+            self.find("BadText", owner.name, "value_form", **said)
             return
         held = [it for it in owner.values if it.field == fitted.field]
         if held and not its.is_many and (fitted.tag, fitted.text) != held[0][1:3]:
-            self.find("lost", owner.name, f"{said}: it has {held[0].text!r} already")
+            self.find("lost", owner.name, "value_second", **said, held=held[0].text)
         elif (fitted.tag, fitted.text) not in [it[1:3] for it in held]:
             owner.values.append(fitted)
 
@@ -158,7 +158,8 @@ class Vocabulary:
                 if self.fields[value.field].is_unique:
                     first = held.setdefault((it.scheme or it.name, value), it.name)
                     if first != it.name:
-                        self.find("ValueTaken", it.name, f"{value.field} {value.text!r} is that of {first}")
+                        said = {"property": value.field, "text": value.text, "other": first}
+                        self.find("ValueTaken", it.name, "value_taken", **said)
                         it.values.remove(value)
 
     def check_places(self) -> None:
@@ -170,15 +171,15 @@ class Vocabulary:
                     above = self.resources.get(above.replaced)
                 it.places[SUPERORDINATE] = [above.name] if above is not None else []
                 if above is None or above.kind != "concept" or above.is_dead or above.scheme != it.scheme:
-                    self.find("lost", it.name, f"superOrdinate {name}, which is no concept in use of its scheme")
+                    self.find("lost", it.name, "superordinate", property="superOrdinate", target=name)
                     it.places[SUPERORDINATE] = []
             for name in it.places.get(WITHIN, ()):
                 outer = self.resources.get(name)
                 if outer is None or outer.kind != "collection" or outer.scheme != it.scheme:
-                    self.find("lost", it.name, f"its place within {name}, which is no collection of its scheme")
+                    self.find("lost", it.name, "within_none", target=name)
                     it.places[WITHIN] = []
                 elif self.is_within(name, it.name):
-                    self.find("lost", it.name, f"its place within {name}, which is within it")
+                    self.find("lost", it.name, "within_itself", target=name)
                     it.places[WITHIN] = []
             there = [self.resources.get(name) for name in it.places.get(ORDER, ())]
             it.places[ORDER] = [one.name for one in there if one is not None and one.scheme == it.scheme]
@@ -200,7 +201,7 @@ class Vocabulary:
             self.resources.pop(name, None)
         for it in list(self.resources.values()):
             if it.kind != "scheme" and it.scheme not in self.resources:
-                self.find("UnknownResource", it.name, "its scheme is left out")
+                self.find("UnknownResource", it.name, "scheme_left_out")
                 del self.resources[it.name]
 
     def close_gaps(self, gone: Iterable[str]) -> None:
@@ -217,8 +218,7 @@ class Vocabulary:
                 self.links = [it for it in self.links if it[2] != name or it[0] not in BROADER]
                 self.links += [(kind, it, top) for kind, it in heirs for top in self.kept_above(name, gone, above)]
             elif heirs:
-                count = f"{len(heirs)} concept{'s' * (len(heirs) != 1)}"
-                self.find("lost", name, f"the place of {count} below it; --adopt keeps one")
+                self.find("lost", name, "places_below", n=len(heirs))
 
     def kept_above(self, name: str, gone: Iterable[str], above: dict[str, list[tuple[str, str]]]) -> list[str]:
         """Returns the nearest concepts above one that are not left out."""
@@ -238,8 +238,7 @@ class Vocabulary:
             self.qualify()
         lacking = [it for it in self.resources.values() if not it.labels["pref"]]
         for it in lacking:
-            hint = "; --scheme gives one" if it.kind == "scheme" else ""
-            self.find("NoLabel", it.name, f"the {it.kind} has no preferred label{hint}")
+            self.find("NoLabel", it.name, "no_label_of_scheme" if it.kind == "scheme" else "no_label", kinds=it.kind)
         self.leave_out(it.name for it in lacking)
         self.check_unique()
         for it in self.resources.values():
@@ -270,7 +269,7 @@ class Vocabulary:
                         labels[kind] = [it for it in labels[kind] if it != new]
                     labels["pref"] = [new if it == (tag, text) else it for it in labels["pref"]]
                     if len(new[1].encode()) > 256:
-                        self.find("BadText", name, f"{new[1]!r} is too long")
+                        self.find("BadText", name, "qualified_long", text=new[1])
 
     def claims(self, with_dead: bool = False) -> dict[tuple[str, str, str], list[str]]:
         """Returns the live concepts that have a preferred label, by scheme, tag and text."""
@@ -286,12 +285,8 @@ class Vocabulary:
             for name in others:
                 labels = self.resources[name].labels
                 labels["pref"].remove((tag, text))
-                self.find(
-                    "P1",
-                    name,
-                    f"the preferred label {text!r}@{tag} is that of {first}"
-                    + ("" if labels["pref"] else "; the concept is left out"),
-                )
+                key = "taken" if labels["pref"] else "taken_left_out"
+                self.find("P1", name, key, text=text, tag=tag, other=first)
         self.leave_out([it.name for it in self.of_kind("concept") if not it.labels["pref"]])
 
     def check_deaths(self) -> None:
@@ -306,5 +301,5 @@ class Vocabulary:
                 end = self.resources[end.replaced]
                 way.add(end.name)
             if end.replaced:
-                self.find("lost", end.name, f"isReplacedBy {end.replaced}, which is no other concept of its scheme")
+                self.find("lost", end.name, "replaced_elsewhere", property="isReplacedBy", target=end.replaced)
                 end.replaced = ""

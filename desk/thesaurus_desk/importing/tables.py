@@ -17,7 +17,6 @@ from thesaurus_desk.auth.roles import Role
 from thesaurus_desk.importing.replacements import REPLACE, replacing
 from thesaurus_desk.importing.request_series import LONGEST_PLAN, RequestSeries
 from thesaurus_desk.importing.row_trial import try_rows
-from thesaurus_desk.importing.skos_reports import Findings
 from thesaurus_desk.journal import Batch
 from thesaurus_desk.journal.batches import pack
 from thesaurus_desk.journal.edit_conflicts import is_as_seen
@@ -28,6 +27,7 @@ from thesaurus_desk.store.plan_execution import Desk, Outcome
 from thesaurus_desk.store.replica import Replica
 from thesaurus_desk.words import Words
 from thesaurus_tools.concept_finder import RowError
+from thesaurus_tools.conversion import ReportRow
 from thesaurus_tools.fields import Field, table_fields
 from thesaurus_tools.files import TableError
 from thesaurus_tools.headings import Column, Fields, find_columns, read_choices
@@ -72,13 +72,12 @@ class TableRun:
     # The numbers of what rows have made, by the names that the requests give.
     numbers: dict[str, int] = field(default_factory=dict)
     # Of a vocabulary with which a thesaurus is brought up to date: the requests that would make it, whether concepts
-    # end that it no longer has, and what is left out of it, as lines and as a table (CSV).
+    # end that it no longer has, and what is left out of it.
     vocabulary: list[dict[str, Any]] = field(default_factory=list)
     ends_gone: bool = False
     # Of an export: the requests that set all its values.
     exported: list[dict[str, Any]] = field(default_factory=list)
-    report: list[Findings] = field(default_factory=list)
-    table: str = ""
+    report: list[ReportRow] = field(default_factory=list)
 
     @property
     def is_exact(self) -> bool:

@@ -12,11 +12,12 @@ from pathlib import Path
 from typing import Any
 
 from thesaurus_desk.importing.request_series import RequestSeries
-from thesaurus_desk.importing.skos_reports import Findings, by_rules, refused_by_rules
+from thesaurus_desk.importing.skos_reports import Findings, refused_by_rules
 from thesaurus_desk.importing.tables import TableRun
 from thesaurus_desk.journal import Batch
 from thesaurus_desk.journal.batches import pack
 from thesaurus_desk.store.plan_execution import Desk, Outcome
+from thesaurus_tools.conversion import ReportRow, read_report_row
 from thesaurus_tools.rdf_files import FORMATS, PACKED, form_of
 from thesaurus_tools.requests import encode
 from thesaurus_tools.table_plans import TableOptions
@@ -71,7 +72,7 @@ class SkosRun:
 
     name: str
     requests: list[dict[str, Any]]
-    report: list[Findings]
+    report: list[ReportRow]
     refused: list[Findings] = field(default_factory=list)
     # The number of the first scheme that it made, and whether only a part of it was done.
     scheme: int | None = None
@@ -79,8 +80,6 @@ class SkosRun:
     # The digest of its bytes, and the file as the journal has it, once a part was performed.
     digest: str = ""
     batch: Batch | None = None
-    # All that the converter reported, as a table (CSV).
-    table: str = ""
 
 
 def read_skos(desk: Desk, name: str, data: bytes, options: SkosOptions) -> SkosRun:
@@ -103,16 +102,16 @@ def convert_skos(desk: Desk, name: str, data: bytes, options: SkosOptions) -> Sk
     with tempfile.TemporaryDirectory() as folder:
         path = Path(folder, "vocabulary" + "".join(Path(name.lower()).suffixes[-2:]))
         path.write_bytes(data)
-        table = Path(folder, "report.csv")
-        beside = ("--journal", str(desk.journal.path), "--report", str(table))
+        lines = Path(folder, "report.jsonl")
+        beside = ("--journal", str(desk.journal.path), "--report", str(lines))
         ran = run_tool("from-skos", str(path), *options.words(), *beside)
-        report = [it.removeprefix("from-skos: ") for it in ran.stderr.replace(str(path), name).splitlines()]
+        said = [it.removeprefix("from-skos: ") for it in ran.stderr.replace(str(path), name).splitlines()]
         if ran.returncode or not ran.stdout:
-            raise SkosError("failed", "\n".join(report[-SHOWN:]), name=name)
-        digest = hashlib.sha256(data).hexdigest()
-        said = table.read_text(encoding="utf-8-sig")
-        requests = [json.loads(it) for it in ran.stdout.splitlines()]
-        return SkosRun(name, requests, by_rules(said), digest=digest, table=said)
+            raise SkosError("failed", "\n".join(said[-SHOWN:]), name=name)
+        # (a text may have characters at which splitlines() ends a line, as U+2028)
+        requests = [json.loads(it) for it in ran.stdout.split("\n") if it]
+        report = [read_report_row(json.loads(it)) for it in lines.read_text(encoding="utf-8").split("\n") if it]
+        return SkosRun(name, requests, report, digest=hashlib.sha256(data).hexdigest())
 
 
 def run_tool(tool: str, *words: str) -> subprocess.CompletedProcess[str]:
@@ -169,7 +168,7 @@ def update_of(run: SkosRun, scheme: int, ends_gone: bool) -> TableRun:
     """Returns a vocabulary as the rows by which a thesaurus is brought up to date, before they are looked at."""
     update = TableRun(run.name, ["term", "address"], [], [], TableOptions(scheme=scheme), digest=run.digest)
     update.vocabulary, update.ends_gone = run.requests, ends_gone
-    update.report, update.table = run.report, run.table
+    update.report = run.report
     return update
 
 

@@ -12,12 +12,14 @@ from thesaurus_desk.interfaces.reconciliation_queries import (
     LONGEST, MOST_QUERIES, BadQuery, Json, Reconciler, read_json, read_queries,
 )  # fmt: skip
 from thesaurus_desk.interfaces.reconciliation_values import body_of, extend, preview, properties_of, settings_of
+from thesaurus_desk.interfaces.skosmos_vocabulary import integer
 from thesaurus_desk.interfaces.source import Source
 from thesaurus_tools.ntriples import SKOS
 from thesaurus_tools.texts import fold
 from werkzeug.wrappers import Response as AnyResponse
 
-MOST_SUGGESTED = 12
+# How many suggestions an answer has, and how many a client may pass over to see further ones.
+MOST_SUGGESTED, MOST_PASSED_OVER = 12, 200
 # What a suggestion, or the box beside it, may be about.
 SUGGESTED = ("entity", "property", "type")
 
@@ -43,9 +45,9 @@ def manifest(reconciler: Reconciler, root: str) -> Json:
     }  # fmt: skip
 
 
-def entities(reconciler: Reconciler, prefix: str) -> list[Json]:
-    """Returns the concepts that a beginning suggests."""
-    hits = reconciler.replica.search(prefix[:LONGEST], live=True, most=MOST_SUGGESTED)
+def entities(reconciler: Reconciler, prefix: str, most: int) -> list[Json]:
+    """Returns the first concepts that a beginning suggests."""
+    hits = reconciler.replica.search(prefix[:LONGEST], live=True, most=most)
     names = [(it, reconciler.term(it.number, it.tag)) for it in hits]
     return [
         {
@@ -58,15 +60,15 @@ def entities(reconciler: Reconciler, prefix: str) -> list[Json]:
     ]
 
 
-def properties(reconciler: Reconciler, prefix: str) -> list[Json]:
-    """Returns the properties whose name begins with a text."""
-    return beginning_with(properties_of(reconciler).items(), prefix)
+def properties(reconciler: Reconciler, prefix: str, most: int) -> list[Json]:
+    """Returns the first properties whose name begins with a text."""
+    return beginning_with(properties_of(reconciler).items(), prefix)[:most]
 
 
-def types(reconciler: Reconciler, prefix: str) -> list[Json]:
-    """Returns the schemes whose term begins with a text."""
+def types(reconciler: Reconciler, prefix: str, most: int) -> list[Json]:
+    """Returns the first schemes whose term begins with a text."""
     named = [(str(it), reconciler.term(it)) for it in reconciler.replica.numbers("scheme")]
-    return beginning_with(named, prefix)[:MOST_SUGGESTED]
+    return beginning_with(named, prefix)[:most]
 
 
 def beginning_with(named: Iterable[tuple[str, str]], prefix: str) -> list[Json]:
@@ -77,7 +79,7 @@ def beginning_with(named: Iterable[tuple[str, str]], prefix: str) -> list[Json]:
     ]
 
 
-SUGGESTIONS: dict[str, Callable[[Reconciler, str], list[Json]]] = {
+SUGGESTIONS: dict[str, Callable[[Reconciler, str, int], list[Json]]] = {
     "entity": entities,
     "property": properties,
     "type": types,
@@ -133,8 +135,9 @@ def add_reconciliation(blueprint: Blueprint, source: Source) -> None:
     @blueprint.get(f"/reconcile/suggest/<any({','.join(SUGGESTED)}):what>")
     @interface
     def suggest(what: str) -> Json:
-        """Returns what a beginning suggests, while one types."""
-        return {"result": SUGGESTIONS[what](Reconciler(source), required_parameter("prefix"))}
+        """Returns what a beginning suggests, while one types, after those that a client passes over."""
+        prefix, start = required_parameter("prefix"), integer("cursor", 0, MOST_PASSED_OVER)
+        return {"result": SUGGESTIONS[what](Reconciler(source), prefix, start + MOST_SUGGESTED)[start:]}
 
     @blueprint.get(f"/reconcile/flyout/<any({','.join(SUGGESTED)}):what>")
     @interface
@@ -147,7 +150,7 @@ def add_reconciliation(blueprint: Blueprint, source: Source) -> None:
     @interface
     def propose() -> Json:
         """Returns the properties by which rows of a type can be extended."""
-        limit, known = request.args.get("limit", ""), properties_of(Reconciler(source))
-        most = int(limit) if limit.isascii() and limit.isdigit() and len(limit) < 5 else len(known)
+        known = properties_of(Reconciler(source))
+        most = integer("limit", len(known), len(known))
         found = [{"id": it, "name": name} for it, name in list(known.items())[:most]]
         return {"type": request.args.get("type", ""), "limit": most, "properties": found}

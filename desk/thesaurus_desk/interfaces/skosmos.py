@@ -4,7 +4,7 @@ from __future__ import annotations
 from collections.abc import Callable
 from functools import partial
 
-from flask import Blueprint, abort, request
+from flask import Blueprint, Response, abort, request
 from thesaurus_desk.auth.route_roles import interface
 from thesaurus_desk.interfaces import skosmos_lists as lists
 from thesaurus_desk.interfaces.linked_data import wanted_form, whole_vocabulary, write_resource
@@ -17,7 +17,10 @@ from thesaurus_desk.interfaces.skosmos_concepts import (
     transitive,
 )
 from thesaurus_desk.interfaces.skosmos_search import lookup, search_all, search_one
-from thesaurus_desk.interfaces.skosmos_vocabulary import Json, Vocabulary, all_of_them, vocabulary_of
+
+from thesaurus_desk.interfaces.skosmos_vocabulary import (
+    MOST, USUAL, Json, Vocabulary, all_of_them, integer, vocabulary_of,
+)  # fmt: skip
 from thesaurus_desk.interfaces.source import Source
 from thesaurus_desk.interfaces.whole_thesaurus import WholeAnswers
 from werkzeug.wrappers import Response as AnyResponse
@@ -88,9 +91,12 @@ def add_vocabulary(blueprint: Blueprint, source: Source, whole: WholeAnswers) ->
     @blueprint.get(f"/rest/v1/<name>/<any({','.join(TRANSITIVE)}):what>")
     @interface
     def above_or_below(name: str, what: str) -> AnyResponse:
-        """Returns all concepts above or below one."""
+        """Returns all concepts above or below one, or the nearest of them."""
         vocabulary = vocabulary_of(source, name)
         number, is_up = vocabulary.asked("concept"), TRANSITIVE[what]
+        if request.args.get("limit"):
+            nearest = "".join(transitive(vocabulary, number, is_up, integer("limit", USUAL, MOST, least=1)))
+            return Response(nearest, content_type=JSON)
         make = partial(transitive, vocabulary, number, is_up)
         return whole.response((what, vocabulary.scheme, vocabulary.lang, number), make, JSON)
 

@@ -13,25 +13,28 @@ from thesaurus_tools.kinds import LINK_PROPERTIES
 MATCH_OF = {kind: name for name, kind in LINK_PROPERTIES.items()}
 
 
-def climb(replica: Replica, start: int, up: bool) -> list[int]:
-    """Returns a concept and what is above or below it, the nearest first."""
+def climb(replica: Replica, start: int, up: bool, most: int | None = None) -> list[int]:
+    """Returns a concept and what is above or below it, the nearest first; no more than are wanted, if that is given."""
     found, seen = [start], {start}
     for number in found:
+        if most is not None and len(found) >= most:
+            break
         it = replica.get(number)
         news = sorted(((it.broader if up else it.narrower) if it else {}).keys() - seen)
         found += news
         seen.update(news)
-    return found
+    return found[:most]
 
 
-def transitive(vocabulary: Vocabulary, number: int, up: bool) -> Iterator[str]:
-    """Yields the JSON of the concepts above or below one, each with its own neighbours."""
+def transitive(vocabulary: Vocabulary, number: int, up: bool, most: int | None = None) -> Iterator[str]:
+    """Yields the JSON of the concepts above or below one, each with its own neighbours: of the nearest, if no more are
+    wanted."""
     replica = vocabulary.replica
     near, name = ("broader", "broaderTransitive") if up else ("narrower", "narrowerTransitive")
     names = {near: {"@id": f"skos:{near}", "@type": "@id"}, name: {"@id": f"skos:{name}", "@container": "@index"}}
     head = json.dumps({"@context": vocabulary.context(**names), "uri": replica.iri(number)}, ensure_ascii=False)
     yield f'{head[:-1]}, "{name}": {{'
-    for place, it in enumerate(climb(replica, number, up)):
+    for place, it in enumerate(climb(replica, number, up, most)):
         view = replica.view(it)
         others = (view.broader if up else view.narrower) if view else ()
         item = vocabulary.one(it) | ({near: [replica.iri(other) for other in others]} if others else {})

@@ -90,9 +90,8 @@ class Reader:
         ids = row.get("id") or preferred[:1]
         name = ids[0] if len(ids) == 1 else ""
         if not name or name in self.vocabulary.resources or name.startswith(OUTSIDE):
-            self.vocabulary.find(
-                "id", where, f"{name!r} is the id of another row" if name else "the row has no id, or several"
-            )
+            said = {"text": name} if name else {}
+            self.vocabulary.find("id", where, "id_twice" if name else "no_id", **said)
             return
         self.rows[name] = row
         self.vocabulary.places[name] = f"{where}: {name}"
@@ -114,11 +113,12 @@ class Reader:
                 elif column in MAPPINGS:
                     self.vocabulary.links.append((column, name, OUTSIDE + it))
                 elif column != "id" and column.partition("@")[0] not in LABEL_KINDS:
-                    self.vocabulary.find("lost", name, f"column {column or 'without a name'}: {it!r}")
+                    said = {"column": column} if column else {}
+                    self.vocabulary.find("lost", name, "column" if column else "column_without_name", **said, text=it)
         if self.given.keep_iris and IRI_FORM.fullmatch(name):
             self.vocabulary.links.append(("exact", name, OUTSIDE + name))
         elif self.given.keep_iris:
-            self.vocabulary.find("BadIri", name, "its id is no IRI that could be kept")
+            self.vocabulary.find("BadIri", name, "id_no_iri")
 
 
 def arguments() -> argparse.Namespace:

@@ -11,7 +11,7 @@ from thesaurus_desk.auth.route_roles import role
 from thesaurus_desk.importing.export_rows import read_export_rows
 from thesaurus_desk.importing.posting_files import MOST_BYTES, PostingImport, Row
 from thesaurus_desk.importing.row_trial import NoTrial
-from thesaurus_desk.importing.skos_reports import Findings
+from thesaurus_desk.importing.skos_reports import Findings, Reader, by_rules, report_table
 from thesaurus_desk.importing.tables import (
     Importer,
     TableRun,
@@ -39,6 +39,7 @@ from thesaurus_desk.journal.entries import Answer, Batch, Request
 from thesaurus_desk.store.copies import StoreBusy
 from thesaurus_desk.store.plan_execution import TAKE_BACK
 from thesaurus_desk.web.context import (
+    field_words,
     go,
     link,
     may_act,
@@ -91,7 +92,7 @@ def the_uploads() -> Uploads:
 
 def keep(what: TableRun | SkosRun | PostingImport) -> str:
     """Keeps something for the reader, and returns its name."""
-    rows = len(what.requests) + what.table.count("\n") if isinstance(what, SkosRun) else len(what.rows)
+    rows = len(what.requests) + len(what.report) if isinstance(what, SkosRun) else len(what.rows)
     return the_uploads().keep(person().name, what, rows)
 
 
@@ -282,6 +283,7 @@ def table_page(run: TableRun, name: str, status: int) -> Any:
     page = render_template(
         "bring_in/table.html",
         run=run,
+        report=by_rules(run.report, the_reader()),
         unclear=unclear[:MOST_CHOICES],
         others=others[:MOST_CHOICES],
         groups=role_groups(run.columns),
@@ -426,7 +428,13 @@ def skos_page(run: SkosRun, status: int) -> Any:
     """Returns the preview of a vocabulary; it says if the same file was brought in before."""
     before, outside = the_desk().batches.same(run.digest), sum(it["do"] == "outside" for it in run.requests)
     page = render_template(
-        "bring_in/skos.html", run=run, name=keep(run), before=before, outside=outside, room=the_desk().room()
+        "bring_in/skos.html",
+        run=run,
+        report=by_rules(run.report, the_reader()),
+        name=keep(run),
+        before=before,
+        outside=outside,
+        room=the_desk().room(),
     )
     return page, status
 
@@ -440,7 +448,13 @@ def skos_report(name: str) -> Response:
     if run is None:
         abort(404)
     headers = {"Content-Disposition": 'attachment; filename="left-out.csv"'}
-    return Response("\ufeff" + run.table, content_type="text/csv; charset=utf-8", headers=headers)
+    table = report_table(run.report, the_reader())
+    return Response(table, content_type="text/csv; charset=utf-8", headers=headers)
+
+
+def the_reader() -> Reader:
+    """Returns in whose words findings are."""
+    return Reader(words(), field_words)
 
 
 def refused_sentences(run: SkosRun) -> list[Findings]:
@@ -476,7 +490,8 @@ def bring_vocabulary(run: SkosRun) -> Any:
     if outcome.is_done:
         return go(concept_path(run.scheme) if run.scheme else "/", run.batch.plan if run.batch else outcome.plan)
     run.is_cut = True
-    return render_template("bring_in/skos.html", run=run, name="", outcome=outcome, before=None), 409
+    report = by_rules(run.report, the_reader())
+    return render_template("bring_in/skos.html", run=run, report=report, name="", outcome=outcome, before=None), 409
 
 
 # --- files that were cut short ---
