@@ -161,7 +161,7 @@ def number_done(desk: Desk, names: NamedRun, requests: Sequence[dict[str, Any]])
         if "as" in request:
             names.numbers[request["as"]] = answer.get("ok", answer.get("again"))
     if names.batch and names.batch.plan:
-        desk.batches.running.add(names.batch.plan)
+        desk.batches.begin(names.batch.plan)
     return len(steps)
 
 

@@ -31,6 +31,8 @@
   value_search       what a search finds in definitions and notes, and by notations
   value_copies       what becomes of the values of a concept that is merged or split
   resource_history   what the journal says of a resource
+  table_pages        the pages of tables: what each row would do, or what came of it
+  background         what takes long goes on by a thread of its own
   table_columns      what the columns of a table hold, in the reader's words
   list_forms         lists as tables, and with ticks for what is done with many at once
   spreadsheets       lists of resources as tables

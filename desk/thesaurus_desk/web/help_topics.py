@@ -82,6 +82,7 @@ OF_BLUEPRINTS = {
     "coming_in": "account",
     "find": "search",
     "bring_in": "import",
+    "runs": "import",
     "own_fields": "fields",
     "values": "lists",
     "work": "lists",

@@ -151,10 +151,10 @@ def ticked_numbers(name: str) -> set[int]:
     return {int(it) for it in request.form.getlist(name) if is_number(it)}
 
 
-def page_of(text: str, count: int) -> int:
+def page_of(text: str, count: int, size: int = PAGE) -> int:
     """Returns the page that a form asks for, if there is such a one, or else the last."""
     wanted = int(text) if re.fullmatch("[0-9]{1,7}", text) else 0
-    return max(0, min(wanted, (count - 1) // PAGE))
+    return max(0, min(wanted, (count - 1) // size))
 
 
 def ranges_of(numbers: Iterable[int]) -> str:

@@ -2,9 +2,9 @@
 from __future__ import annotations
 
 from dataclasses import replace
-from typing import Any, cast
+from typing import Any
 
-from flask import Blueprint, Response, abort, current_app, redirect, render_template, request
+from flask import Blueprint, Response, abort, redirect, render_template, request
 from markupsafe import Markup
 
 from thesaurus_desk.auth.route_roles import role
@@ -13,17 +13,13 @@ from thesaurus_desk.importing.posting_files import MOST_BYTES, Brought, Row
 from thesaurus_desk.importing.row_trial import NotTried
 from thesaurus_desk.importing.skos_reports import Findings
 from thesaurus_desk.importing.tables import (
-    Bringer,
     TableRun,
     plain,
-    preview_rows,
     read_sent_table,
     refused_rows,
-    run_table,
     table_error_in_words,
     table_of,
 )
-from thesaurus_desk.importing.uploads import Shelf
 from thesaurus_desk.importing.vocabularies import (
     ENDS,
     SkosError,
@@ -35,12 +31,11 @@ from thesaurus_desk.importing.vocabularies import (
     update_of,
     vocabulary_of,
 )
-from thesaurus_desk.journal.entries import Answer, Batch, Request
+from thesaurus_desk.journal.entries import Batch, Request
 from thesaurus_desk.store.copies import StoreBusy
 from thesaurus_desk.store.plan_execution import TAKE_BACK
 from thesaurus_desk.web.context import (
     go,
-    link,
     may_act,
     person,
     say,
@@ -53,22 +48,28 @@ from thesaurus_desk.web.context import (
 )
 from thesaurus_desk.web.forms import FormState, Problem
 from thesaurus_desk.web.journal_text import LINKS, PageLinks, tell_outcome
-from thesaurus_desk.web.tick_lists import numbers_of, ranges_of, ticked_numbers
 from thesaurus_desk.web.refusals import explain
 from thesaurus_desk.web.request_text import sentence_of
 from thesaurus_desk.web.spreadsheets import sheet_of_rows
-from thesaurus_desk.web.table_columns import MOST_CHOICES, choices_of, chosen_columns, column_words, role_groups
+from thesaurus_desk.web.table_columns import chosen_columns
+from thesaurus_desk.web.table_pages import (
+    SHOWN,
+    keep,
+    leave_out,
+    lines_left,
+    show_performance,
+    show_preview,
+    table_page,
+    the_shelf,
+)
 from thesaurus_tools.fields import table_fields
 from thesaurus_tools.files import TableError
 from thesaurus_tools.headings import ColumnsError
-from thesaurus_tools.row_running import RowPlan
 from thesaurus_tools.table_plans import KINDS, NewConceptsError, TableOptions
 
 pages = Blueprint("bring_in", __name__)
 # A form with a file: the file, and some room for the rest.
 LARGEST = MOST_BYTES + (1 << 16)
-# How many rows a page shows.
-SHOWN = 500
 # The encodings of CSV that a form may name, beside those that a file shows itself.
 ENCODINGS = ("cp1252",)
 # The fields of a form that are sent again with its typed rows.
@@ -81,17 +82,6 @@ EXACT = {"": None, "exact": True, "add": False}
 def not_tried(error: NotTried) -> Any:
     """Returns the forms with why the program can't say now what rows would do."""
     return refused("table", say(f"refusals.{error.fault}.text"), "")
-
-
-def the_shelf() -> Shelf:
-    """Returns what is kept for users until they go on."""
-    return cast(Shelf, current_app.extensions["shelf"])
-
-
-def keep(what: TableRun | SkosRun | Brought) -> str:
-    """Keeps something for the reader, and returns its name."""
-    rows = len(what.requests) + what.table.count("\n") if isinstance(what, SkosRun) else len(what.rows)
-    return the_shelf().keep(person().name, what, rows)
 
 
 def has_two() -> bool:
@@ -124,6 +114,7 @@ def start_page(state: FormState, status: int) -> Any:
     page = render_template(
         "bring_in/start.html",
         state=state,
+        runs=the_desk().runs.of(person().name),
         schemes=schemes,
         kinds=kinds,
         encodings=encodings,
@@ -231,7 +222,7 @@ def preview_table() -> Any:
         )
         run.asked = {it: request.form[it] for it in KEPT_FIELDS if it in request.form}
         run.typed = "" if (sent := request.files.get("file")) and sent.filename else request.form.get("typed", "")
-        preview_rows(the_desk(), run, the_bringer())
+        return show_preview(run)
     except ColumnsError as error:
         key = "columns_wrong" if error.roles else "columns_unknown"
         return refused("table", say(f"bring_in.{key}", roles=error.roles, names=error.names), "columns")
@@ -239,7 +230,6 @@ def preview_table() -> Any:
         return refused("table", table_error_in_words(error, name, words()))
     except NewConceptsError:
         return refused("table", say("bring_in.new_concepts"), "tag")
-    return table_page(run, keep(run), 200)
 
 
 @pages.post("/bring-in/table/columns")
@@ -251,100 +241,24 @@ def choose_columns() -> Any:
         return refused("table", say("bring_in.not_kept"), "")
     run = replace(run, columns=chosen_columns(run.columns, request.form), plans=[])
     try:
-        preview_rows(the_desk(), run, the_bringer())
+        return show_preview(run)
     except NewConceptsError:
         return refused("table", say("bring_in.new_concepts"), "tag")
-    return table_page(run, keep(run), 200)
-
-
-def the_bringer() -> Bringer:
-    """Returns the reader as one who brings a table in."""
-    return Bringer(person().name, person().role, the_rights(), words(), tell_outcome)
-
-
-def table_page(run: TableRun, name: str, status: int) -> Any:
-    """Returns the preview of a table, or what came of it."""
-    links = PageLinks(run.made)
-    telling = sorted((it for it in run.plans if it.reason or it.changes), key=lambda it: not it.reason)
-    shown = telling[:SHOWN]
-    # (a row that isn't shown can't be left out, nor one of a vocabulary or an export, which are compared anew)
-    has_ticks = not (run.is_done or run.vocabulary or run.exported) and len(shown) == len(telling)
-    lines = {
-        it.line: [sentence_of(one, answer_to(run, one), the_mirror(), words(), links) for one in it.changes]
-        for it in shown
-        if not it.reason
-    }
-    unclear, others = choices_of(run.columns, run.rows)
-    before = None if run.is_done or run.batch else the_desk().batches.same(run.digest)
-    page = render_template(
-        "bring_in/table.html",
-        run=run,
-        unclear=unclear[:MOST_CHOICES],
-        others=others[:MOST_CHOICES],
-        groups=role_groups(run.columns),
-        before=before,
-        column_words=column_words,
-        rows=shown,
-        lines=lines,
-        moving=moving_records(run),
-        offered=ranges_of(it.line for it in shown if not it.reason) if has_ticks else "",
-        meant={it.line: meant_by(it) for it in shown if it.error},
-        changing=sum(it.does_something and not it.reason for it in run.plans),
-        failed=sum(bool(it.reason) for it in run.plans),
-        name=name,
-        count=len(run.plans),
-        outside=count_outside(run),
-        room=the_desk().room(),
-    )
-    return page, status
-
-
-def count_outside(run: TableRun) -> int:
-    """Returns how many concepts elsewhere the rows of a table make that the store doesn't have."""
-    return sum(it["do"] == "outside" for plan in run.plans if not plan.reason for it in plan.requests)
-
-
-def moving_records(run: TableRun) -> dict[int, int]:
-    """Returns how many records the merges of rows move, by their lines."""
-    merges = {
-        it.line: [one["source"] for one in it.changes if one["do"] == "merge"] for it in run.plans if not it.reason
-    }
-    count = the_mirror().postings.count_records_at
-    return {line: sum(map(count, sources)) for line, sources in merges.items() if sources and not run.is_done}
-
-
-def answer_to(run: TableRun, request: Request) -> Answer:
-    """Returns the number of what a request of a table has made, as an answer; nothing if it has made nothing."""
-    number = run.numbers.get(str(request.get("as", "")))
-    return {"ok": number} if number else {}
-
-
-def meant_by(row: RowPlan) -> Markup:
-    """Returns a link to the concept that a row may mean whose term nothing has, or nothing."""
-    if row.error is None or row.error.key != "not_called":
-        return Markup()
-    kind, text = (str(row.error.values[it]) for it in ("kind", "text"))
-    hits = the_mirror().search(text, kinds=(kind,), live=True, prefer=tags()[0], most=1)
-    return link(hits[0].number) if hits else Markup()
 
 
 @pages.post("/bring-in/table/perform")
 @role("editor")
 def perform_table() -> Any:
-    """Performs a table that was looked at, once: each row is done whole or not at all. Leads to what came of it."""
-    run = the_shelf().take(person().name, request.form.get("name", ""), TableRun)
+    """Performs a table that was looked at, once: each row is done whole or not at all. Leads to what came of it. Or
+    shows another part of a long table, with the ticks."""
+    name = request.form.get("name", "")
+    if "go" in request.form and (shown := the_shelf().find(person().name, name, TableRun)):
+        return table_page(shown, name, 200, lines_left(shown))
+    run = the_shelf().take(person().name, name, TableRun)
     if run is None:
         return refused("table", say("bring_in.not_kept"), "")
-    last = max((it.line for it in run.rows), default=0)
-    leave_out(run, numbers_of(request.form.get("offered", ""), last) - ticked_numbers("row"))
-    run_table(the_desk(), run, the_bringer())
-    return redirect(f"/bring-in/result/{keep(run)}", 303)
-
-
-def leave_out(run: TableRun, lines: set[int]) -> None:
-    """Leaves out the rows of some lines."""
-    run.rows = [it for it in run.rows if it.line not in lines]
-    run.plans = [it for it in run.plans if it.line not in lines]
+    leave_out(run, lines_left(run))
+    return show_performance(run)
 
 
 @pages.get("/bring-in/result/<name>")
@@ -406,8 +320,7 @@ def preview_exported_values(name: str, data: bytes) -> Any:
         run = read_exported_values(name, data, the_mirror().base, the_fields())
     except SkosError as error:
         return refused_skos(error)
-    preview_rows(the_desk(), run, the_bringer())
-    return table_page(run, keep(run), 200)
+    return show_preview(run)
 
 
 def preview_update(name: str, data: bytes, options: SkosOptions, scheme: int) -> Any:
@@ -415,8 +328,7 @@ def preview_update(name: str, data: bytes, options: SkosOptions, scheme: int) ->
     tag, term = the_mirror().term(scheme, tags())
     options = replace(options, lang=options.lang or tag, scheme=options.scheme or term, has_old_addresses=False)
     run = update_of(convert_skos(the_desk(), name, data, options), scheme, "gone" in request.form)
-    preview_rows(the_desk(), run, the_bringer())
-    return table_page(run, keep(run), 200)
+    return show_preview(run)
 
 
 def skos_page(run: SkosRun, status: int) -> Any:
@@ -496,8 +408,8 @@ def go_on(plan: int) -> Any:
     if batch.action != "table":
         return bring_vocabulary(vocabulary_of(rest, batch))
     run = table_of(rest, batch)
-    preview_rows(the_desk(), run, the_bringer())
-    return table_page(run, keep(run), 200)
+    leave_out(run, batches.rows_done(batch))
+    return show_preview(run)
 
 
 def go_on_taking_back(batch: Batch, requests: list[Request]) -> Any:
