@@ -34,7 +34,7 @@ def light_passwords() -> Iterator[None]:
 
 @pytest.fixture(scope="session", autouse=True)
 def patient_requests() -> Iterator[None]:
-    """Requests that wait for the tables that they begin, on a busy machine, too. (test_long_tables has those that don't.)"""
+    """Requests that wait for the tables that they begin, on a busy machine, too (those of test_long_tables don't)."""
     kept, background.PATIENCE = background.PATIENCE, 300.0
     yield
     background.PATIENCE = kept
