@@ -130,13 +130,24 @@ CREATE VIRTUAL TABLE IF NOT EXISTS record_fts USING fts5 (
 CREATE VIRTUAL TABLE IF NOT EXISTS record_word USING fts5vocab (record_fts, row);
 CREATE TRIGGER IF NOT EXISTS record_text_new AFTER INSERT ON record_text BEGIN
   INSERT INTO record_fts (rowid, words) VALUES (new.id, new.words); END;
+-- the words of their titles, by which they are searched
+CREATE VIRTUAL TABLE IF NOT EXISTS record_title USING fts5 (
+  title, content='record_text', content_rowid='id', tokenize="unicode61 remove_diacritics 2", prefix='2 3');
+CREATE TRIGGER IF NOT EXISTS record_title_new AFTER INSERT ON record_text BEGIN
+  INSERT INTO record_title (rowid, title) VALUES (new.id, new.title); END;
+CREATE TRIGGER IF NOT EXISTS record_title_gone AFTER DELETE ON record_text BEGIN
+  INSERT INTO record_title (record_title, rowid, title) VALUES ('delete', old.id, old.title); END;
+CREATE TRIGGER IF NOT EXISTS record_title_changed AFTER UPDATE OF title ON record_text BEGIN
+  INSERT INTO record_title (record_title, rowid, title) VALUES ('delete', old.id, old.title);
+  INSERT INTO record_title (rowid, title) VALUES (new.id, new.title); END;
+INSERT INTO record_title (record_title) SELECT 'rebuild' WHERE NOT EXISTS (SELECT 1 FROM record_title_docsize);
 CREATE TRIGGER IF NOT EXISTS record_text_gone AFTER DELETE ON record_text BEGIN
   INSERT INTO record_fts (record_fts, rowid, words) VALUES ('delete', old.id, old.words); END;
 CREATE TRIGGER IF NOT EXISTS record_text_changed AFTER UPDATE ON record_text BEGIN
   INSERT INTO record_fts (record_fts, rowid, words) VALUES ('delete', old.id, old.words);
   INSERT INTO record_fts (rowid, words) VALUES (new.id, new.words); END;
 """
-TABLES_OF_RECORDS = ("record_word", "record_fts", "record_text")
+TABLES_OF_RECORDS = ("record_word", "record_fts", "record_title", "record_text")
 # The fields that an office has made, what its head has settled, and the values of all fields, with their words and what
 # is within these. Like those above; an index by the texts of notations alone, as definitions are long.
 VALUES = """

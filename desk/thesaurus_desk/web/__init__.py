@@ -18,6 +18,7 @@
   concept_choice     the concept that a field of a form names
   tick_lists         ticks in a long list: of postings, of concepts
   posting_keys       keys of postings that no person has given
+  record_views       which records a search finds, and the concepts of one
   record_forms       the form for all concepts of a record, and the plan that it asks for
   openings           who has which record open
   annif              concepts for a text, by another service

@@ -140,6 +140,18 @@ def load() -> Any:
     return go("/mapping#load")
 
 
+@pages.post("/mapping/<int:number>/remove")
+@role("head")
+def remove(number: int) -> Any:
+    """Begins to remove a vocabulary; what was decided of it stays."""
+    vocabulary, form = vocabulary_of(number), f"remove-{number}"
+    if "sure" not in request.form:
+        return start_page(problem_in(form, "sure", say("mapping.remove_sure")), 409)
+    if not the_loads().remove(vocabulary.name):
+        return start_page(problem_in(form, "", say("mapping.loading_another")), 409)
+    return go("/mapping#load")
+
+
 # --- concepts of a vocabulary ---
 
 
