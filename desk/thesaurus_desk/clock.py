@@ -5,7 +5,7 @@ from datetime import UTC, date, datetime, timedelta
 
 from markupsafe import Markup
 
-from thesaurus_desk.journal.schema import written
+from thesaurus_desk.journal.schema import time_text
 
 # The days after which another year, month or day has begun, by how many characters name it.
 DAYS = {4: 366, 7: 31, 10: 1}
@@ -47,4 +47,4 @@ def span_of(day: str) -> tuple[str, str] | None:
 
 def begin_of(day: date) -> str:
     """Returns when a day begins by the office's clock."""
-    return written(datetime(day.year, day.month, day.day).astimezone(UTC))
+    return time_text(datetime(day.year, day.month, day.day).astimezone(UTC))

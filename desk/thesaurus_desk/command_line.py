@@ -1,5 +1,7 @@
 """A desk for the editors and indexers of a thesaurus: starts the program, and serves pages on this machine.
 
+  tools/desk --sample
+        thirty instruments to try everything with; they are gone at its end
   tools/desk --db museum.db --alone anna
         one person at this machine: prints an address with a key once it listens, and opens the browser
   tools/desk --db museum.db --users users.json --port 8090 --host desk.museum.example --secure --proxy secret
@@ -92,6 +94,7 @@ def serving_parser() -> argparse.ArgumentParser:
     add_store(parser)
     add = parser.add_argument
     add("--base", metavar="IRI", help="what the addresses of a new store begin with")
+    add("--sample", action="store_true", help="a sample in a temporary folder, for one person at this machine")
     add("--alone", metavar="NAME", help="one person at this machine, under this name")
     add("--users", type=Path, metavar="FILE", help="several people: their names, roles and hashed passwords")
     add(
@@ -156,14 +159,16 @@ def serving_arguments(words: list[str]) -> argparse.Namespace:
     """Returns the arguments for serving. Ends with status 2 if they don't fit together."""
     parser = serving_parser()
     given = parser.parse_args(words)
-    if not given.db:
-        parser.error("--db FILE is needed: which store?")
-    if bool(given.users) == bool(given.alone):
+    if given.sample and (given.db or given.base or given.users):
+        parser.error("--sample has a store of its own, for one person: leave out --db, --base and --users")
+    if not given.db and not given.sample:
+        parser.error("--db FILE is needed: which store? (--sample shows one)")
+    if not given.sample and bool(given.users) == bool(given.alone):
         parser.error("one of --alone NAME and --users FILE is needed: who may come in?")
-    if given.alone and (given.proxy or given.remote_user or given.public):
-        parser.error("--alone is for one person at this machine, without a server in front")
-    if given.alone and given.workers:
-        parser.error("--alone is served by one process: --workers is for --users")
+    if not given.users and (given.proxy or given.remote_user or given.public):
+        parser.error("--alone and --sample are for one person at this machine, without a server in front")
+    if not given.users and given.workers:
+        parser.error("--alone and --sample are served by one process: --workers is for --users")
     if given.remote_user and not given.proxy:
         parser.error("--remote-user needs --proxy FILE, or any program on this machine could send a name")
     # (each process that makes pages has the same options)
@@ -232,6 +237,6 @@ def main(words: list[str] | None = None) -> int:
 
         return check_journal(given)
     given = serving_arguments(rest)
-    from thesaurus_desk.server import serve  # (help needs no Flask)
+    from thesaurus_desk.server import serve, serve_sample  # (help needs no Flask)
 
-    return serve(given)
+    return serve_sample(given) if given.sample else serve(given)

@@ -20,11 +20,11 @@ from thesaurus_desk.server import end, entry_of, log_to_stderr, server_of, setti
 from thesaurus_desk.store.desk_reader import ReadDesk
 from thesaurus_desk.store.plan_execution import Desk
 from thesaurus_desk.web.app import create_app
-from thesaurus_desk.web.office_link import Passing
+from thesaurus_desk.web.office_link import Forwarder
 from thesaurus_tools.desk_socket import folder_of
 
 
-class ToOffice(logging.Handler):
+class OfficeLogHandler(logging.Handler):
     """Tells the office each error of the log, which keeps it."""
 
     def emit(self, record: logging.LogRecord) -> None:
@@ -37,7 +37,7 @@ def main(words: list[str]) -> None:
     """Serves pages until it is ended by a signal."""
     number, *options = words
     log_to_stderr()
-    logging.getLogger().addHandler(ToOffice(logging.ERROR))
+    logging.getLogger().addHandler(OfficeLogHandler(logging.ERROR))
     given = serving_arguments(options)
     signal.signal(signal.SIGTERM, end)
     if not sys.stdin.readline():
@@ -46,7 +46,7 @@ def main(words: list[str]) -> None:
     desk = ReadDesk(given.db)
     # (to pages it is a desk, of which they can't have all)
     app = create_app(cast(Desk, desk), entry_of(given), settings_of(given, bound.getsockname()[1]), None)
-    server = server_of(Passing(app, folder_of(given.db)), given, bound)
+    server = server_of(Forwarder(app, folder_of(given.db)), given, bound)
     with contextlib.suppress(KeyboardInterrupt, SystemExit):
         print(READY, flush=True)
         server.run()

@@ -8,6 +8,7 @@ import os
 import signal
 import socket
 import sys
+import tempfile
 import threading
 import webbrowser
 from functools import partial
@@ -19,19 +20,20 @@ import waitress  # type: ignore[import]
 from flask import Flask
 
 from thesaurus_desk.auth.accounts import Accounts, fault_of_name
-from thesaurus_desk.auth.authentication import Alone, ByPassword, ByProxy, Entry, Proxy
+from thesaurus_desk.auth.authentication import SingleUserEntry, PasswordEntry, ProxyEntry, Entry, Proxy
 from thesaurus_desk.command_line import LIMITS
 from thesaurus_desk.page_processes import PageProcesses, usual_count
+from thesaurus_desk.sample import GUEST, make_sample
 from thesaurus_desk.settings import Settings
-from thesaurus_desk.store.background_tasks import Chore
+from thesaurus_desk.store.background_tasks import BackgroundTask
 from thesaurus_desk.store.backups import BackupSettings, DeskBackups
 from thesaurus_desk.store.health import Health
 from thesaurus_desk.store.open_store import has_store
 from thesaurus_desk.store.open_store import SOON, is_large
 from thesaurus_desk.store.plan_execution import Desk
-from thesaurus_desk.store.snapshot import MomentServer
+from thesaurus_desk.store.snapshot import SnapshotServer
 from thesaurus_desk.web.app import create_app
-from thesaurus_desk.web.office_link import PAGES, FromPages
+from thesaurus_desk.web.office_link import PAGES, PageConnections
 from thesaurus_desk.web.watch_mail import WatchMail
 from thesaurus_tools.command_line import DONE, REFUSED, USAGE, ToolError
 from thesaurus_tools.desk_socket import address_in
@@ -85,14 +87,18 @@ def entry_of(given: argparse.Namespace) -> Entry:
     if given.alone:
         if fault_of_name(given.alone):
             raise ToolError(f"{given.alone!r} is no name: 1 to 64 visible characters", USAGE)
-        return Alone(given.alone)
+        return SingleUserEntry(given.alone)
     accounts = Accounts(given.users)
     if not given.users.exists() or not accounts.all():
         raise ToolError(
             f"{given.users}: there are no users yet: tools/desk user add NAME --role head --users {given.users}", USAGE
         )
     proxy = Proxy(read_secret(given.proxy)) if given.proxy else None
-    return ByProxy(accounts, proxy, dict(given.group)) if proxy and given.remote_user else ByPassword(accounts, proxy)
+    return (
+        ProxyEntry(accounts, proxy, dict(given.group))
+        if proxy and given.remote_user
+        else PasswordEntry(accounts, proxy)
+    )
 
 
 def listen(port: int) -> socket.socket:
@@ -148,31 +154,42 @@ def serve(given: argparse.Namespace) -> int:
     return DONE
 
 
+def serve_sample(given: argparse.Namespace) -> int:
+    """Makes the sample in a folder of its own, serves it to one person, and returns the exit status."""
+    signal.signal(signal.SIGTERM, end)
+    given.alone = given.alone or GUEST
+    with tempfile.TemporaryDirectory(prefix="thesaurus-sample-") as folder:
+        given.db = make_sample(find_program(given.program), Path(folder), given.alone)
+        return serve(given)
+
+
 def serve_started(
     desk: Desk, entry: Entry, given: argparse.Namespace, bound: socket.socket, processes: PageProcesses
 ) -> None:
     """Serves the pages, answers tools, and does what is done beside, until it is ended."""
     backups = DeskBackups(desk, given.users, backup_settings(given)) if given.backups else None
     health = Health(desk, backups)
-    chores = [
-        Chore("renewal", desk.renew),
-        Chore("names", desk.decisions.note_lacking),
-        Chore("errors", health.errors.write),
-        Chore("counts", desk.below.bring_up),
-        Chore("daily counts", desk.daily_counts.note_if_due),
+    background_tasks = [
+        BackgroundTask("renewal", desk.renew),
+        BackgroundTask("names", desk.decisions.note_lacking),
+        BackgroundTask("errors", health.errors.write),
+        BackgroundTask("counts", desk.below.bring_up),
+        BackgroundTask("daily counts", desk.daily_counts.note_if_due),
     ]
-    chores += [Chore("backups", backups.make_if_due)] if backups else []
-    moments = MomentServer(desk, given.users)
+    background_tasks += [BackgroundTask("backups", backups.make_if_due)] if backups else []
+    snapshots = SnapshotServer(desk, given.users)
     settings = settings_of(given, bound.getsockname()[1])
     if entry.accounts is not None:
-        chores.append(Chore("mail", WatchMail(desk, entry.accounts, min(settings.origins)).send_if_due))
+        background_tasks.append(
+            BackgroundTask("mail", WatchMail(desk, entry.accounts, min(settings.origins)).send_if_due)
+        )
     app = create_app(desk, entry, settings, health)
-    for it in chores:
+    for it in background_tasks:
         it.start()
     try:
         with contextlib.suppress(KeyboardInterrupt, SystemExit):
             if processes.all:
-                run_office(app, given, moments.folder)
+                run_office(app, given, snapshots.folder)
                 processes.serve(health.errors.add)
                 print(f"desk: {address_of(bound)}", flush=True)
                 threading.Event().wait()
@@ -181,8 +198,8 @@ def serve_started(
     finally:
         # (who has sent something gets the answer: the office goes on until they have ended)
         processes.end()
-        moments.end()
-        for it in chores:
+        snapshots.end()
+        for it in background_tasks:
             it.end()
         health.errors.write()
 
@@ -216,12 +233,12 @@ def run_alone(app: Flask, entry: Entry, given: argparse.Namespace, bound: socket
     """Serves the pages by this process alone, and says where once it listens."""
     server = server_of(app, given, bound)
     address = address_of(bound)
-    if isinstance(entry, Alone):
+    if isinstance(entry, SingleUserEntry):
         entry.announce = partial(print_entrance, f"{address}enter?key=")
         address += f"enter?key={entry.key}"
     with contextlib.suppress(KeyboardInterrupt, SystemExit):
         print(f"desk: {address}", flush=True)
-        if isinstance(entry, Alone) and not given.no_browser and has_screen():
+        if isinstance(entry, SingleUserEntry) and not given.no_browser and has_screen():
             webbrowser.open(address)
         server.run()
     server.close()
@@ -232,7 +249,7 @@ def run_office(app: Flask, given: argparse.Namespace, folder: Path) -> None:
     passed = socket.socket(socket.AF_UNIX, socket.SOCK_STREAM)
     with address_in(folder, PAGES) as address:
         passed.bind(address)
-    server = server_of(FromPages(app), given, passed)
+    server = server_of(PageConnections(app), given, passed)
     threading.Thread(target=server.run, name="office", daemon=True).start()
 
 

@@ -3,7 +3,7 @@ from __future__ import annotations
 
 from typing import Any
 
-from thesaurus_desk.store.difference import attached, differences
+from thesaurus_desk.store.difference import attach_store, differences
 from thesaurus_desk.store.digest import digest_of_rows
 from thesaurus_desk.store.model import View
 from thesaurus_desk.store.plan_execution import Desk, Outcome
@@ -48,7 +48,7 @@ def assert_as_store(desk: Desk) -> None:
     """The replica, the digest of its rows and the counts in the journal are those of the store."""
     desk.program.stop()
     rows = desk.journal.rows
-    with attached(rows, desk.db):
+    with attach_store(rows, desk.db):
         assert differences(rows) == []
     assert desk.replica.digest() == f"{digest_of_rows(rows):032x}"
     assert desk.journal.digest() in ("", desk.replica.digest())

@@ -12,9 +12,9 @@ from typing import Any, TypeVar
 import pytest
 from flask import Flask
 from thesaurus_desk.auth.accounts import Accounts
-from thesaurus_desk.auth.authentication import ByPassword, Entry
+from thesaurus_desk.auth.authentication import PasswordEntry, Entry
 from thesaurus_desk.auth.roles import Role, role_named
-from thesaurus_desk.importing.uploads import unpacked
+from thesaurus_desk.importing.uploads import unpack
 from thesaurus_desk.settings import Settings
 from thesaurus_desk.store.changes import Change
 from thesaurus_desk.store.health import Health
@@ -35,7 +35,7 @@ AGAIN = "Please send it again"
 def last_upload(site: Site, kind: type[T]) -> T:
     """Returns what somebody has sent last, and looks at before it is performed."""
     row = site.desk.journal.one("SELECT data FROM upload ORDER BY rowid DESC LIMIT 1")
-    found = unpacked(row["data"]) if row else None
+    found = unpack(row["data"]) if row else None
     assert isinstance(found, kind), found
     return found
 
@@ -116,7 +116,7 @@ def users_below(lowest: Role) -> list[str]:
 
 def site_of(desk: Desk, users: Path, **settings: Any) -> Site:
     """Returns the site of a desk to which people come by passwords."""
-    return Site(desk, ByPassword(Accounts(users)), Settings(frozenset({HOST}), **settings))
+    return Site(desk, PasswordEntry(Accounts(users)), Settings(frozenset({HOST}), **settings))
 
 
 def text_of(answer: TestResponse) -> str:

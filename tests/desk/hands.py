@@ -23,6 +23,8 @@ from thesaurus_desk.words import Words
 # What the pages of a browser in English say.
 SAY = Words("en")
 PATIENCE = 120.0
+# How many seconds a page may take to go once it is left. (What is sent for a file stays.)
+LEAVING = 10.0
 MOST_TABS = 300
 # Finds what can be worked with by its name: its label, or its text. An exact name goes before one that only begins so.
 FIND = """
@@ -39,6 +41,19 @@ PRESSED = "a[href], button, summary"
 FIELDS = "input:not([type=hidden], [type=checkbox], [type=radio]), textarea, select"
 BOXES = "input[type=checkbox], input[type=radio]"
 OPTIONS = "return [...document.querySelectorAll('.suggestions:not([hidden]) li')]"
+# Notes on a page whether it is about to go: a form that is sent, or a link that is followed, and by no script.
+WATCH = """
+if (!window.isWatched) {
+  window.isWatched = true;
+  addEventListener("submit", (event) => { window.isLeaving = !event.defaultPrevented; });
+  addEventListener("click", (event) => {
+    const link = event.target.closest && event.target.closest("a[href]");
+    const stays = !link || link.target || link.hasAttribute("download") || link.getAttribute("href").includes("#");
+    if (!stays) window.isLeaving = !event.defaultPrevented;
+  });
+}
+window.isLeaving = false;
+"""
 # Whether there are suggestions for the whole text of the field that has the focus.
 ARE_SHOWN = """
 const field = document.activeElement, list = document.getElementById(field.getAttribute("aria-controls"));
@@ -117,9 +132,26 @@ class Hand(ABC):
         """Gives what has a name the focus, again if its page goes meanwhile (a sent form may be on its way)."""
         self.wait(lambda: self.reach(self.find(name, kinds)) is None, f"{name!r}")
 
-    @abstractmethod
     def press(self, name: str) -> None:
-        """Presses a link or a button, or opens or closes what a summary heads."""
+        """Presses a link or a button, or opens or closes what a summary heads. If that leads to a page, it is there."""
+        self.clicks += 1
+        self.find(name, PRESSED)
+        self.driver.execute_script(WATCH)
+        self.push(name)
+        end = time.monotonic() + LEAVING
+        while self.is_leaving() and time.monotonic() < end:
+            time.sleep(0.02)
+
+    def is_leaving(self) -> bool:
+        """Returns whether the page that something was pressed on is still there, and about to go."""
+        try:
+            return bool(self.driver.execute_script("return Boolean(window.isLeaving)"))
+        except WebDriverException:
+            return True
+
+    @abstractmethod
+    def push(self, name: str) -> None:
+        """Presses a link, a button or a summary."""
 
     @abstractmethod
     def tick(self, name: str) -> None:
@@ -186,8 +218,7 @@ class Mouse(Hand):
         self.driver.execute_script("arguments[0].scrollIntoView({block: 'center'})", it)
         it.click()
 
-    def press(self, name: str) -> None:
-        self.clicks += 1
+    def push(self, name: str) -> None:
         self.reach_named(name, PRESSED)
 
     def tick(self, name: str) -> None:
@@ -214,8 +245,7 @@ class Keyboard(Hand):
             self.type_keys(Keys.TAB)
         raise AssertionError(f"the Tab key never comes to {it.get_attribute('outerHTML')}")
 
-    def press(self, name: str) -> None:
-        self.clicks += 1
+    def push(self, name: str) -> None:
         self.reach_named(name, PRESSED)
         self.type_keys(Keys.ENTER)
 

@@ -7,13 +7,13 @@ from pathlib import Path
 from typing import Any
 
 from program import built
-from thesaurus_desk.store.exported import OwnReplica
+from thesaurus_desk.store.export_replica import ExportReplica
 from thesaurus_tools.table_store import TABLES_VERSION
 
 BASE = "https://thesaurus.example/id/"
 
 
-class MadeReplica(OwnReplica):
+class MadeReplica(ExportReplica):
     """A replica of a store that the program makes by requests, all of which it accepts."""
 
     def __init__(self, *requests: dict[str, Any], base: str = BASE) -> None:

@@ -55,12 +55,12 @@ def museum_client() -> FlaskClient:
     return client_of(museum())
 
 
-def client_of(mirror: Replica) -> FlaskClient:
+def client_of(replica: Replica) -> FlaskClient:
     """Returns a client of the interfaces over a replica."""
     app = Flask("publish")
     changes = Changes(lambda time: [it for it in CHANGED if it[1] >= time])
     app.register_blueprint(
-        interfaces_of(Source(lambda: mirror, lambda it: (MADE.get(it), dict(CHANGED).get(it)), changes))
+        interfaces_of(Source(lambda: replica, lambda it: (MADE.get(it), dict(CHANGED).get(it)), changes))
     )
     return app.test_client()
 

@@ -8,7 +8,7 @@ from typing import Any
 
 from flask import Flask
 from flask.testing import FlaskClient
-from thesaurus_desk.auth.authentication import Alone
+from thesaurus_desk.auth.authentication import SingleUserEntry
 from thesaurus_desk.settings import Settings
 from thesaurus_desk.store.health import Health
 from thesaurus_desk.store.plan_execution import Desk
@@ -210,7 +210,7 @@ class Reader:
 
 def come_in(desk: Desk) -> Reader:
     """Returns someone alone at a desk, who has come in."""
-    entry = Alone("anna")
+    entry = SingleUserEntry("anna")
     app = create_app(desk, entry, Settings(frozenset({"localhost"})), Health(desk, None))
     app.testing = True
     found = Reader(app)

@@ -6,7 +6,7 @@ from pathlib import Path
 
 import pytest
 from clients import Client, Site, site_of, text_of
-from thesaurus_desk.journal.recovery import Found
+from thesaurus_desk.journal.recovery import StartReport
 from thesaurus_desk.store.plan_execution import Desk
 from thesaurus_desk.web.pages import about
 
@@ -74,12 +74,12 @@ def test_the_prover_is_named_for_the_program_that_runs_alone(
 @pytest.mark.parametrize(
     ("found", "said"),
     [
-        (Found(), "The store was what the journal knows of it."),
-        (Found(is_changed=True, changed=(5, 6)), "changed by another program: 2 concepts"),
-        (Found(is_changed=True, restored="2026-01-02"), "A backup had been restored."),
+        (StartReport(), "The store was what the journal knows of it."),
+        (StartReport(is_changed=True, changed=(5, 6)), "changed by another program: 2 concepts"),
+        (StartReport(is_changed=True, restored="2026-01-02"), "A backup had been restored."),
     ],
 )
-def test_what_the_start_found(site: Site, found: Found, said: str) -> None:
+def test_what_the_start_found(site: Site, found: StartReport, said: str) -> None:
     site.desk.found = found
     page = words_of(site.client("rita"), "/about")
     assert said in page and ("what the journal knows" in page) is not found.is_changed

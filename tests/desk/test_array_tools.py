@@ -14,13 +14,13 @@ from test_array_pages import LABEL
 from test_arrays import BASSES, BOWED, CELLOS, QUARTET, array, collection, place
 from thesaurus_desk.importing.vocabularies import SkosOptions, perform_script, read_skos
 from thesaurus_desk.interfaces import interfaces_of
-from thesaurus_desk.store.exported import export_source, read_export
 from thesaurus_desk.store.arrays import parts_of
+from thesaurus_desk.store.export_replica import export_source, read_export
 from thesaurus_desk.store.plan_execution import Desk
-from thesaurus_tools.arrays import numbered, places_of_triples
+from thesaurus_tools.arrays import number_places, places_of_triples
 from thesaurus_tools.export_store import store_of_export
 from thesaurus_tools.ntriples import Triple, read_ntriples
-from thesaurus_tools.rdf_writing import ISO_THES
+from thesaurus_tools.rdf_writer import ISO_THES
 from whole import resources
 
 BASE = "https://thesaurus.example/id/"
@@ -67,12 +67,12 @@ def test_an_export_has_what_the_journal_has(site: Site, export: Path, program: s
 
 def test_what_is_read_of_an_export(site: Site, export: Path) -> None:
     triples = list(read_ntriples(export))
-    places = numbered(places_of_triples(triples), BASE)
+    places = number_places(places_of_triples(triples), BASE)
     mine = site.desk.arrays.now(site.desk.replica)
     assert (places.named, places.outer) == (mine.named, mine.outer) and {*places.orders} == {*mine.orders}
-    mirror = read_export(export)
-    published = export_source(lambda: mirror)
-    own = [number for number, it in resources(mirror).items() if it.kind != "outside"]
+    replica = read_export(export)
+    published = export_source(lambda: replica)
+    own = [number for number, it in resources(replica).items() if it.kind != "outside"]
     again = [it for number in own for it in published.triples(number)]
     assert of_places(again) == of_places(triples)
     store = store_of_export("x", triples)
@@ -137,9 +137,9 @@ def test_a_vocabulary_brings_them_in(desk: Desk) -> None:
 
 
 def test_skosmos_lists_nest_and_keep_the_order(site: Site, export: Path) -> None:
-    mirror = read_export(export)
+    replica = read_export(export)
     app = Flask("publish")
-    app.register_blueprint(interfaces_of(export_source(lambda: mirror)))
+    app.register_blueprint(interfaces_of(export_source(lambda: replica)))
     mine = site.desk.arrays.now(site.desk.replica)
     ((inner, outer),) = [(low, high) for low, high in mine.outer.items() if low != QUARTET]
     around = mine.outer[QUARTET]

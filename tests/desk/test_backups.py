@@ -22,7 +22,7 @@ from thesaurus_desk.store.backups import BackupSettings, DeskBackups
 from thesaurus_desk.store.copies import StoreBusy
 from thesaurus_desk.store.health import Health
 from thesaurus_desk.store.plan_execution import Desk
-from thesaurus_desk.store.snapshot import MomentServer
+from thesaurus_desk.store.snapshot import SnapshotServer
 from thesaurus_desk.web.app import create_app
 from thesaurus_tools.command_line import ToolError
 from thesaurus_tools.desk_socket import folder_of
@@ -43,9 +43,9 @@ def backups(desk: Desk, users: Path, tmp_path: Path) -> DeskBackups:
 
 
 @pytest.fixture
-def moments(desk: Desk, users: Path) -> Iterator[MomentServer]:
+def moments(desk: Desk, users: Path) -> Iterator[SnapshotServer]:
     """The socket of a desk."""
-    server = MomentServer(desk, users)
+    server = SnapshotServer(desk, users)
     yield server
     server.end()
 
@@ -178,7 +178,7 @@ def tool(*words: object) -> subprocess.CompletedProcess[str]:
     return subprocess.run(list(map(str, call)), capture_output=True, text=True, check=False)
 
 
-def test_the_tool_asks_the_desk(desk: Desk, moments: MomentServer, program: str, tmp_path: Path) -> None:
+def test_the_tool_asks_the_desk(desk: Desk, moments: SnapshotServer, program: str, tmp_path: Path) -> None:
     add_term(desk, "One")
     ran = tool(desk.db, tmp_path / "backups", "--program", program, "--keep", 3)
     assert ran.returncode == 0, ran.stderr
@@ -188,7 +188,7 @@ def test_the_tool_asks_the_desk(desk: Desk, moments: MomentServer, program: str,
     add_term(desk, "Two")
 
 
-def test_the_socket_is_its_user_s_alone(desk: Desk, moments: MomentServer) -> None:
+def test_the_socket_is_its_user_s_alone(desk: Desk, moments: SnapshotServer) -> None:
     folder = folder_of(desk.db)
     assert folder.stat().st_mode & 0o777 == 0o700
     moments.end()
@@ -196,7 +196,7 @@ def test_the_socket_is_its_user_s_alone(desk: Desk, moments: MomentServer) -> No
 
 
 def test_another_user_isn_t_answered(
-    desk: Desk, moments: MomentServer, monkeypatch: pytest.MonkeyPatch, program: str, tmp_path: Path
+    desk: Desk, moments: SnapshotServer, monkeypatch: pytest.MonkeyPatch, program: str, tmp_path: Path
 ) -> None:
     """Even where the folder could be opened."""
     monkeypatch.setattr("thesaurus_desk.store.snapshot.ROOT", -1)
@@ -289,7 +289,7 @@ def test_the_document_restores_the_newest_backup_of_this_store(tmp_path: Path) -
     for name in ("museum-20261129T020000Z", "museum-20261130T020000Z", "museum-3-20991231T020000Z"):
         (tmp_path / "backups" / name).mkdir(parents=True)
     text = (ROOT / "docs" / "OPERATING.md").read_text(encoding="utf-8")
-    found = re.findall(r'(?m)^last=\$\((ls -d backups/museum-[^)]*)\)$', text)
+    found = re.findall(r"(?m)^last=\$\((ls -d backups/museum-[^)]*)\)$", text)
     assert found
     for it in found:
         ran = subprocess.run(["sh", "-c", it], cwd=tmp_path, capture_output=True, text=True, check=True)

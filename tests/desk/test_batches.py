@@ -13,7 +13,7 @@ import pytest
 from clients import Client, Site, site_of, text_of
 from test_bring_in import anna, perform, send  # noqa: F401 (anna is a fixture)
 from test_changes import number
-from thesaurus_desk.importing.named_requests import NamedRun
+from thesaurus_desk.importing.request_series import RequestSeries
 from thesaurus_desk.journal import Draft
 from thesaurus_desk.store.plan_execution import Desk
 from whole import resources
@@ -138,14 +138,14 @@ class Killed(Exception):
 
 def cut_after(parts: int, monkeypatch: pytest.MonkeyPatch) -> None:
     """Has the desk end after some parts of a file."""
-    whole, done = NamedRun.perform, iter(range(parts))
+    whole, done = RequestSeries.perform, iter(range(parts))
 
-    def cut(self: NamedRun, requests: Any) -> Any:
+    def cut(self: RequestSeries, requests: Any) -> Any:
         if next(done, None) is None:
             raise Killed
         return whole(self, requests)
 
-    monkeypatch.setattr(NamedRun, "perform", cut)
+    monkeypatch.setattr(RequestSeries, "perform", cut)
 
 
 def cut_short(site: Site, monkeypatch: pytest.MonkeyPatch, start: Callable[[Client], Any], parts: int) -> None:

@@ -10,7 +10,7 @@ from pathlib import Path
 import pytest
 from clients import AGAIN, HOST, Site, show_rows, site_of
 from processes import running
-from thesaurus_desk.auth.authentication import Alone
+from thesaurus_desk.auth.authentication import SingleUserEntry
 from thesaurus_desk.auth.route_roles import MOST_FIELDS, MOST_OF_VISITORS
 from thesaurus_desk.importing.tables import safe_ending
 from thesaurus_desk.settings import Settings
@@ -58,7 +58,7 @@ def test_only_sessions_with_a_user_are_kept_as_ended(site: Site) -> None:
 
 
 def test_a_key_is_good_once(desk: Desk) -> None:
-    entry = Alone("anna")
+    entry = SingleUserEntry("anna")
     new: list[str] = []
     entry.announce = new.append
     site = Site(desk, entry, Settings(frozenset({HOST})))

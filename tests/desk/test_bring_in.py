@@ -13,7 +13,7 @@ from typing import Any
 import pytest
 from clients import Client, Site, text_of
 from test_changes import number
-from thesaurus_desk.importing.uploads import MOST_KEPT, MOST_OF_USER, MOST_ROWS_OF_USER, Shelf
+from thesaurus_desk.importing.uploads import MOST_KEPT, MOST_OF_USER, MOST_ROWS_OF_USER, Uploads
 from thesaurus_desk.store.plan_execution import Desk
 from thesaurus_desk.words import LANGUAGES, Words, texts_of
 from thesaurus_tools.headings import ROLES, ColumnsError, read_choices
@@ -607,17 +607,17 @@ def test_a_table_that_takes_too_much(anna: Client, monkeypatch: pytest.MonkeyPat
 
 
 def test_the_shelf_is_bounded_by_user_and_rows(desk: Desk) -> None:
-    shelf = Shelf(desk.journal)
-    kept = [shelf.keep("ben", it, 10) for it in range(MOST_OF_USER + 2)]
-    other = shelf.keep("anna", "x", 10)
-    assert [shelf.find("ben", it, int) for it in kept] == [None, None, *range(2, MOST_OF_USER + 2)]
-    last = shelf.keep("ben", 99, MOST_ROWS_OF_USER)
-    assert shelf.find("ben", last, int) == 99 and shelf.find("ben", kept[-1], int) is None
-    assert shelf.find("anna", other, str) == "x" and shelf.find("ben", other, str) is None
+    uploads = Uploads(desk.journal)
+    kept = [uploads.keep("ben", it, 10) for it in range(MOST_OF_USER + 2)]
+    other = uploads.keep("anna", "x", 10)
+    assert [uploads.find("ben", it, int) for it in kept] == [None, None, *range(2, MOST_OF_USER + 2)]
+    last = uploads.keep("ben", 99, MOST_ROWS_OF_USER)
+    assert uploads.find("ben", last, int) == 99 and uploads.find("ben", kept[-1], int) is None
+    assert uploads.find("anna", other, str) == "x" and uploads.find("ben", other, str) is None
     for it in range(MOST_KEPT):
-        shelf.keep(f"user {it}", it, 1)
+        uploads.keep(f"user {it}", it, 1)
     (kept_now,) = desk.journal.all("SELECT count(*) FROM upload")
-    assert kept_now[0] == MOST_KEPT and shelf.find("anna", other, str) is None
+    assert kept_now[0] == MOST_KEPT and uploads.find("anna", other, str) is None
 
 
 @pytest.mark.parametrize("language", LANGUAGES)

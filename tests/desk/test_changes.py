@@ -16,7 +16,7 @@ from clients import Client, Site, hold_up_once, site_of, text_of
 from reader import strip
 from thesaurus_desk.journal.entries import Draft, Plan, Request, Step
 from thesaurus_desk.journal.history import Ending
-from thesaurus_desk.journal.recovery import BY_OTHERS, Found
+from thesaurus_desk.journal.recovery import BY_OTHERS, StartReport
 from thesaurus_desk.journal.schema import now
 from thesaurus_desk.journal.undo import TakeBack
 from thesaurus_desk.web.pages.changes import KINDS
@@ -377,7 +377,7 @@ def test_a_restored_store_is_said(site: Site, anna: Client) -> None:
     """Also if nobody knows from when the backup is."""
     warning = "The store lacks changes that the journal has"
     for restored, is_said in ((None, False), ("", True), ("2026-11-28T10:00:00.000Z", True)):
-        site.desk.found = Found((), True, (5,), restored)
+        site.desk.found = StartReport((), True, (5,), restored)
         assert (warning in text_of(anna.get("/"))) is is_said
 
 

@@ -136,8 +136,8 @@ def test_zthes_is_read_back(defined: Site, tmp_path: Path) -> None:
     assert not shutil.which("xmllint") or subprocess.run(words, check=False).returncode == 0
     names = {"prefLabel", "altLabel", "scopeNote", "broader", "narrower", "related", "definition", "notation"}
     wanted = {f"{SKOS}{it}" for it in names}
-    mirror = defined.desk.public_view()
-    living = {f"{BASE}{it}" for it in mirror.numbers("concept") if mirror.is_live(it)}
+    replica = defined.desk.public_view()
+    living = {f"{BASE}{it}" for it in replica.numbers("concept") if replica.is_live(it)}
     export = parse_ntriples(defined.client("rita").get("/export.nt").data, "export")
     whole = {it for it in export if it.subject in living and it.predicate in wanted}
     found = {

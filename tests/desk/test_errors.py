@@ -37,7 +37,7 @@ def failing(error: Exception) -> Callable[..., Any]:
 def test_a_page_that_fails(
     site: Site, caplog: pytest.LogCaptureFixture, error: Exception, status: int, title: str, german: str
 ) -> None:
-    site.app.view_functions["find.az"] = failing(error)
+    site.app.view_functions["search.az"] = failing(error)
     with caplog.at_level(logging.WARNING):
         answer = site.client("anna").get("/az")
     assert answer.status_code == status and title in text_of(answer) and 'id="q"' in answer.text

@@ -7,14 +7,14 @@ import sqlite3
 import pytest
 from dice import Dice
 from made_replica import MadeReplica
-from thesaurus_desk.store.plan_execution import Desk
 from thesaurus_desk.store.changes import Changes
-from thesaurus_desk.store.exported import OwnReplica
+from thesaurus_desk.store.export_replica import ExportReplica
+from thesaurus_desk.store.plan_execution import Desk
 from thesaurus_desk.store.replica import Replica
-from thesaurus_desk.store.search import Asked
-from thesaurus_tools.table_store import TABLES_VERSION
+from thesaurus_desk.store.search import LabelFilter
 from thesaurus_desk.store.search import LONG
 from thesaurus_desk.store.text_keys import WORD, fold
+from thesaurus_tools.table_store import TABLES_VERSION
 from whole import resources
 
 BASE = "https://thesaurus.example/id/"
@@ -62,7 +62,7 @@ def test_like_a_search_without_index(seed: int) -> None:
     labels = sorted({" ".join(word() for _ in range(dice.between(1, 3))).title() for _ in range(400)})
     rows = [(number, 1, "en", text) for number, text in enumerate(labels, 2)]
     owners: list[tuple[object, ...]] = [(1, 1, None, 1, None), *((number, 2, 1, 1, None) for number, *_ in rows)]
-    replica = OwnReplica({"meta": [(1, TABLES_VERSION, BASE)], "resource": owners, "label": [(*it,) for it in rows]})
+    replica = ExportReplica({"meta": [(1, TABLES_VERSION, BASE)], "resource": owners, "label": [(*it,) for it in rows]})
     with contextlib.closing(sqlite3.connect(replica.path, isolation_level=None)) as tables:
         Changes(tables).make([["delete", "label", *row] for row in rows[::3]])
     index = replica.index
@@ -74,7 +74,7 @@ def test_like_a_search_without_index(seed: int) -> None:
         at = dice.below(len(text))
         changed = (text[:at] + text[at + 1 :], text[:at] + dice.pick(LETTERS) + text[at:])
         text = dice.pick((text, text.upper(), *changed, *changed))
-        hits = index.find(text, Asked(), most=1000)
+        hits = index.find(text, LabelFilter(), most=1000)
         assert {it.text for it in hits} == (found_without_index(left, text, True) if WORD.findall(text) else set())
         assert len({it.number for it in hits}) == len(hits)
         alike += any(it.is_alike for it in hits)
@@ -83,7 +83,7 @@ def test_like_a_search_without_index(seed: int) -> None:
 
 
 @pytest.fixture
-def mirror() -> Replica:
+def replica() -> Replica:
     """A replica of a few concepts."""
     return MadeReplica(
         {"do": "scheme", "tag": "en", "text": "Instruments"},
@@ -132,27 +132,27 @@ def mirror() -> Replica:
         ("http://example.org/violin", []),
     ],
 )
-def test_concepts(mirror: Replica, query: str, numbers: list[int]) -> None:
-    assert [it.number for it in mirror.search(query)] == numbers
+def test_concepts(replica: Replica, query: str, numbers: list[int]) -> None:
+    assert [it.number for it in replica.search(query)] == numbers
 
 
-def test_filters(mirror: Replica) -> None:
-    assert [it.number for it in mirror.search("viol", live=True)] == [2, 3]
-    assert [it.number for it in mirror.search("viol", live=False)] == [8]
-    assert [it.number for it in mirror.search("viol", kinds=("collection",))] == [6]
-    assert [it.number for it in mirror.search("http://example.org/violin", kinds=("outside",))] == [7]
-    assert [it.number for it in mirror.search("f", lang="fr")] == [4] and mirror.search("f", lang="de") == []
-    assert [it.text for it in mirror.search("g", prefer="de")] == ["Geigen"]
-    assert [it.number for it in mirror.search("f", prefer="fr")] == [4, 2]
-    assert mirror.search("viol", scheme=9) == [] and len(mirror.search("viol", most=1)) == 1
+def test_filters(replica: Replica) -> None:
+    assert [it.number for it in replica.search("viol", live=True)] == [2, 3]
+    assert [it.number for it in replica.search("viol", live=False)] == [8]
+    assert [it.number for it in replica.search("viol", kinds=("collection",))] == [6]
+    assert [it.number for it in replica.search("http://example.org/violin", kinds=("outside",))] == [7]
+    assert [it.number for it in replica.search("f", lang="fr")] == [4] and replica.search("f", lang="de") == []
+    assert [it.text for it in replica.search("g", prefer="de")] == ["Geigen"]
+    assert [it.number for it in replica.search("f", prefer="fr")] == [4, 2]
+    assert replica.search("viol", scheme=9) == [] and len(replica.search("viol", most=1)) == 1
 
 
-def test_letters(mirror: Replica) -> None:
-    assert mirror.letters() == sorted(
-        {fold(text)[0] for it in resources(mirror).values() for kind, _, text in it.labels}
+def test_letters(replica: Replica) -> None:
+    assert replica.letters() == sorted(
+        {fold(text)[0] for it in resources(replica).values() for kind, _, text in it.labels}
     )
-    assert [it.text for it in mirror.beginning("v", "en")] == ["Violins", "Violins, small"]
-    assert [it.text for it in mirror.beginning("f", "en")] == ["Fiddles"]
+    assert [it.text for it in replica.beginning("v", "en")] == ["Violins", "Violins, small"]
+    assert [it.text for it in replica.beginning("f", "en")] == ["Fiddles"]
 
 
 def test_records(desk: Desk) -> None:

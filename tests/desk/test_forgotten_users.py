@@ -16,8 +16,8 @@ from thesaurus_desk.auth.accounts import Accounts, fault_of_name
 from thesaurus_desk.auth.limits import Limits
 from thesaurus_desk.auth.roles import role_named
 from thesaurus_desk.auth.sign_in_log import EntryLog
-from thesaurus_desk.importing.uploads import Shelf
-from thesaurus_desk.journal import Accepted, journal_of
+from thesaurus_desk.importing.uploads import Uploads
+from thesaurus_desk.journal import Acceptance, journal_of
 from thesaurus_desk.journal.consistency import check
 from thesaurus_desk.journal.forgotten_users import NAMES, ROWS
 from thesaurus_desk.journal.rights import Rights, write_rights
@@ -35,7 +35,7 @@ def left(desk: Desk, users: Path) -> Desk:
     note = [label("addLabel", 5, "scope", "Bowed.")]
     assert desk.perform(NAME, "test", [new("Rebecs")]).is_done
     proposal = desk.proposals.propose(NAME, "test", note, "so it is", 5)
-    assert desk.perform("anna", "test", note, accepted=Accepted(proposal, NAME)).is_done
+    assert desk.perform("anna", "test", note, accepted=Acceptance(proposal, NAME)).is_done
     other = desk.proposals.propose("rita", "test", note, "so it is", 5)
     desk.proposals.decide(other, "declined", NAME)
     desk.proposals.remove_comment(desk.proposals.comment(NAME, 5, "A comment."), NAME)
@@ -52,7 +52,7 @@ def left(desk: Desk, users: Path) -> Desk:
     EntryLog(desk.journal).note(NAME, "203.0.113.9", "wrong")
     desk.queue.add(NAME, ["r1"], [])
     desk.decisions.decide(NAME, "one", 5, "none")
-    Shelf(desk.journal).keep(NAME, {"who": NAME})
+    Uploads(desk.journal).keep(NAME, {"who": NAME})
     desk.watches.watch(NAME, Watch("concept", 5), "en")
     with desk.journal.writing() as rows:
         rows.execute("INSERT INTO visitor_proposal (at, text, settled_by) VALUES ('2026', 'x', ?)", (NAME,))

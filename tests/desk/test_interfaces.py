@@ -18,11 +18,11 @@ from thesaurus_desk.interfaces import Changes, Source, interfaces_of
 from thesaurus_desk.interfaces.skosmos_concepts import climb
 from made_replica import BASE
 from thesaurus_desk.store.changes import Changes as RowChanges
-from thesaurus_desk.store.exported import OwnReplica, read_export
+from thesaurus_desk.store.export_replica import ExportReplica, read_export
 from thesaurus_desk.store.replica import Replica
 from thesaurus_desk.store.search import has_parts
 from thesaurus_tools.ntriples import Triple, read_ntriples
-from thesaurus_tools.rdf_writing import write_ntriples
+from thesaurus_tools.rdf_writer import write_ntriples
 from thesaurus_tools.table_store import TABLES_VERSION
 
 ROOT = Path(__file__).resolve().parents[2]
@@ -40,16 +40,16 @@ def export(program: str, instruments_store: Path, tmp_path_factory: pytest.TempP
 
 
 @pytest.fixture(scope="module")
-def mirror(export: Path) -> Replica:
+def replica(export: Path) -> Replica:
     return read_export(export)
 
 
 @pytest.fixture(scope="module")
-def source(mirror: Replica) -> Source:
+def source(replica: Replica) -> Source:
     dates = {5: ("2026-11-01T10:00:00Z", "2026-11-28T10:00:00Z")}
     changes = [(5, "2026-11-28T10:00:00Z")]
     since = Changes(lambda time: [it for it in changes if it[1] >= time])
-    return Source(lambda: mirror, lambda it: dates.get(it, (None, None)), since)
+    return Source(lambda: replica, lambda it: dates.get(it, (None, None)), since)
 
 
 @pytest.fixture(scope="module")
@@ -59,9 +59,9 @@ def client(source: Source) -> FlaskClient:
     return app.test_client()
 
 
-def number(mirror: Replica, text: str) -> int:
+def number(replica: Replica, text: str) -> int:
     """Returns the number of the concept with a preferred label in English."""
-    (hit,) = [it for it in mirror.named(text) if it.kind == "pref" and it.tag == "en"]
+    (hit,) = [it for it in replica.named(text) if it.kind == "pref" and it.tag == "en"]
     return hit.number
 
 
@@ -76,9 +76,9 @@ def get(client: FlaskClient, path: str, **query: Any) -> dict[str, Any]:
 # --- linked data ---
 
 
-def test_the_triples_of_all_resources_are_the_export(export: Path, mirror: Replica) -> None:
-    source = Source(lambda: mirror)
-    numbers = [it for kind in ("scheme", "concept", "collection") for it in mirror.numbers(kind)]
+def test_the_triples_of_all_resources_are_the_export(export: Path, replica: Replica) -> None:
+    source = Source(lambda: replica)
+    numbers = [it for kind in ("scheme", "concept", "collection") for it in replica.numbers(kind)]
     assert {triple for it in numbers for triple in source.triples(it)} == set(read_ntriples(export))
 
 
@@ -95,14 +95,14 @@ def test_the_whole_export(client: FlaskClient, export: Path) -> None:
 
 @pytest.mark.needs("rdflib")
 @pytest.mark.parametrize(("form", "name"), [("ttl", "turtle"), ("jsonld", "json-ld"), ("rdf", "xml"), ("nt", "nt")])
-def test_each_form_says_the_same(client: FlaskClient, source: Source, mirror: Replica, form: str, name: str) -> None:
+def test_each_form_says_the_same(client: FlaskClient, source: Source, replica: Replica, form: str, name: str) -> None:
     import rdflib
     from rdflib.compare import isomorphic
 
-    of = number(mirror, "Violins")
+    of = number(replica, "Violins")
     answer = client.get(f"/id/{of}?format={form}")
     found = rdflib.Graph().parse(data=answer.text, format=name)
-    wanted = rdflib.Graph().parse(data="".join(write_ntriples(source.triples(of), mirror.base)), format="nt")
+    wanted = rdflib.Graph().parse(data="".join(write_ntriples(source.triples(of), replica.base)), format="nt")
     assert isomorphic(found, wanted) and len(wanted) > 5
 
 
@@ -144,9 +144,9 @@ def test_when_it_was_modified(client: FlaskClient) -> None:
     assert "Last-Modified" not in client.get("/id/6?format=ttl").headers, "it isn't known"
 
 
-def test_a_reader_is_sent_to_the_page(mirror: Replica) -> None:
+def test_a_reader_is_sent_to_the_page(replica: Replica) -> None:
     app = Flask("desk")
-    app.register_blueprint(interfaces_of(Source(lambda: mirror, page=lambda number: f"/c/{number}")))
+    app.register_blueprint(interfaces_of(Source(lambda: replica, page=lambda number: f"/c/{number}")))
     answer = app.test_client().get("/id/5", headers={"Accept": "text/html,*/*;q=0.8"})
     assert (answer.status_code, answer.headers["Location"]) == (303, "/c/5")
     assert 'rel="alternate"' in answer.headers["Link"] and "text/turtle" in answer.headers["Link"]
@@ -176,9 +176,9 @@ def test_a_dead_concept_names_what_replaces_it(program: str, tmp_path: Path) -> 
     words = [program, "--db", str(tmp_path / "a.db"), "--base", "https://a.example/"]
     subprocess.run([*words, "script"], input=script.encode(), capture_output=True, check=True)
     (tmp_path / "a.nt").write_bytes(subprocess.run([*words, "export"], capture_output=True, check=True).stdout)
-    mirror = read_export(tmp_path / "a.nt")
+    replica = read_export(tmp_path / "a.nt")
     app = Flask("publish")
-    app.register_blueprint(interfaces_of(Source(lambda: mirror)))
+    app.register_blueprint(interfaces_of(Source(lambda: replica)))
     answer = app.test_client().get("/id/2?format=ttl")
     assert answer.status_code == 200
     assert "dct:isReplacedBy id:3" in answer.text
@@ -188,13 +188,13 @@ def test_a_dead_concept_names_what_replaces_it(program: str, tmp_path: Path) -> 
 # --- Skosmos ---
 
 
-def test_vocabularies(client: FlaskClient, mirror: Replica) -> None:
-    (scheme,) = mirror.numbers("scheme")
+def test_vocabularies(client: FlaskClient, replica: Replica) -> None:
+    (scheme,) = replica.numbers("scheme")
     found = get(client, "/rest/v1/vocabularies", lang="en")
-    assert found["vocabularies"] == [{"uri": str(scheme), "id": str(scheme), "title": mirror.term(scheme, ["en"])[1]}]
+    assert found["vocabularies"] == [{"uri": str(scheme), "id": str(scheme), "title": replica.term(scheme, ["en"])[1]}]
     assert {"uri", "type", "skos", "onki"} <= found["@context"].keys()
     about = get(client, f"/rest/v1/{scheme}/", lang="en")
-    assert about["conceptschemes"][0]["uri"] == mirror.iri(scheme)
+    assert about["conceptschemes"][0]["uri"] == replica.iri(scheme)
     assert {"id", "title", "defaultLanguage", "languages", "conceptschemes"} <= about.keys()
 
 
@@ -219,8 +219,8 @@ def test_search(client: FlaskClient, query: str, lang: str, terms: list[str] | N
     assert all({"uri", "type", "prefLabel", "lang", "vocab"} <= it.keys() for it in found)
 
 
-def test_search_below_a_concept_and_by_parts(client: FlaskClient, mirror: Replica) -> None:
-    parent = mirror.iri(number(mirror, "String instruments"))
+def test_search_below_a_concept_and_by_parts(client: FlaskClient, replica: Replica) -> None:
+    parent = replica.iri(number(replica, "String instruments"))
     all_of_it = get(client, "/rest/v1/1/search", query="*s", lang="en", parent=parent)["results"]
     assert len(all_of_it) > 3 and parent not in [it["uri"] for it in all_of_it]
     some = get(client, "/rest/v1/1/search", query="*s", lang="en", parent=parent, maxhits=2, offset=1)["results"]
@@ -232,36 +232,36 @@ def test_search_below_a_concept_and_by_parts(client: FlaskClient, mirror: Replic
         assert client.get(f"/rest/v1/{name}/").status_code == 404
 
 
-def test_neighbours(client: FlaskClient, mirror: Replica) -> None:
-    violins = number(mirror, "Violins")
-    uri = mirror.iri(violins)
-    view = mirror.view(violins)
+def test_neighbours(client: FlaskClient, replica: Replica) -> None:
+    violins = number(replica, "Violins")
+    uri = replica.iri(violins)
+    view = replica.view(violins)
     assert view is not None
     for name, others in (("broader", view.broader), ("narrower", view.narrower), ("related", view.related)):
         found = get(client, f"/rest/v1/1/{name}", uri=uri, lang="en")
-        assert {it["uri"] for it in found[name]} == {mirror.iri(it) for it in others}
+        assert {it["uri"] for it in found[name]} == {replica.iri(it) for it in others}
     above = get(client, "/rest/v1/1/broaderTransitive", uri=uri)["broaderTransitive"]
-    assert uri in above and above[uri]["broader"] == [mirror.iri(it) for it in view.broader]
-    below = get(client, "/rest/v1/1/narrowerTransitive", uri=mirror.iri(view.broader[0]))["narrowerTransitive"]
+    assert uri in above and above[uri]["broader"] == [replica.iri(it) for it in view.broader]
+    below = get(client, "/rest/v1/1/narrowerTransitive", uri=replica.iri(view.broader[0]))["narrowerTransitive"]
     assert uri in below
     tree = get(client, "/rest/v1/1/hierarchy", uri=uri, lang="en")["broaderTransitive"]
-    assert uri in [it["uri"] for it in tree[mirror.iri(view.broader[0])]["narrower"]]
-    children = get(client, "/rest/v1/1/children", uri=mirror.iri(view.broader[0]))["narrower"]
+    assert uri in [it["uri"] for it in tree[replica.iri(view.broader[0])]["narrower"]]
+    children = get(client, "/rest/v1/1/children", uri=replica.iri(view.broader[0]))["narrower"]
     assert uri in [it["uri"] for it in children] and "hasChildren" in children[0]
 
 
-def test_other_methods(client: FlaskClient, mirror: Replica) -> None:
-    (scheme,) = mirror.numbers("scheme")
-    uri = mirror.iri(number(mirror, "Violins"))
+def test_other_methods(client: FlaskClient, replica: Replica) -> None:
+    (scheme,) = replica.numbers("scheme")
+    uri = replica.iri(number(replica, "Violins"))
     assert get(client, "/rest/v1/1/label", uri=uri, lang="de")["prefLabel"] == "Geigen"
     tops = get(client, "/rest/v1/1/topConcepts", lang="en")["topconcepts"]
-    assert {it["uri"] for it in tops} == {mirror.iri(it) for it in mirror.tops(scheme)}
+    assert {it["uri"] for it in tops} == {replica.iri(it) for it in replica.tops(scheme)}
     assert "V" in get(client, "/rest/v1/1/index/", lang="en")["indexLetters"]
     assert "Violins" in [it["prefLabel"] for it in get(client, "/rest/v1/1/index/V", lang="en")["indexConcepts"]]
     counts = get(client, "/rest/v1/1/vocabularyStatistics")["concepts"]
-    assert counts["count"] == len(mirror.numbers("concept"))
+    assert counts["count"] == len(replica.numbers("concept"))
     labels = get(client, "/rest/v1/1/labelStatistics")["languages"]
-    assert {it["language"] for it in labels} == set(mirror.languages())
+    assert {it["language"] for it in labels} == set(replica.languages())
     assert len(get(client, "/rest/v1/1/types")["types"]) == 2
     assert get(client, "/rest/v1/search", query="violins", lang="en")["results"]
     assert client.get(f"/rest/v1/1/data?uri={uri}", headers={"Accept": "text/turtle"}).mimetype == "text/turtle"
@@ -280,9 +280,9 @@ def reconcile(client: FlaskClient, **queries: Any) -> dict[str, Any]:
     return {name: it["result"] for name, it in (answer.json or {}).items()}
 
 
-def test_manifest(client: FlaskClient, mirror: Replica) -> None:
+def test_manifest(client: FlaskClient, replica: Replica) -> None:
     found = get(client, "/reconcile")
-    assert "0.2" in found["versions"] and found["identifierSpace"] == mirror.base
+    assert "0.2" in found["versions"] and found["identifierSpace"] == replica.base
     assert {"name", "schemaSpace", "defaultTypes", "view", "preview", "suggest", "extend"} <= found.keys()
 
 
@@ -314,7 +314,7 @@ def test_an_exact_preferred_term_is_above_an_alternative_one_above_a_near_one(cl
     assert exact["type"][0]["id"] == "1"
 
 
-def test_queries_with_types_and_properties(client: FlaskClient, mirror: Replica) -> None:
+def test_queries_with_types_and_properties(client: FlaskClient, replica: Replica) -> None:
     asked: dict[str, Any] = {
         "query": "Bows",
         "type": "1",
@@ -325,20 +325,20 @@ def test_queries_with_types_and_properties(client: FlaskClient, mirror: Replica)
         **asked,
         "properties": [{"pid": "broader", "v": {"id": "x", "name": "Percussion instruments"}}],
     }
-    found = reconcile(client, right=asked, wrong=wrong, iri={"query": mirror.iri(number(mirror, "Bows"))})
+    found = reconcile(client, right=asked, wrong=wrong, iri={"query": replica.iri(number(replica, "Bows"))})
     assert found["right"][0]["score"] > found["wrong"][0]["score"]
     assert (found["iri"][0]["score"], len(found["right"])) == (100.0, 1)
 
 
-def test_suggestions_preview_and_extension(client: FlaskClient, mirror: Replica) -> None:
-    of = str(number(mirror, "Violins"))
+def test_suggestions_preview_and_extension(client: FlaskClient, replica: Replica) -> None:
+    of = str(number(replica, "Violins"))
     assert of in [it["id"] for it in get(client, "/reconcile/suggest/entity", prefix="viol")["result"]]
     assert get(client, "/reconcile/suggest/property", prefix="bro")["result"][0]["id"] == "broader"
     page = client.get(f"/reconcile/preview?id={of}")
     assert "Violins" in page.text and "frame-ancestors *" in page.headers["Content-Security-Policy"]
     extend = json.dumps({"ids": [of, "99999"], "properties": [{"id": "broader"}, {"id": "iri"}]})
     answer = client.post("/reconcile", data={"extend": extend}).json or {}
-    assert answer["rows"][of]["iri"] == [{"str": mirror.iri(int(of))}] and answer["rows"]["99999"]["broader"] == []
+    assert answer["rows"][of]["iri"] == [{"str": replica.iri(int(of))}] and answer["rows"]["99999"]["broader"] == []
 
 
 @pytest.mark.parametrize(
@@ -349,7 +349,7 @@ def test_malformed_queries(client: FlaskClient, given: str) -> None:
     assert answer.status_code == 400 and "error" in (answer.json or {})
 
 
-def test_hostile_labels_are_escaped(mirror: Replica) -> None:
+def test_hostile_labels_are_escaped(replica: Replica) -> None:
     """Each form takes each character that a label may have."""
     from thesaurus_tools.ntriples import Iri, Literal, parse_ntriples
 
@@ -362,14 +362,14 @@ def test_hostile_labels_are_escaped(mirror: Replica) -> None:
 # --- many, and hostile ---
 
 
-def large(count: int) -> OwnReplica:
+def large(count: int) -> ExportReplica:
     """Returns a replica with two schemes, and a number of concepts with two terms in the first."""
     numbers = range(3, count + 3)
     labels = [(number, 1, "en", text) for number, text in ((1, "One"), (2, "Two"))]
     for it in numbers:
         labels.append((it, 1, "en", f"bowed {it % 97} strings {it}"))
         labels.append((it, 2, "de", f"gestrichene {it % 89} Saiten {it}"))
-    return OwnReplica(
+    return ExportReplica(
         {
             "meta": [(1, TABLES_VERSION, BASE)],
             "resource": [*((it, 1, None, 1, None) for it in (1, 2)), *((it, 2, 1, 1, None) for it in numbers)],
@@ -382,9 +382,9 @@ def large(count: int) -> OwnReplica:
 @pytest.fixture(scope="module")
 def many() -> FlaskClient:
     """Answers about 3,000 concepts."""
-    mirror = large(3000)
+    replica = large(3000)
     app = Flask("publish")
-    app.register_blueprint(interfaces_of(Source(lambda: mirror)))
+    app.register_blueprint(interfaces_of(Source(lambda: replica)))
     return app.test_client()
 
 
@@ -415,8 +415,8 @@ def test_no_request_for_reconciliation_takes_long(many: FlaskClient, data: dict[
 
 
 def test_whole_answers_are_made_once(monkeypatch: pytest.MonkeyPatch) -> None:
-    mirror = large(50)
-    source = Source(lambda: mirror)
+    replica = large(50)
+    source = Source(lambda: replica)
     app = Flask("publish")
     app.register_blueprint(interfaces_of(source))
     client, triples = app.test_client(), Source.triples
@@ -437,7 +437,7 @@ def test_whole_answers_are_made_once(monkeypatch: pytest.MonkeyPatch) -> None:
     below = "/rest/v1/1/narrowerTransitive?uri=https://thesaurus.example/id/3"
     one, two = client.get(below), client.get(below)
     assert one.headers["ETag"] == two.headers["ETag"] and len((one.json or {})["narrowerTransitive"]) == 50
-    with contextlib.closing(sqlite3.connect(mirror.path, isolation_level=None)) as rows:
+    with contextlib.closing(sqlite3.connect(replica.path, isolation_level=None)) as rows:
         RowChanges(rows).make([["insert", "label", 3, 2, "en", "new"]])
     changed = client.get("/export.nt", headers={"If-None-Match": first.headers["ETag"]})
     assert changed.status_code == 200 and '"new"@en' in changed.text
@@ -448,9 +448,9 @@ def test_who_waits_for_a_whole_answer_holds_no_place(monkeypatch: pytest.MonkeyP
     from thesaurus_desk.interfaces import whole_thesaurus
 
     monkeypatch.setattr(whole_thesaurus, "PATIENCE", 60.0)
-    mirror = large(5)
+    replica = large(5)
     app = Flask("publish")
-    app.register_blueprint(interfaces_of(Source(lambda: mirror)))
+    app.register_blueprint(interfaces_of(Source(lambda: replica)))
     begun, may_end, answered = threading.Event(), threading.Event(), threading.Semaphore(0)
     triples = Source.triples
 
@@ -495,7 +495,7 @@ def test_queries_with_stars(query: str, text: str, is_found: bool) -> None:
 
 
 def test_a_query_of_many_stars_takes_no_time() -> None:
-    """A search holds the mirror, and so all pages."""
+    """A search holds the replica, and so all pages."""
     start = time.process_time()
     assert not has_parts((f"{'*a' * 100}*b").split("*"), "a" * 256)
     assert time.process_time() - start < 10
@@ -505,7 +505,7 @@ def test_a_large_hierarchy_takes_no_time() -> None:
     """What is above or below a concept is found in a time that grows with its number alone."""
     count = 20_000
     numbers = range(2, count + 2)
-    mirror = OwnReplica(
+    replica = ExportReplica(
         {
             "meta": [(1, TABLES_VERSION, BASE)],
             "resource": [(1, 1, None, 1, None), *((it, 2, 1, 1, None) for it in numbers)],
@@ -513,5 +513,5 @@ def test_a_large_hierarchy_takes_no_time() -> None:
         }
     )
     start = time.process_time()
-    assert len(climb(mirror, 2, up=False)) == count
+    assert len(climb(replica, 2, up=False)) == count
     assert time.process_time() - start < 5

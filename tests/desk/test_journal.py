@@ -15,7 +15,7 @@ from typing import Any
 import pytest
 from asking import assert_as_store, label, link, new
 from ports import free_port
-from thesaurus_desk.journal import Accepted, Draft, Journal, Step, journal_of
+from thesaurus_desk.journal import Acceptance, Draft, Journal, Step, journal_of
 from thesaurus_desk.journal.consistency import check
 from thesaurus_desk.journal.history import Filter, History
 from thesaurus_desk.journal.schema import now
@@ -201,7 +201,7 @@ def test_proposals(desk: Desk) -> None:
     assert [it.id for it in desk.proposals.find(concept=5)] == [number]
     proposal = desk.proposals.get(number)
     assert proposal is not None and proposal.requests == [request]
-    accepted = Accepted(number, proposal.user, "Thank you.")
+    accepted = Acceptance(number, proposal.user, "Thank you.")
     outcome = desk.perform("anna", proposal.action, proposal.requests, accepted=accepted)
     assert not desk.proposals.decide(number, "declined", "ben")
     plan = desk.journal.plan(outcome.plan or 0)

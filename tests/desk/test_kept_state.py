@@ -15,12 +15,12 @@ from test_bring_in import send
 from test_passwords import Clock
 from thesaurus_desk.auth import limits
 from thesaurus_desk.importing import uploads
-from thesaurus_desk.importing.uploads import Shelf, packed, unpacked
+from thesaurus_desk.importing.uploads import Uploads, pack, unpack
 from thesaurus_desk.journal.schema import WORKING
 from thesaurus_desk.store.backups import BackupSettings, DeskBackups
 from thesaurus_desk.store.health import Health
 from thesaurus_desk.store.plan_execution import Desk
-from thesaurus_tools.row_running import RowError, RowPlan
+from thesaurus_tools.row_runner import RowError, RowPlan
 
 OpenDesk = Callable[[Path], Desk]
 
@@ -67,24 +67,24 @@ def test_a_preview_is_performed_after_a_restart(site: Site, open_desk: OpenDesk,
 
 
 def test_a_preview_goes_with_its_age(desk: Desk, monkeypatch: pytest.MonkeyPatch) -> None:
-    shelf = Shelf(desk.journal)
-    name = shelf.keep("ben", "old")
+    kept = Uploads(desk.journal)
+    name = kept.keep("ben", "old")
     monkeypatch.setattr(uploads, "AGE", -uploads.AGE)
-    shelf.keep("anna", "new")
-    assert shelf.find("ben", name, str) is None
+    kept.keep("anna", "new")
+    assert kept.find("ben", name, str) is None
 
 
 def test_only_data_is_read_of_an_upload() -> None:
     plan = RowPlan(1, ["a"], [{"do": "post"}], "why", RowError("not_called", kind="concept", text="x"))
-    back = unpacked(packed(plan))
+    back = unpack(pack(plan))
     assert isinstance(back, RowPlan) and back[:4] == plan[:4]
     assert back.error is not None and (back.error.key, back.error.values) == (
         "not_called",
         plan.error and plan.error.values,
     )
     for other in (shutil.rmtree, Path("/"), pickle.Pickler, Desk):
-        assert unpacked(packed(other)) is None
-    assert unpacked(b"no upload") is None
+        assert unpack(pack(other)) is None
+    assert unpack(b"no upload") is None
 
 
 def test_errors_and_the_check_of_a_backup(

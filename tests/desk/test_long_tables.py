@@ -14,7 +14,7 @@ import pytest
 from clients import Client, Site, site_of, text_of
 from test_bring_in import perform, send
 from test_changes import number
-from thesaurus_desk.importing.named_requests import NamedRun
+from thesaurus_desk.importing.request_series import RequestSeries
 from thesaurus_desk.store import open_store, run_threads
 from thesaurus_desk.store.plan_execution import Desk, Outcome
 from thesaurus_desk.web import background, table_pages
@@ -185,14 +185,14 @@ def test_what_is_killed_before_anything_is_done(
     site: Site, anna: Client, open_desk: OpenDesk, users: Path, tmp_path: Path, monkeypatch: pytest.MonkeyPatch
 ) -> None:
     held = Held(1)
-    reached = NamedRun.perform
+    reached = RequestSeries.perform
 
-    def hold(run: NamedRun, requests: Any) -> Outcome:
+    def hold(run: RequestSeries, requests: Any) -> Outcome:
         held.wait()
         return reached(run, requests)
 
     monkeypatch.setattr(background, "PATIENCE", 0.0)
-    monkeypatch.setattr(NamedRun, "perform", hold)
+    monkeypatch.setattr(RequestSeries, "perform", hold)
     path = begin(site, anna)
     assert held.is_there.wait(WAIT)
     again = site_of(open_desk(copied(site, tmp_path / "killed")), users)

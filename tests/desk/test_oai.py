@@ -159,9 +159,9 @@ def test_a_harvester_keeps_a_copy(
 ) -> None:
     monkeypatch.setattr(oai, "PAGE", 7)
     harvester = Harvester(repository)
-    mirror = site.desk.public_view()
-    living = {it for it in mirror.numbers("concept") if mirror.is_live(it)}
-    assert harvester.harvest() == len(mirror.numbers("concept")) and len(repository.answers) > 3
+    replica = site.desk.public_view()
+    living = {it for it in replica.numbers("concept") if replica.is_live(it)}
+    assert harvester.harvest() == len(replica.numbers("concept")) and len(repository.answers) > 3
     assert {*harvester.kept} == {f"{BASE}{it}" for it in living}
     # (what changes within the second of an answer comes again)
     harvester.last = "2026-01-01T00:00:00Z"

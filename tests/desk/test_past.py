@@ -14,9 +14,9 @@ from clients import Site, text_of
 from test_arrays import BASSES, BOWED, CELLOS, FIDDLES, PLUCKED, VIOLAS, VIOLINS, array
 from thesaurus_desk.journal import Plan
 from thesaurus_desk.journal.entries import Draft
-from thesaurus_desk.journal.past import after_plan
+from thesaurus_desk.journal.past_replica import after_plan
 from thesaurus_desk.journal.recovery import BY_OTHERS
-from thesaurus_desk.journal.schema import written
+from thesaurus_desk.journal.schema import time_text
 from thesaurus_desk.journal.values import Values, set_request
 from thesaurus_desk.store.plan_execution import Desk
 from thesaurus_desk.store.replica import Replica
@@ -41,7 +41,7 @@ class Calendar:
 def calendar(monkeypatch: pytest.MonkeyPatch) -> Iterator[Calendar]:
     made = Calendar()
     for module in ("schema", "entries"):
-        monkeypatch.setattr(f"thesaurus_desk.journal.{module}.now", lambda: written(made.time))
+        monkeypatch.setattr(f"thesaurus_desk.journal.{module}.now", lambda: time_text(made.time))
     yield made
 
 

@@ -7,7 +7,7 @@ import pytest
 from flask import Request
 from clients import PASSWORD, Client, Site
 from thesaurus_desk.auth.accounts import Accounts
-from thesaurus_desk.auth.authentication import ByPassword, ByProxy, Proxy
+from thesaurus_desk.auth.authentication import PasswordEntry, ProxyEntry, Proxy
 from thesaurus_desk.auth.roles import Role
 from thesaurus_desk.store.plan_execution import Desk
 
@@ -38,7 +38,7 @@ class Sender:
 @pytest.fixture
 def named(desk: Desk, users: Path) -> Site:
     """A desk to which a server in front sends names."""
-    return Site(desk, ByProxy(Accounts(users), Proxy(SECRET)))
+    return Site(desk, ProxyEntry(Accounts(users), Proxy(SECRET)))
 
 
 @pytest.mark.parametrize("secret", ["", "x", SECRET[:-1], f"{SECRET}x", "é"])
@@ -50,7 +50,7 @@ def test_without_the_secret(named: Site, secret: str) -> None:
 
 def test_groups(desk: Desk, users: Path) -> None:
     """They count for those alone whom the users' file doesn't have, and the highest one does."""
-    site = Site(desk, ByProxy(Accounts(users), Proxy(SECRET), {"Redaktion": Role.EDITOR, "all": Role.READER}))
+    site = Site(desk, ProxyEntry(Accounts(users), Proxy(SECRET), {"Redaktion": Role.EDITOR, "all": Role.READER}))
     cases = {
         ("zoe", "all, Redaktion"): ("zoe", Role.EDITOR),
         ("zoe", "all,other"): ("zoe", Role.READER),
@@ -113,7 +113,7 @@ def test_no_passwords_here(named: Site) -> None:
 
 
 def test_addresses_by_the_server_in_front(desk: Desk, users: Path) -> None:
-    site = Site(desk, ByPassword(Accounts(users), Proxy(SECRET)))
+    site = Site(desk, PasswordEntry(Accounts(users), Proxy(SECRET)))
     for _ in range(9):
         sender = Sender(site)
         token = sender.get("/login")[1].partition('name="token" value="')[2][:32]

@@ -1,9 +1,11 @@
 """The public view: what visitors and other programs see while some concepts are candidates."""
 from __future__ import annotations
 
+import io
 import json
 import random
 import subprocess
+import zipfile
 from collections import Counter
 from collections.abc import Callable, Iterator
 from pathlib import Path
@@ -51,19 +53,19 @@ def made_anew(desk: Desk) -> tuple[list[tuple[int, ...]], list[tuple[int, ...]]]
 
 
 def plain_places(desk: Desk) -> set[tuple[int, int]]:
-    """The pairs of concepts that are seen below each other: by the rule, over the mirror."""
-    mirror, statuses = desk.replica, desk.replica.statuses()
+    """The pairs of concepts that are seen below each other: by the rule, over the replica."""
+    replica, statuses = desk.replica, desk.replica.statuses()
     hidden = {it for it, name in statuses.items() if name in ("candidate", "review")}
 
     def seen_above(low: int) -> set[int]:
-        above = mirror.resource(low).broader
+        above = replica.resource(low).broader
         return {it for it in above if it not in hidden}.union(*(seen_above(it) for it in above if it in hidden))
 
-    return {(low, high) for low in mirror.numbers("concept") if low not in hidden for high in seen_above(low)}
+    return {(low, high) for low in replica.numbers("concept") if low not in hidden for high in seen_above(low)}
 
 
 def assert_as_filtered(desk: Desk) -> None:
-    """Each look-up of the public view has what the mirror has of what isn't hidden."""
+    """Each look-up of the public view has what the replica has of what isn't hidden."""
     hidden = {it for it, name in desk.replica.statuses().items() if name in ("candidate", "review")}
     seen = [it for it in resources(desk.replica).values() if it.number not in hidden]
     for it in seen:
@@ -197,11 +199,23 @@ def addresses(site: Site, number: int) -> Iterator[tuple[str, str]]:
                 yield from ((rule.endpoint, f"{its}?{urlencode(it)}") for it in asked)
 
 
+def text_within(body: bytes) -> str:
+    """The text of a file: of an archive that of its members, of a PDF that of its pages."""
+    if body.startswith(b"PK"):
+        with zipfile.ZipFile(io.BytesIO(body)) as archive:
+            return " ".join(text_within(archive.read(name)) for name in archive.namelist())
+    if body.startswith(b"%PDF"):
+        words = ["pdftotext", "-", "-"]
+        return subprocess.run(words, input=body, capture_output=True, check=True).stdout.decode("utf-8")
+    return body.decode("utf-8", "replace")
+
+
 def shown(client: Client, address: str) -> str:
     """What an address shows: with a redirection where it leads to."""
     answer = client.get(address)
-    assert answer.status_code < 500, (address, answer.text)
-    return f"{answer.text} {answer.headers.get('Location', '')} {answer.headers.get('Link', '')}"
+    said = text_within(answer.data)
+    assert answer.status_code < 500, (address, said)
+    return f"{said} {answer.headers.get('Location', '')} {answer.headers.get('Link', '')}"
 
 
 def named_in(said: str, address: str, number: int) -> list[str]:
@@ -214,6 +228,7 @@ def named_in(said: str, address: str, number: int) -> list[str]:
     return [it for it in found if it in said]
 
 
+@pytest.mark.needs("pdftotext")
 def test_no_public_address_shows_a_candidate(desk: Desk, users: Path, candidate: int) -> None:
     site = site_of(desk, users, is_public=True)
     assert "definition" in shown(site.client("rita"), f"/c/{candidate}")
@@ -223,6 +238,7 @@ def test_no_public_address_shows_a_candidate(desk: Desk, users: Path, candidate:
         assert not named_in(shown(visitor, address), address, candidate), address
 
 
+@pytest.mark.needs("pdftotext")
 def test_no_interface_shows_a_candidate_to_a_user(desk: Desk, users: Path, candidate: int) -> None:
     site = site_of(desk, users)
     for endpoint, address in addresses(site, candidate):
@@ -230,6 +246,7 @@ def test_no_interface_shows_a_candidate_to_a_user(desk: Desk, users: Path, candi
             assert not named_in(shown(site.client("anna"), address), address, candidate), address
 
 
+@pytest.mark.needs("pdftotext")
 def test_no_public_address_shows_what_is_not_public_of_a_concept(desk: Desk, users: Path) -> None:
     """An editorial note, and a value of the office's own field: nowhere to a visitor, and in no interface to a user."""
     desk.values.write_field(Field("inner", "line", is_public=False, names={"en": "Inner"}, is_own=True))

@@ -15,7 +15,7 @@ from thesaurus_desk.store.model import Link
 from thesaurus_desk.store.plan_execution import Desk
 from thesaurus_desk.store.replica import Replica
 from thesaurus_desk.web.merge_preview import foresee_merge
-from thesaurus_desk.web.rule_conflicts import Broken, rule_broken_by_link, rule_broken_by_merge
+from thesaurus_desk.web.rule_conflicts import RuleConflict, rule_broken_by_link, rule_broken_by_merge
 from thesaurus_tools.export_store import store_of_export
 from thesaurus_tools.kinds import BROADER
 from thesaurus_tools.ntriples import parse_ntriples
@@ -29,20 +29,20 @@ RULES = ("Cycle", "S27", "S46")
 
 def assert_as_views(desk: Desk) -> None:
     """The replica has each resource and posting as the program shows it."""
-    mirror, program = desk.replica, desk.program
-    for number in range(1, mirror.counts()["resources"] + 2):
-        shown, view = program.get("concept", number=number), mirror.view(number)
+    replica, program = desk.replica, desk.program
+    for number in range(1, replica.counts()["resources"] + 2):
+        shown, view = program.get("concept", number=number), replica.view(number)
         if view and view.kind == "concept":
             assert view.answer() == shown
-            assert mirror.postings.count_at(number) == shown["postings"]
+            assert replica.postings.count_at(number) == shown["postings"]
             rows = program.get("postings", concept=number)["postings"]
-            assert [[it.number, it.key, it.record] for it in mirror.postings.page_at(number, 1, 10**6)] == rows
+            assert [[it.number, it.key, it.record] for it in replica.postings.page_at(number, 1, 10**6)] == rows
         else:
             assert shown == {"no": "WrongKind" if view else "UnknownResource"}
-    for number in range(1, mirror.counts()["postings"] + 2):
-        posting = mirror.postings.get(number)
+    for number in range(1, replica.counts()["postings"] + 2):
+        posting = replica.postings.get(number)
         assert (posting.answer() if posting else {"no": "UnknownPosting"}) == program.get("posting", number=number)
-    assert mirror.postings.totals() == program.get("totals")
+    assert replica.postings.totals() == program.get("totals")
 
 
 def assert_as_export(desk: Desk) -> None:
@@ -59,17 +59,17 @@ def assert_as_export(desk: Desk) -> None:
     assert dead == {it.number: it.replaced for it in export.resources.values() if not it.is_live}
 
 
-def foreseen(mirror: Replica, request: dict[str, Any]) -> Broken | None:
+def foreseen(replica: Replica, request: dict[str, Any]) -> RuleConflict | None:
     """The rule that the desk says a merge or a link breaks, where nothing else refuses it."""
-    plain = as_plain(mirror)
+    plain = as_plain(replica)
     if request["do"] == "merge" and not plain.refuses_merge(request["source"], request["target"]):
-        return rule_broken_by_merge(mirror, request["source"], request["target"])
+        return rule_broken_by_merge(replica, request["source"], request["target"])
     if request["do"] == "link" and not plain.refuses("link", request):
-        return rule_broken_by_link(mirror, Link(request["kind"], request["a"], request["b"]))
+        return rule_broken_by_link(replica, Link(request["kind"], request["a"], request["b"]))
     return None
 
 
-def assert_breaks(desk: Desk, request: dict[str, Any], broken: Broken) -> None:
+def assert_breaks(desk: Desk, request: dict[str, Any], broken: RuleConflict) -> None:
     """The way that is shown for a broken rule is one: each step is a link, or joins the two of a merge."""
     pair = {request.get("source"), request.get("target")}
     added = {(request.get("a"), request.get("b")), (request.get("b"), request.get("a"))}
@@ -187,12 +187,12 @@ def test_eight_threads(room: Path, open_desk: Callable[[Path], Desk]) -> None:
     def read(seed: int) -> None:
         dice = Requests(seed)
         while not is_over.is_set():
-            mirror, number = desk.replica, dice.between(1, ENOUGH)
-            mirror.search(f"t{dice.between(1, 39)}", prefer="en")
-            mirror.path_up(number)
-            mirror.count_below(number)
-            mirror.ordered(mirror.tops(1), ["de"])
-            view = mirror.view(number)
+            replica, number = desk.replica, dice.between(1, ENOUGH)
+            replica.search(f"t{dice.between(1, 39)}", prefer="en")
+            replica.path_up(number)
+            replica.count_below(number)
+            replica.ordered(replica.tops(1), ["de"])
+            view = replica.view(number)
             assert view is None or view.kind != "concept" or view.scheme is not None
 
     def tried(work: Callable[[int], None], seed: int) -> None:

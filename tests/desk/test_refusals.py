@@ -43,11 +43,11 @@ REQUESTS: list[tuple[dict[str, Any], dict[str, Any]]] = [
 class PlainLinks:
     """Links as the name and the number of a resource."""
 
-    def __init__(self, mirror: Replica):
-        self.mirror = mirror
+    def __init__(self, replica: Replica):
+        self.replica = replica
 
     def term(self, number: int) -> str:
-        return self.mirror.term(number)[1]
+        return self.replica.term(number)[1]
 
     def link(self, number: int) -> Markup:
         return Markup('<a href="/c/{}">{}</a>').format(number, self.term(number))
@@ -69,7 +69,7 @@ class PlainLinks:
 
 
 @pytest.fixture(scope="module")
-def mirror() -> Replica:
+def replica() -> Replica:
     """A small replica."""
     return MadeReplica(*(request for request, _ in REQUESTS))
 
@@ -161,27 +161,27 @@ CASES: list[tuple[dict[str, Any], str, str, list[int]]] = [
 
 @pytest.mark.parametrize(("request_", "name", "part", "linked"), CASES, ids=[f"{it[1]}-{it[0]['do']}" for it in CASES])
 def test_refusal_says_what_is_so_and_with_whom(
-    mirror: Replica, request_: dict[str, Any], name: str, part: str, linked: list[int]
+    replica: Replica, request_: dict[str, Any], name: str, part: str, linked: list[int]
 ) -> None:
     answer = {"bad" if name.startswith("Bad") else "no": name, "number": 7}
-    said = str(explain(answer, request_, mirror, Words("en"), PlainLinks(mirror)))
+    said = str(explain(answer, request_, replica, Words("en"), PlainLinks(replica)))
     assert part in Markup(said).striptags()
     assert list(dict.fromkeys(int(it) for it in re.findall(r'href="/c/(\d+)', said))) == linked
     assert not re.search(r"[{}]", said)
 
 
 @pytest.mark.parametrize("language", LANGUAGES)
-def test_hostile_texts_are_only_texts(mirror: Replica, language: str) -> None:
+def test_hostile_texts_are_only_texts(replica: Replica, language: str) -> None:
     evil = '<script>alert("1")</script>{0}'
     request = {"do": "concept", "scheme": 1, "tag": "en", "text": evil}
-    said = str(explain({"no": "PreferredTaken"}, request, mirror, Words(language), PlainLinks(mirror)))
+    said = str(explain({"no": "PreferredTaken"}, request, replica, Words(language), PlainLinks(replica)))
     assert "<script>" not in said and "{0}" in said
     posting = {"do": "post", "key": evil, "record": evil, "concept": 3}
-    assert "<script>" not in str(sentence_of(posting, {"ok": 1}, mirror, Words(language), PlainLinks(mirror)))
+    assert "<script>" not in str(sentence_of(posting, {"ok": 1}, replica, Words(language), PlainLinks(replica)))
 
 
 @pytest.mark.parametrize("language", LANGUAGES)
-def test_each_request_is_a_sentence(mirror: Replica, language: str) -> None:
+def test_each_request_is_a_sentence(replica: Replica, language: str) -> None:
     extra: list[tuple[dict[str, Any], dict[str, Any]]] = [
         ({"do": "split", "source": 3, "tag": "en", "text": "x", "postings": [1]}, {"ok": 99, "moved": 1}),
         ({"do": "relabel", "owner": 3, "tag": "en", "text": "x", "keep": True}, {"done": True}),
@@ -195,15 +195,15 @@ def test_each_request_is_a_sentence(mirror: Replica, language: str) -> None:
     seen = set()
     for request, answer in REQUESTS + extra:
         for its in (answer, None):
-            said = Markup(sentence_of(request, its, mirror, Words(language), PlainLinks(mirror))).striptags()
+            said = Markup(sentence_of(request, its, replica, Words(language), PlainLinks(replica))).striptags()
             assert said and "sentences." not in said and "{" not in said
         seen.add(request["do"])
     assert seen == set(WRITERS)
 
 
-def test_sentences_name_what_was_done(mirror: Replica) -> None:
+def test_sentences_name_what_was_done(replica: Replica) -> None:
     def said(request: dict[str, Any], answer: dict[str, Any]) -> str:
-        return Markup(sentence_of(request, answer, mirror, Words("en"), PlainLinks(mirror))).striptags()
+        return Markup(sentence_of(request, answer, replica, Words("en"), PlainLinks(replica))).striptags()
 
     alt = {"do": "addLabel", "owner": 3, "kind": "alt", "tag": "en", "text": "Geigen"}
     assert said(alt, {"done": True}) == "Violins: non-preferred term “Geigen” (en) added"
@@ -224,7 +224,7 @@ def test_sentences_name_what_was_done(mirror: Replica) -> None:
     assert said(reference, {"done": True}) == "the new concept: broader term Violins added"
 
 
-# Links of a small mirror of four concepts, what two of them are merged as, and what is said of it.
+# Links of a small replica of four concepts, what two of them are merged as, and what is said of it.
 MERGES: list[tuple[list[tuple[str, int, int]], tuple[int, int], str, str, list[int]]] = [
     ([("broader", 2, 3), ("broader", 3, 4)], (2, 4), "Cycle", "B is between A and C: A → B → C.", [3, 2, 4]),
     ([("broader", 2, 3), ("broader", 3, 4)], (4, 2), "Cycle", "B is between A and C: A → B → C.", [3, 2, 4]),

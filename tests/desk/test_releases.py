@@ -20,11 +20,11 @@ from reader import Reader
 from test_arrays import BASSES, BOWED, CELLOS, FIDDLES, PLUCKED, VIOLAS, VIOLINS, array, is_as_replayed, place
 from thesaurus_desk.interfaces import interfaces_of
 from thesaurus_desk.journal.values import set_request
-from thesaurus_desk.store.exported import export_source, read_export
+from thesaurus_desk.store.export_replica import export_source, read_export
 from thesaurus_desk.store.plan_execution import Desk
 from thesaurus_desk.store.release_export import make_release
 from thesaurus_tools.fields import Field
-from thesaurus_tools.rdf_writing import ISO_THES
+from thesaurus_tools.rdf_writer import ISO_THES
 from thesaurus_tools.release_changes import Change
 
 SCHEME = URIRef("https://thesaurus.example/id/1")

@@ -19,11 +19,11 @@ from asking import assert_as_store
 from conftest import BASE
 from plain import Plain
 from thesaurus_desk.journal import Draft, Step, journal_of
-from thesaurus_desk.journal.earlier import seal
+from thesaurus_desk.journal.old_journals import seal
 from thesaurus_desk.journal.recovery import BY_OTHERS
 from thesaurus_desk.store import build, upkeep
 from thesaurus_desk.store.changes import Change, Changes, WrongChange
-from thesaurus_desk.store.difference import attached, differences
+from thesaurus_desk.store.difference import attach_store, differences
 from thesaurus_desk.store.plan_execution import Desk
 from thesaurus_tools.command_line import ToolError
 from thrown_plans import Plans
@@ -241,9 +241,9 @@ def test_parts_of_words_and_notes(desk: Desk) -> None:
 
 
 def find_asked() -> Any:
-    from thesaurus_desk.store.search import Asked
+    from thesaurus_desk.store.search import LabelFilter
 
-    return Asked()
+    return LabelFilter()
 
 
 # --- journals of earlier desks ---
@@ -325,6 +325,6 @@ def test_store_is_attached_with_its_log(desk: Desk, tmp_path: Path) -> None:
     assert log.exists() and log.stat().st_size > 1000
     was = copied.read_bytes(), log.read_bytes()
     with contextlib.closing(sqlite3.connect(":memory:", isolation_level=None, uri=True)) as rows:
-        with attached(rows, copied):
+        with attach_store(rows, copied):
             assert rows.execute("SELECT record FROM store.posting WHERE pkey = 'k-1'").fetchone() == ("Violin",)
     assert (copied.read_bytes(), log.read_bytes()) == was

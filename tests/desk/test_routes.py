@@ -15,27 +15,27 @@ READING_POSTS = {"interfaces.reconcile", "interfaces.oai"}
 # Answers for other programs may be read by pages of other sites, and the preview may be shown in their frames.
 FOR_PROGRAMS = ("/id", "/rest/", "/reconcile", "/changed", "/export.", "/oai")
 # Forms that a visitor may send.
-OF_VISITORS = {"coming_in.log_in", "coming_in.log_out", "visitors.propose_as_visitor"}
+OF_VISITORS = {"account.log_in", "account.log_out", "visitors.propose_as_visitor"}
 # What each role may send, and no lower one. A new form is written down here.
 ROLES = {
-    "visitor": "coming_in.log_in coming_in.log_out visitors.propose_as_visitor",
-    "reader": "coming_in.change_password for_me.note_read for_me.renew_address for_me.watch"
+    "visitor": "account.log_in account.log_out visitors.propose_as_visitor",
+    "reader": "account.change_password for_me.note_read for_me.renew_address for_me.watch"
     " proposals.comment proposals.propose proposals.remove_comment"
     " proposals.withdraw",
-    "indexer": "bring_in.bring_postings records.add_concept records.add_record records.reindex records.withdraw"
+    "indexer": "imports.bring_postings records.add_concept records.add_record records.reindex records.withdraw"
     " records.withdraw_record reindex.reindex_many indexing.index_record"
     " indexing.suggest_more queue.bring_records queue.open_next changes.take_back",
     "editor": "arrays.change_place arrays.link_members arrays.new_array arrays.order bulk_changes.preview_bulk"
-    " bring_in.choose_columns bring_in.go_on bring_in.perform_table bring_in.preview_table changes.close"
+    " imports.choose_columns imports.go_on imports.perform_table imports.preview_table changes.close"
     " edit.add_link edit.add_term edit.change_term edit.prefer_term"
     " edit.remove_link edit.remove_members edit.remove_term"
-    " bring_in.perform_skos bring_in.preview_skos edit.deprecate merge.merge own_fields.change_field"
+    " imports.perform_skos imports.preview_skos edit.deprecate merge.merge own_fields.change_field"
     " own_fields.make_field split.split"
     " edit.retype_link mapping.decide mapping.mend mapping.same_table move.move"
-    " new.new_collection new.new_concept new.new_scheme proposals.accept proposals.decline"
+    " create.new_collection create.new_concept create.new_scheme proposals.accept proposals.decline"
     " replacement.preview_replacement"
     " values.change_value values.copy_values visitors.discard visitors.take_up work.change_work",
-    "head": "mapping.load people.change_users queue.settle_indexing releases.new_release rights.settle_rights"
+    "head": "mapping.load users.change_users queue.settle_indexing releases.new_release rights.settle_rights"
     " state.back_up values.settle_taken",
 }
 VALUES = {
@@ -169,7 +169,7 @@ def test_for_another_host(frozen: Site) -> None:
 def test_with_all_that_it_needs(site: Site) -> None:
     for endpoint, path, view in changes(site):
         for name, word in USERS.items():
-            if role_named(word) >= view.lowest_role and endpoint != "coming_in.log_out":
+            if role_named(word) >= view.lowest_role and endpoint != "account.log_out":
                 answer = site.client(name).post(path, {"name": "x"})
                 assert answer.status_code < 500, (path, answer.status)
                 assert answer.status_code != 421 and AGAIN not in answer.text, (path, name)

@@ -7,11 +7,11 @@ import pytest
 from clients import Client, Site, hold_up_once, text_of
 from test_bring_in import perform, send
 from test_changes import number
-from thesaurus_desk.importing.named_requests import NamedRun
+from thesaurus_desk.importing.request_series import RequestSeries
 from thesaurus_desk.importing.row_trial import CopyTrial, try_rows
 from thesaurus_desk.store.plan_execution import Desk, Outcome
 from thesaurus_desk.store.run_threads import Report
-from thesaurus_tools.row_running import RowPlan
+from thesaurus_tools.row_runner import RowPlan
 from whole import resources
 
 # More requests than a plan has: the rows are tried on a copy of the store.
@@ -140,7 +140,7 @@ def test_what_a_trial_says_is_what_comes(desk: Desk, seed: int, count: int) -> N
     before = resources(desk.replica)
     foreseen = set(try_rows(desk, rows))
     assert resources(desk.replica) == before
-    names, refused = NamedRun(desk, "anna", "table"), set()
+    names, refused = RequestSeries(desk, "anna", "table"), set()
     for row in rows:
         try:
             is_done = names.perform(row.requests).is_done

@@ -184,7 +184,7 @@ def test_the_program_ends_with_the_desk(program: str, store: Path, how: signal.S
 
 
 def test_a_killed_program_is_started_again(program: str, store: Path) -> None:
-    """Soon, and not only with the next change; pages are made of the mirror meanwhile."""
+    """Soon, and not only with the next change; pages are made of the replica meanwhile."""
     with running(*alone(program, store)) as desk:
         (killed,) = children_of(desk.process)
         os.kill(killed, signal.SIGKILL)

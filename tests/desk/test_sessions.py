@@ -9,7 +9,7 @@ from pathlib import Path
 import pytest
 from clients import AGAIN, HOST, PASSWORD, Client, Site, site_of
 from thesaurus_desk.auth.accounts import Account, Accounts
-from thesaurus_desk.auth.authentication import Alone
+from thesaurus_desk.auth.authentication import SingleUserEntry
 from thesaurus_desk.auth.roles import Role
 from thesaurus_desk.auth.sessions import IDLE, RENEWAL, WHOLE, Sessions
 from thesaurus_desk.settings import Settings
@@ -214,12 +214,12 @@ def test_a_click_on_another_site_keeps_the_session(site: Site) -> None:
 
 
 def test_alone(desk: Desk) -> None:
-    site = Site(desk, Alone("anna"), Settings(frozenset({HOST})))
+    site = Site(desk, SingleUserEntry("anna"), Settings(frozenset({HOST})))
     client = site.client()
     assert "key" in client.get("/login").text and client.get("/").status_code == 303
     for key in ("", "x", "é", "\ud800"):
         assert client.http.get("/enter", query_string={"key": key.encode("utf-8", "replace")}).status_code == 404
-    assert isinstance(site.entry, Alone)
+    assert isinstance(site.entry, SingleUserEntry)
     entered = client.get(f"/enter?key={site.entry.key}")
     assert entered.status_code == 200 and "url=/" in entered.text and "SameSite=Strict" in entered.headers["Set-Cookie"]
     assert "anna" in client.get("/me").text

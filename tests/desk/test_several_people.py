@@ -45,7 +45,7 @@ def test_an_indexer_corrects_and_proposes(hand: Hand) -> None:
 
 
 def test_nobody_undoes_what_a_colleague_has_done_since(hand: Hand) -> None:
-    """What came later is shown first, also beside the one press; an editor may take back a merge that moved no record."""
+    """What came later is shown first; an editor may take back a merge that moved no record."""
     come_in_as(hand, "ben").open("/c/11")
     name = hand.driver.find_element("tag name", "h1").text.split()[0]
     hand.press("Add a term or a note")

@@ -70,9 +70,9 @@ def words_of(page: Any) -> str:
     return " ".join(text_of(page).split())
 
 
-def labels_of(mirror: Replica, number: int) -> set[tuple[str, str, str]]:
+def labels_of(replica: Replica, number: int) -> set[tuple[str, str, str]]:
     """Returns the labels of a resource."""
-    found = mirror.get(number)
+    found = replica.get(number)
     assert found
     return {(kind, tag, text) for kind, tag, text in found.labels}
 
@@ -89,16 +89,16 @@ def test_what_differs_is_shown_and_done_and_then_nothing_differs(site: Site, ann
     assert "Atlantis" in shown and "It is no longer in the file, and stays in use." in shown
     page = perform(anna, page, "/bring-in/table/perform")
     assert "7 rows were done." in words_of(page), text_of(page)
-    mirror = site.desk.replica
+    replica = site.desk.replica
     norway, bergen, oslo = (number(site, it) for it in ("Kingdom of Norway", "Bergen", "Oslo"))
-    view = mirror.view(bergen)
+    view = replica.view(bergen)
     assert view and view.broader == (number(site, "Vestland"),) and number(site, "Voss") in view.related
-    dead = mirror.named("Christiania")
-    assert [mirror.final(it.number) for it in dead] == [oslo]
-    assert {("alt", "en", "Norway"), ("alt", "en", "Norge")} & labels_of(mirror, norway) == {("alt", "en", "Norway")}
+    dead = replica.named("Christiania")
+    assert [replica.final(it.number) for it in dead] == [oslo]
+    assert {("alt", "en", "Norway"), ("alt", "en", "Norge")} & labels_of(replica, norway) == {("alt", "en", "Norway")}
     assert site.desk.values.held(number(site, "Europe"), "definition")[0].text == "A part of Eurasia"
     assert {
-        it.b for it in mirror.as_store().links if it.kind == "member" and it.a in mirror.numbers("collection", scheme)
+        it.b for it in replica.as_store().links if it.kind == "member" and it.a in replica.numbers("collection", scheme)
     } == {oslo, bergen}
     assert not changes(update(anna, SECOND, scheme))
 
@@ -122,10 +122,10 @@ def test_what_the_file_has_in_another_scheme_is_told_and_left_out(site: Site, an
     assert "1 row changes something." in shown, shown
     assert "What the file has in it (2) is left out." in shown and "Grieg" not in shown
     perform(anna, page, "/bring-in/table/perform")
-    mirror = site.desk.replica
-    assert not mirror.named("Edvard Grieg") and len(mirror.numbers("concept", scheme)) == 6
-    view = mirror.view(number(site, "Bergen"))
-    assert view and [(kind, mirror.iri(other)) for kind, other in view.mappings] == [
+    replica = site.desk.replica
+    assert not replica.named("Edvard Grieg") and len(replica.numbers("concept", scheme)) == 6
+    view = replica.view(number(site, "Bergen"))
+    assert view and [(kind, replica.iri(other)) for kind, other in view.mappings] == [
         ("close", "http://old.example/21"),
         ("exact", "http://old.example/4"),
     ]

@@ -16,7 +16,7 @@ from selenium.webdriver.chrome.webdriver import WebDriver
 from selenium.webdriver.common.action_chains import ActionChains
 from selenium.webdriver.common.keys import Keys
 from thesaurus_desk.journal import journal_of
-from thesaurus_desk.journal.schema import written
+from thesaurus_desk.journal.schema import time_text
 from thesaurus_desk.store.plan_execution import Desk
 
 pytestmark = pytest.mark.needs("chromedriver", "selenium")
@@ -333,7 +333,7 @@ def aged(desk: Desk) -> Desk:
     with closing(sqlite3.connect(journal_of(desk.db))) as rows, rows:
         for number, (_, days, _) in zip(numbers, plans, strict=True):
             for table, name in (("plan", "id"), ("ended", "plan")):
-                rows.execute(f"UPDATE {table} SET at = ? WHERE {name} = ?", (written(ago(days)), number))
+                rows.execute(f"UPDATE {table} SET at = ? WHERE {name} = ?", (time_text(ago(days)), number))
     return desk
 
 

@@ -45,7 +45,8 @@ def test_settle_who_does_what(hand: Hand) -> None:
 def test_watch_a_branch(hand: Hand) -> None:
     hand.open("/c/2")
     hand.press("Watch with all below")
-    assert hand.find("Watch with all below", "button").get_attribute("aria-pressed") == "true"
+    pressed = "button[aria-pressed=true]"
+    assert hand.find("Watch with all below", pressed)
     hand.press("For me")
     hand.sees("Nothing has happened since")
     hand.sees("String instruments with all below")

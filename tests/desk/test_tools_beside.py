@@ -10,7 +10,7 @@ from pathlib import Path
 import pytest
 from processes import ROOT
 from thesaurus_desk.store.plan_execution import Desk
-from thesaurus_desk.store.snapshot import MomentServer
+from thesaurus_desk.store.snapshot import SnapshotServer
 from thesaurus_tools.desk_socket import folder_of
 from thesaurus_tools.values import set_request
 
@@ -26,10 +26,10 @@ CALLS = {
 
 
 @pytest.fixture
-def moments(desk: Desk) -> Iterator[MomentServer]:
+def moments(desk: Desk) -> Iterator[SnapshotServer]:
     """The socket of a desk."""
     assert desk.perform("anna", "post", [{"do": "post", "key": "k-1", "record": "Violin 1700", "concept": 5}]).is_done
-    server = MomentServer(desk, None)
+    server = SnapshotServer(desk, None)
     yield server
     server.end()
 
@@ -95,7 +95,7 @@ def test_a_desk_that_was_killed(store: Path, program: str) -> None:
     shutil.rmtree(folder_of(store))
 
 
-def test_a_busy_desk(desk: Desk, moments: MomentServer, monkeypatch: pytest.MonkeyPatch, program: str) -> None:
+def test_a_busy_desk(desk: Desk, moments: SnapshotServer, monkeypatch: pytest.MonkeyPatch, program: str) -> None:
     monkeypatch.setattr("thesaurus_desk.store.open_store.WAIT_FOR_PLAN", 0.1)
     with desk.alone():
         ran = tool("report", "--desk", desk.db, "tops", program=program)

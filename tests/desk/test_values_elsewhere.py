@@ -15,7 +15,7 @@ from asking import done
 from clients import Site, text_of
 from processes import ROOT
 from thesaurus_desk.store.release_export import make_release
-from thesaurus_desk.store.snapshot import MomentServer
+from thesaurus_desk.store.snapshot import SnapshotServer
 from thesaurus_tools.fields import Field
 from thesaurus_tools.values import member_of, set_request
 
@@ -54,7 +54,7 @@ def test_the_tools(defined: Site, tmp_path: Path) -> None:
     columns = ("--columns", "number,definition@en,notation,notation@ddc,repertoire")
     table = tool("to-table", *beside, *columns)
     assert f'5,"{GLOSS}",321.322-71,787.2,folk' in table
-    server = MomentServer(desk, None)
+    server = SnapshotServer(desk, None)
     try:
         assert tool("to-table", "--desk", desk.db, *columns) == table
     finally:

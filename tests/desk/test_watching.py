@@ -13,7 +13,7 @@ from clients import Client, Site, site_of, text_of
 from reader import Reader
 from test_public_view import status
 from thesaurus_desk.auth.accounts import Accounts
-from thesaurus_desk.journal.schema import written
+from thesaurus_desk.journal.schema import time_text
 from thesaurus_desk.store.plan_execution import Desk
 from thesaurus_desk.web import watch_mail
 from thesaurus_desk.web.watch_mail import WatchMail
@@ -190,7 +190,7 @@ def sent(machine: Path) -> list[str]:
 
 def yesterday(desk: Desk, user: str) -> None:
     """Has the last mail be that of yesterday."""
-    desk.watches.note_mailed(user, written(datetime.now(UTC) - timedelta(days=1)))
+    desk.watches.note_mailed(user, time_text(datetime.now(UTC) - timedelta(days=1)))
 
 
 def mailer(desk: Desk, site: Site) -> WatchMail:

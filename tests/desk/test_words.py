@@ -11,7 +11,7 @@ import thesaurus_tools
 from markupsafe import Markup
 from thesaurus_desk.words import LANGUAGES, Words, best_language, texts_of
 from thesaurus_desk.words.catalogues import forms_of, path_of, written_catalogue
-from thesaurus_tools.sentences import ROWS, TABLES
+from thesaurus_tools.table_messages import ROWS, TABLES
 
 PACKAGE = Path(thesaurus_desk.__file__).parent
 # A key as the whole first argument of the call: those that are put together are tried by the pages' own tests.

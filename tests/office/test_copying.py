@@ -12,9 +12,9 @@ from office import generated, tool
 from ports import free_port
 from program import built, lines_of, over
 from serving import serving
-from thesaurus_tools.copying import copy_served, open_copy_of_served
-from thesaurus_tools.opening import open_file
 from thesaurus_tools.server import Server
+from thesaurus_tools.store_copies import copy_served, open_copy_of_served
+from thesaurus_tools.store_options import open_file
 
 
 @pytest.fixture(scope="module")

@@ -13,8 +13,8 @@ import pytest
 from office import tool
 from ports import free_port
 from program import ROOT, Ended, built
-from thesaurus_tools.feeding import Fed, Feed
 from thesaurus_tools.ntriples import SKOS, Literal, Node, parse_ntriples
+from thesaurus_tools.triple_feed import FeedResult, Feed
 from thesaurus_tools.triple_store import plain
 from virtuoso import PASSWORD, Virtuoso
 
@@ -138,7 +138,7 @@ def test_readers_see_all_triples_while_they_are_put_anew(virtuoso: Virtuoso, tmp
     reader = threading.Thread(target=read)
     reader.start()
     wait_for(lambda: seen != [])
-    assert feed.feed(many("new", 900)) == Fed(0, 7200, True)
+    assert feed.feed(many("new", 900)) == FeedResult(0, 7200, True)
     known = len(seen)
     # (the first of these may have been asked before)
     wait_for(lambda: len(seen) > known + 1)

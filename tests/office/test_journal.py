@@ -8,7 +8,7 @@ from pathlib import Path
 import pytest
 
 from thesaurus_tools.journal import Journal, open_journal
-from thesaurus_tools.named_scripts import parse_script
+from thesaurus_tools.load_scripts import parse_script
 
 
 @pytest.fixture()

@@ -5,7 +5,7 @@ import random
 from pathlib import Path
 
 import pytest
-from thesaurus_tools.fed_state import FedState
+from thesaurus_tools.feed_state import FedState
 from thesaurus_tools.line_differences import differences
 
 

@@ -19,10 +19,10 @@ from plain import Plain
 from ports import free_port
 from program import Ended, built, lines_of, over, values_of
 from serving import serving
-from thesaurus_tools.opening import open_file
-from thesaurus_tools.served_store import read_served
+from thesaurus_tools.program_store import read_served
 from thesaurus_tools.server import Server
 from thesaurus_tools.store import Store
+from thesaurus_tools.store_options import open_file
 
 BEFORE: list[Request] = [
     {"do": "scheme", "tag": "en", "text": "Instruments"},

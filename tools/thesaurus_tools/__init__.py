@@ -1,40 +1,37 @@
 """What the tools of this folder share, a topic a module; a tool loads those that it needs.
 
-  command_line, files, requests,       how a tool is called and ends, what it reads and writes, JSON; the Python with
-  system_python                        Debian's modules
-  program, server, limits, shapes      a run of the program, and one that serves; its limits, the shapes of its requests
-  kinds, texts, entities               the kinds of things, which texts are alike, addresses of things elsewhere
-  fields, values, desk_values,         what a desk keeps beside a store: fields, their values, how a tool reads them,
-  rdf_values, export_values, arrays,   what an export says of them, where collections are in a hierarchy, and what
-  public_values, note_sources          values and their sources are in RDF
-  ntriples, rdf_files, bounded, skos,  RDF: N-Triples, its other forms, and a vocabulary of SKOS; what isn't read
-  skos_kinds, skos_xl, skos_update,
-  mads, zthes
-  vocabulary, link_rules, converting   what a converter makes of a vocabulary, and the rules that it may break
-  script_writer                        the script that loads a vocabulary
-  named_scripts, journal, loader,      such a script, and how it is loaded
-  one_plan, recovery, progress
-  backups, copying, holding,           a folder of backups, copies, and a program that waits while its store is copied;
-  desk_socket                          a desk that sends its store
-  store, opening, table_store,         a thesaurus as objects, and where it comes from
-  export_store, served_store, public_store
-  reports, changes, release_changes    questions about a thesaurus, and what differs between two exports
-  site_export, site_terms,             the pages of a web site, and what it has for programs
-  site_pages, site_rdf
-  headings, spreadsheets, formulas,    tables that change a store: their columns and cells, read in a process within
-  table_process, table_plans,          limits, what their rows ask for over a draft of the store, and how that is
-  row_changes, exact_rows,             performed; a table of concepts; addresses of things elsewhere
-  row_postings, drafts, exchanges, finding, row_running,
-  sentences, table_writing, entities,
-  catalogue_records
-  exporting, desk_triples,             the forms of other programs, with what a desk knows beside the store
-  public_triples, rdf_writing, marc, iso2709, marc_languages, print_pages, pdf, xml_texts
-  file_forms, exported_values,         the forms in which a desk saves an export, and how it becomes objects again;
-  workbooks                            spreadsheets
-  feeding, triple_store, fed_state,    a triple store that is kept equal to a store
-  line_differences
-  vocabulary_tables, vocabulary_dumps, other publishers' vocabularies, to which a desk's concepts are mapped; words
-  vocabulary_loading, stems            without their endings
+How a tool is called and ends, what it reads and writes:
+  command_line, files, requests, system_python
+A run of the program, and one that serves; its limits, the shapes of its requests:
+  program, server, limits, shapes
+Kinds of things, which texts are alike, addresses of things elsewhere:
+  kinds, texts, entities
+Fields and their values, how a tool reads them, what an export says of them, where collections are in a hierarchy:
+  fields, values, desk_values, rdf_values, export_values, arrays, public_values, note_sources
+RDF: N-Triples, its other forms, a vocabulary of SKOS; what a parser of it may do:
+  ntriples, rdf_files, parser_bounds, skos, skos_kinds, skos_xl, skos_update, mads, zthes
+What a converter makes of a vocabulary, the rules that it may break, and the script that loads it:
+  vocabulary, link_rules, conversion, script_writer
+Such a script, and how it is loaded:
+  load_scripts, journal, loader, one_plan, recovery, progress
+A folder of backups, copies of a store, a program that waits meanwhile; a desk that sends its store:
+  backups, store_copies, program_hold, desk_socket
+A thesaurus as objects, and where it comes from:
+  store, store_options, table_store, export_store, program_store, public_store
+Questions about a thesaurus, and what differs between two exports:
+  reports, changes, release_changes
+A web site:
+  site_export, site_terms, site_pages, site_rdf
+Tables that change a store: columns and cells, what rows ask for, how it is performed; a table of concepts:
+  headings, spreadsheets, formulas, table_process, table_plans, row_changes, exact_rows, row_postings, drafts,
+  exchanges, concept_finder, row_runner, table_messages, table_writer, catalogue_records
+The forms of other programs, and those in which a desk saves an export:
+  triple_export, desk_triples, public_triples, rdf_writer, marc, iso2709, marc_languages, print_pages, pdf, xml_texts,
+  file_forms, desk_export, workbooks
+A triple store that is kept equal to a store:
+  triple_feed, triple_store, feed_state, line_differences
+Other publishers' vocabularies, to which a desk's concepts are mapped; words without their endings:
+  vocabulary_tables, vocabulary_dumps, vocabulary_loader, stems
 """
 import sys
 

@@ -10,7 +10,7 @@ from typing import Generic, TypeVar
 from thesaurus_tools import note_sources
 from thesaurus_tools.fields import ORDER, PLACE_FIELDS, SUPERORDINATE
 from thesaurus_tools.ntriples import DCTERMS, OWL, RDF, SKOS, Iri, Literal, Node, Triple
-from thesaurus_tools.rdf_writing import ISO_THES
+from thesaurus_tools.rdf_writer import ISO_THES
 
 # What resources are named by: numbers or IRIs.
 Name = TypeVar("Name")
@@ -38,8 +38,8 @@ class Places(Generic[Name]):
         self, named: Mapping[Name, Name], outer: Mapping[Name, Name], orders: Mapping[Name, Sequence[Name]]
     ) -> None:
         self.named, self.outer, self.orders = named, outer, orders
-        self.inner = turned(outer)
-        self.arrays = turned({it: above for it in (*named, *outer) if (above := self.superordinate(it)) is not None})
+        self.inner = reverse(outer)
+        self.arrays = reverse({it: above for it in (*named, *outer) if (above := self.superordinate(it)) is not None})
 
     def superordinate(self, number: Name) -> Name | None:
         """Returns the concept below which an array is: its own, or that of the one around it."""
@@ -67,7 +67,7 @@ class Places(Generic[Name]):
         return is_nested and self.superordinate(number) is None
 
 
-def turned(targets: Mapping[Name, Name]) -> dict[Name, list[Name]]:
+def reverse(targets: Mapping[Name, Name]) -> dict[Name, list[Name]]:
     """Returns for each target what leads there."""
     found: dict[Name, list[Name]] = defaultdict(list)
     for it, target in targets.items():
@@ -188,7 +188,7 @@ def list_of(objects: Mapping[str, Mapping[str, Sequence[Node]]], first: Node) ->
     return found
 
 
-def numbered(places: Places[str], base: str) -> Places[int]:
+def number_places(places: Places[str], base: str) -> Places[int]:
     """Returns the places of collections by the numbers that end their IRIs."""
 
     def pairs(found: Mapping[str, str]) -> dict[int, int]:

@@ -19,8 +19,8 @@ from pathlib import Path
 
 from thesaurus_tools.command_line import REFUSED, ToolError
 from thesaurus_tools.files import give_copy_to_owner, give_to_owner, synchronize
-from thesaurus_tools.opening import open_file
 from thesaurus_tools.program import EXISTING
+from thesaurus_tools.store_options import open_file
 
 # The file of a backup that says which store it is.
 SIGN = "backup.json"

@@ -35,7 +35,7 @@ def address_in(folder: Path, name: str = NAME) -> Iterator[str]:
 
 
 @dataclass(frozen=True)
-class Moment:
+class DeskSnapshot:
     """What a desk has sent: its files by their names, open for reading, and its counts of postings."""
 
     files: dict[str, int]
@@ -51,7 +51,7 @@ class Moment:
 
 
 @contextlib.contextmanager
-def ask_desk(store: Path, what: str) -> Iterator[Moment | None]:
+def ask_desk(store: Path, what: str) -> Iterator[DeskSnapshot | None]:
     """Asks the desk of a store for the files of the store (`store`), or for those of a backup (`backup`). Gives None if
     no desk is running, or another user's. Raises ToolError if the desk doesn't answer."""
     with contextlib.ExitStack() as stack:
@@ -73,7 +73,7 @@ def ask_desk(store: Path, what: str) -> Iterator[Moment | None]:
         answer: dict[str, Any] = json.loads(data) if data.endswith(b"\n") else {"busy": "the desk has ended"}
         if "busy" in answer:
             raise ToolError(f"{store}: {answer['busy']}; try again", REFUSED)
-        yield Moment(dict(zip(answer["files"], files, strict=True)), answer["counts"])
+        yield DeskSnapshot(dict(zip(answer["files"], files, strict=True)), answer["counts"])
 
 
 @contextlib.contextmanager

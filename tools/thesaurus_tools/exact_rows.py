@@ -9,12 +9,12 @@ from functools import cached_property
 from itertools import zip_longest
 from typing import NamedTuple, Protocol
 
+from thesaurus_tools.concept_finder import ConceptFinder, RowError
 from thesaurus_tools.drafts import Draft, Reference
-from thesaurus_tools.finding import ConceptFinder, RowError
 from thesaurus_tools.headings import LINKS, Column
 from thesaurus_tools.kinds import BROADER, LABEL_KINDS, MAPPINGS
 from thesaurus_tools.store import End
-from thesaurus_tools.table_writing import JOINT, TURNED, ends_of, shown_texts
+from thesaurus_tools.table_writer import JOINT, TURNED, ends_of, shown_texts
 from thesaurus_tools.values import FieldValue, cell_of, member_of, set_request, texts_of
 
 # Whether what a mark stands for is still as it was.
@@ -114,7 +114,8 @@ class ExactRows:
                 texts = [text for its, text in self.reader.values(column.role, cells) if its.tag == column.tag]
                 is_link = column.role in LINKS
                 wanted = [
-                    self.end(column.role, concept, it, before) if is_link else as_shown(it, before) for it in texts
+                    self.end(column.role, concept, it, before) if is_link else export_spelling(it, before)
+                    for it in texts
                 ]
             found.append(Difference(column, before, list(dict.fromkeys(wanted))))
         return [it for it in found if it.gone or it.new]
@@ -247,7 +248,7 @@ def is_exact(column: Column) -> bool:
     return bool(column.role in LABEL_KINDS and column.tag or column.role in LINKS or column.field)
 
 
-def as_shown(text: str, before: Shown) -> End:
+def export_spelling(text: str, before: Shown) -> End:
     """Returns the text of which a cell may have lost a space that isn't plain at its ends, or the text of the cell."""
     return next((it for it in before if str(it).strip() == text), text)
 

@@ -13,7 +13,7 @@ from thesaurus_tools.kinds import BROADER, LABEL_PROPERTIES, LINK_PROPERTIES
 from thesaurus_tools.note_sources import note_sources
 from thesaurus_tools.ntriples import DCTERMS, OWL, RDF, SKOS, XSD, Blank, Iri, Literal, Node, Triple
 from thesaurus_tools.public_values import PublicValue
-from thesaurus_tools.rdf_writing import ISO_THES
+from thesaurus_tools.rdf_writer import ISO_THES
 
 # What is no value of a field: labels, links, places, and what became of a resource.
 OF_VOCABULARY = {
@@ -70,7 +70,7 @@ class ExportFacts:
         known = BY_PROPERTY.get(predicate)
         for it in forms_of(known, node, base) if known else ():
             return it
-        made = field_made(self.name_of(predicate), predicate, node)
+        made = new_field(self.name_of(predicate), predicate, node)
         (value,) = forms_of(made, node, base)
         self.fields.setdefault(made.name, made)
         return value
@@ -87,7 +87,7 @@ def is_time(node: Node) -> bool:
     return isinstance(node, Literal) and TIME.fullmatch(node.text) is not None and time_node(node.text) == node
 
 
-def field_made(name: str, predicate: str, node: Node) -> Field:
+def new_field(name: str, predicate: str, node: Node) -> Field:
     """Returns a field for a property whose values are like a node."""
     if isinstance(node, Iri):
         return Field(name, "link", property=predicate, is_own=True)

@@ -10,7 +10,7 @@ from typing import Any
 from urllib.parse import quote, unquote
 
 from thesaurus_tools.ntriples import DCTERMS, SKOS, XSD, Iri, Literal, Node
-from thesaurus_tools.rdf_writing import ISO_THES
+from thesaurus_tools.rdf_writer import ISO_THES
 
 # The kinds of resources that may have values.
 OWNERS = ("scheme", "concept", "collection")

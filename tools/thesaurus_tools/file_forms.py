@@ -18,19 +18,19 @@ from functools import cached_property, partial
 from pathlib import Path
 
 from thesaurus_tools.command_line import DONE, FAULT, REFUSED, ToolError
-from thesaurus_tools.exported_values import store_with_values
-from thesaurus_tools.exporting import WORDS, base_of, choose_branch, choose_scheme
+from thesaurus_tools.desk_export import store_with_values
 from thesaurus_tools.fields import Field
 from thesaurus_tools.iso2709 import iso2709
 from thesaurus_tools.marc import AuthorityWriter, Record, collection_lines
 from thesaurus_tools.ntriples import SKOS, Iri, Triple, read_ntriples
 from thesaurus_tools.pdf import to_pdf
 from thesaurus_tools.print_pages import PARTS, PrintPages, document
-from thesaurus_tools.rdf_writing import WRITERS
+from thesaurus_tools.rdf_writer import WRITERS
 from thesaurus_tools.reports import walk_down
 from thesaurus_tools.store import Resource, Store
 from thesaurus_tools.system_python import PackageError
-from thesaurus_tools.table_writing import TableWriter, columns_with_something, table_text
+from thesaurus_tools.table_writer import TableWriter, columns_with_something, table_text
+from thesaurus_tools.triple_export import WORDS, base_of, choose_branch, choose_scheme
 from thesaurus_tools.workbooks import ods, xlsx
 from thesaurus_tools.zthes import ZthesWriter
 
@@ -184,10 +184,10 @@ def as_site(part: Part) -> bytes:
         ran = subprocess.run(words, capture_output=True, text=True, check=False)
         if ran.returncode:
             raise ToolError(ran.stderr.strip()[-300:], ran.returncode)
-        return zipped(out)
+        return zip_files(out)
 
 
-def zipped(folder: Path) -> bytes:
+def zip_files(folder: Path) -> bytes:
     """Returns an archive of a folder, without the files that its maker hides."""
     out = io.BytesIO()
     with zipfile.ZipFile(out, "w", zipfile.ZIP_DEFLATED) as archive:

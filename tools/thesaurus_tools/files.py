@@ -12,7 +12,7 @@ from collections.abc import Iterable, Iterator
 from pathlib import Path
 
 from thesaurus_tools.command_line import REFUSED, USAGE, ToolError
-from thesaurus_tools.sentences import TABLES
+from thesaurus_tools.table_messages import TABLES
 
 # The most bytes of a table.
 MOST_BYTES = 64 << 20

@@ -7,7 +7,7 @@ from pathlib import Path
 
 from thesaurus_tools.command_line import REFUSED, ToolError
 from thesaurus_tools.files import synchronize
-from thesaurus_tools.named_scripts import Block, Line
+from thesaurus_tools.load_scripts import Block, Line
 from thesaurus_tools.requests import parse_json, to_json
 
 # What records of a journal begin with.

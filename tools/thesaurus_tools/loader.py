@@ -9,7 +9,7 @@ from collections import Counter, deque
 
 from thesaurus_tools.command_line import DONE, FAULT, REFUSED, ToolError
 from thesaurus_tools.journal import Journal, match
-from thesaurus_tools.named_scripts import Block, Line
+from thesaurus_tools.load_scripts import Block, Line
 from thesaurus_tools.one_plan import MOST_BYTES, MOST_REQUESTS, encode_plan
 from thesaurus_tools.program import Performer, count_resources
 from thesaurus_tools.progress import Progress

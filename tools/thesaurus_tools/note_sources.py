@@ -28,10 +28,10 @@ def source_triples(note: Triple, source: Node) -> Iterator[Triple]:
 
 def sources_of(values: Mapping[str, Properties]) -> dict[Triple, str]:
     """Returns the sources of notes that statements say."""
-    return {note: source for its in values.values() for note, source in stated(its)}
+    return {note: source for its in values.values() for note, source in note_statements(its)}
 
 
-def stated(its: Properties) -> Iterator[tuple[Triple, str]]:
+def note_statements(its: Properties) -> Iterator[tuple[Triple, str]]:
     """Yields the note that a resource is a statement about, and its source; nothing, if it is none."""
     parts = [its.get(name, ()) for name in (SUBJECT, PREDICATE, OBJECT, SOURCE)]
     if STATEMENT in its.get(RDF + "type", ()) and all(len(it) == 1 for it in parts):

@@ -92,10 +92,10 @@ def parse_statement(line: str, pattern: re.Pattern[str] = STATEMENT) -> Triple |
         raise ValueError("no triple of N-Triples")
     iri, blank, predicate, object_iri, object_blank, text, tag, datatype = match.groups()[:8]
     target = Literal(unescape(text), tag or "", unescape(datatype or "")) if text is not None else None
-    return Triple(named(iri, blank), Iri(unescape(predicate)), target or named(object_iri, object_blank))
+    return Triple(node_name(iri, blank), Iri(unescape(predicate)), target or node_name(object_iri, object_blank))
 
 
-def named(iri: str | None, blank: str) -> Iri | Blank:
+def node_name(iri: str | None, blank: str) -> Iri | Blank:
     """Returns the node with an IRI, or with the label of a blank node."""
     if iri is None:
         return Blank(blank)

@@ -4,7 +4,7 @@ from __future__ import annotations
 import json
 from collections.abc import Mapping, Sequence
 
-from thesaurus_tools.named_scripts import NUMBERED_MEMBERS
+from thesaurus_tools.load_scripts import NUMBERED_MEMBERS
 from thesaurus_tools.program import Performer
 from thesaurus_tools.requests import encode
 
@@ -14,7 +14,7 @@ MOST_REQUESTS, MOST_BYTES = 128, 1_048_000
 Names = Mapping[str, int | str]
 
 
-def resolved(request: dict, names: Names) -> dict:
+def resolve_names(request: dict, names: Names) -> dict:
     """Returns a request with numbers or references in place of names. Raises KeyError for a name that has none."""
 
     def number(it: object) -> object:
@@ -76,7 +76,7 @@ class OnePlan:
         lines = []
         for place, request in enumerate(self.requests):
             if place in references:
-                lines.append(encode(resolved(request, names)))
+                lines.append(encode(resolve_names(request, names)))
             if "as" in request:
                 first = self.first_of(place)
                 names[request["as"]] = self.known.get(first) or references[first]

@@ -10,10 +10,10 @@ from collections.abc import Iterator
 from pathlib import Path
 from typing import Any
 
-from thesaurus_tools.bounded import TooMuch, limited, watched
 from thesaurus_tools.command_line import REFUSED, USAGE, ToolError
 from thesaurus_tools.ntriples import BOM, QUAD, STATEMENT, Blank, Iri, Literal, Triple, parse_ntriples
 from thesaurus_tools.ntriples import read_document as read_lines
+from thesaurus_tools.parser_bounds import BoundReached, limit_run, guard_opens
 from thesaurus_tools.system_python import run_by_system_python
 from thesaurus_tools.zthes import HEAD_BYTES, is_zthes, zthes_triples
 
@@ -62,9 +62,9 @@ def parse_by_rdflib(path: Path, form: str, may_fetch: bool) -> Any:
         seconds, memory = SECONDS + SECONDS_FOR_MEGABYTE * size / 1e6, MEMORY + MEMORY_FOR_BYTE * size
         with contextlib.ExitStack() as stack:
             reserve = stack.enter_context(contextlib.closing(mmap.mmap(-1, RESERVE)))
-            stack.enter_context(limited(seconds, memory))
+            stack.enter_context(limit_run(seconds, memory))
             if not may_fetch:
-                watch = stack.enter_context(watched(path))
+                watch = stack.enter_context(guard_opens(path))
             try:
                 graph = rdflib.Graph().parse(data=data, format=form, publicID=path.absolute().as_uri())
             except MemoryError:
@@ -77,7 +77,7 @@ def parse_by_rdflib(path: Path, form: str, may_fetch: bool) -> Any:
         failure = error
     if watch and watch.refused:
         raise ToolError(f"{path}: it refers to {watch.refused}, which is read only with --fetch", REFUSED) from None
-    if isinstance(failure, TooMuch):
+    if isinstance(failure, BoundReached):
         raise ToolError(f"{path}: {STOPPED.format(most=f'{seconds:.0f} seconds')}", REFUSED) from None
     if isinstance(failure, MemoryError):
         raise ToolError(f"{path}: {STOPPED.format(most=f'{memory >> 20} MB of memory')}", REFUSED) from None

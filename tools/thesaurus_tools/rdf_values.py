@@ -10,7 +10,7 @@ from collections.abc import Iterable, Sequence
 from pathlib import Path
 from typing import NamedTuple
 
-from thesaurus_tools.arrays import number_at, numbered, places_of_triples
+from thesaurus_tools.arrays import number_at, number_places, places_of_triples
 from thesaurus_tools.command_line import REFUSED, ToolError
 from thesaurus_tools.fields import ORDER, SUPERORDINATE, WITHIN
 from thesaurus_tools.note_sources import note_sources
@@ -72,7 +72,7 @@ def statements_in(triples: Sequence[Triple], base: str, properties: Iterable[str
 
 def places_in(triples: Sequence[Triple], base: str) -> list[Place]:
     """Returns where the collections of triples are, and what is in order in them."""
-    its = numbered(places_of_triples(triples), base)
+    its = number_places(places_of_triples(triples), base)
     single = ((SUPERORDINATE, its.named), (WITHIN, its.outer))
     found = [Place(number, field, [target]) for field, targets in single for number, target in targets.items()]
     return sorted([*found, *(Place(number, ORDER, [*order]) for number, order in its.orders.items() if order)])

@@ -7,7 +7,7 @@ from collections.abc import Iterator
 
 from thesaurus_tools.command_line import ToolError
 from thesaurus_tools.journal import Journal
-from thesaurus_tools.named_scripts import Line
+from thesaurus_tools.load_scripts import Line
 from thesaurus_tools.program import Performer
 
 # The class in an export of what a request makes.

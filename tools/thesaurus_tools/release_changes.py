@@ -8,7 +8,7 @@ from typing import Any, NamedTuple
 
 from thesaurus_tools.arrays import list_owner
 from thesaurus_tools.ntriples import DCTERMS, OWL, RDF, SKOS, Iri, Literal, Node, Triple, parse_ntriples
-from thesaurus_tools.rdf_writing import ISO_THES, node_order
+from thesaurus_tools.rdf_writer import ISO_THES, node_order
 
 # The kinds of changes, in their order.
 NEW, MERGED, ENDED, RETURNED, GONE, RENAMED, MOVED, CHANGED = (
@@ -94,7 +94,7 @@ def changes_of(subject: str, old: Properties, new: Properties) -> Iterator[Chang
     # (what has ended has no place and no links any more)
     skipped = FOLLOWING if is_ended == was_ended else {*FOLLOWING, *BROADER, SKOS + "related", SKOS + "memberList"}
     names = sorted({*old, *new} - skipped)
-    pairs = [(name, ordered(name, old.get(name, ())), ordered(name, new.get(name, ()))) for name in names]
+    pairs = [(name, sort_nodes(name, old.get(name, ())), sort_nodes(name, new.get(name, ()))) for name in names]
     for _, one, other in [it for it in pairs if it[0] in BROADER and it[1] != it[2]][-1:]:
         yield Change(MOVED, subject, SKOS + "broader", *without_same(one, other))
     for name, one, other in pairs:
@@ -103,7 +103,7 @@ def changes_of(subject: str, old: Properties, new: Properties) -> Iterator[Chang
             yield Change(kind, subject, name, *(without_same(one, other) if set(one) != set(other) else (one, other)))
 
 
-def ordered(name: str, nodes: Iterable[Node]) -> tuple[Node, ...]:
+def sort_nodes(name: str, nodes: Iterable[Node]) -> tuple[Node, ...]:
     """Returns the nodes of a property in an order that depends on nothing else; those of a list in its own."""
     return tuple(nodes if name == SKOS + "memberList" else sorted(nodes, key=node_order))
 

@@ -12,8 +12,8 @@ from thesaurus_tools.changes import changes_since
 from thesaurus_tools.command_line import USAGE, ToolError
 from thesaurus_tools.fields import STANDARD
 from thesaurus_tools.kinds import BROADER, LABEL_KINDS
-from thesaurus_tools.opening import open_file
 from thesaurus_tools.store import Label, Resource, Store
+from thesaurus_tools.store_options import open_file
 from thesaurus_tools.texts import fold, normalize
 
 SEPARATOR = " > "

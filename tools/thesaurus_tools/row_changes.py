@@ -5,11 +5,11 @@ import re
 from collections.abc import Callable, Container, Iterator
 from typing import Protocol
 
+from thesaurus_tools.concept_finder import ConceptFinder, RowError
 from thesaurus_tools.drafts import Draft, Reference
 from thesaurus_tools.entities import entity_address
 from thesaurus_tools.exact_rows import ExactRows, IsSeen, value_requests
 from thesaurus_tools.exchanges import Rename
-from thesaurus_tools.finding import ConceptFinder, RowError
 from thesaurus_tools.headings import APPROVED, LINKS, Column, status_of
 from thesaurus_tools.kinds import BROADER, CODES, LABEL_KINDS, MAPPINGS
 from thesaurus_tools.link_rules import IRI_FORM

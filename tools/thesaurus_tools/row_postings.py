@@ -7,8 +7,8 @@ from collections.abc import Iterator
 from functools import cached_property
 from typing import Protocol
 
+from thesaurus_tools.concept_finder import ConceptFinder, RowError
 from thesaurus_tools.drafts import Draft, Reference
-from thesaurus_tools.finding import ConceptFinder, RowError
 from thesaurus_tools.headings import Column
 from thesaurus_tools.store import Posting
 

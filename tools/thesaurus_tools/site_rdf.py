@@ -8,7 +8,7 @@ from pathlib import Path
 
 from thesaurus_tools.arrays import list_owner
 from thesaurus_tools.ntriples import SKOS, Literal, Triple
-from thesaurus_tools.rdf_writing import WRITERS
+from thesaurus_tools.rdf_writer import WRITERS
 from thesaurus_tools.site_export import Resource, Thesaurus
 
 FOLDER = "rdf"

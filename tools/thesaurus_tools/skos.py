@@ -14,7 +14,7 @@ from thesaurus_tools.fields import WITHIN as WITHIN_FIELD
 from thesaurus_tools.kinds import BROADER, LABEL_PROPERTIES
 from thesaurus_tools.link_rules import OUTSIDE
 from thesaurus_tools.mads import mads_name
-from thesaurus_tools.note_sources import OF_STATEMENT, sources_of, stated
+from thesaurus_tools.note_sources import OF_STATEMENT, sources_of, note_statements
 from thesaurus_tools.ntriples import DCTERMS, OWL, RDF, SKOS, Blank, Iri, Literal, Triple
 from thesaurus_tools.skos_kinds import (
     DC_ELEMENTS,
@@ -391,7 +391,7 @@ class SkosReader:
     def says_a_source(self, subject: str) -> bool:
         """Whether a resource is nothing but a statement of a source, about a note of the file."""
         its = self.values[subject]
-        notes = [note for note, _ in stated(its)]
+        notes = [note for note, _ in note_statements(its)]
         return {*its} == OF_STATEMENT and all(note in self.values[a].get(name, ()) for a, name, note in notes[:1])
 
     def read_rest_of_note(self, note: str) -> None:

@@ -12,11 +12,11 @@ from dataclasses import dataclass, field
 from functools import cached_property
 from typing import NamedTuple
 
+from thesaurus_tools.concept_finder import RowError
 from thesaurus_tools.drafts import Reference
-from thesaurus_tools.finding import RowError
 from thesaurus_tools.kinds import BROADER, MAPPINGS
 from thesaurus_tools.link_rules import OUTSIDE
-from thesaurus_tools.row_running import RowPlan
+from thesaurus_tools.row_runner import RowPlan
 from thesaurus_tools.site_export import start_of
 from thesaurus_tools.store import Store, normal_link
 
@@ -27,7 +27,7 @@ ValuesOf = Callable[[int], Iterable[Value]]
 
 
 @dataclass
-class Wanted:
+class FileResource:
     """A scheme, a concept or a collection as the file has it; `links` are kinds and names."""
 
     name: str
@@ -48,13 +48,15 @@ class Wanted:
         return min(text for kind, _, text in self.labels if kind == "pref")
 
 
-def wanted_of(requests: Iterable[dict]) -> dict[str, Wanted]:
+def wanted_of(requests: Iterable[dict]) -> dict[str, FileResource]:
     """Returns what the script of a converter makes, by the names in it. Outside concepts aren't among it."""
-    found: dict[str, Wanted] = {}
+    found: dict[str, FileResource] = {}
     for it in requests:
         do, owner = it["do"], found.get(str(it.get("owner", ""))[1:])
         if do in ("scheme", "concept", "collection"):
-            found[it["as"]] = Wanted(it["as"], do, {("pref", it["tag"], it["text"])}, str(it.get("scheme", ""))[1:])
+            found[it["as"]] = FileResource(
+                it["as"], do, {("pref", it["tag"], it["text"])}, str(it.get("scheme", ""))[1:]
+            )
         elif do == "addLabel" and owner:
             owner.labels.add((it["kind"], it["tag"], it["text"]))
         elif do == "relabel" and owner:
@@ -75,7 +77,7 @@ def wanted_of(requests: Iterable[dict]) -> dict[str, Wanted]:
     return found
 
 
-class Compared(NamedTuple):
+class ComparedParts(NamedTuple):
     """What is compared of some resources: languages, kinds of labels and fields, of which the file has some."""
 
     tags: set[str]
@@ -83,18 +85,20 @@ class Compared(NamedTuple):
     fields: set[str]
 
     @staticmethod
-    def of(wanted: Iterable[Wanted], *kinds: str) -> Compared:
+    def of(wanted: Iterable[FileResource], *kinds: str) -> ComparedParts:
         """Returns what resources of a file have; some kinds of labels are compared in any case."""
         its = list(wanted)
         labels = [label for it in its for label in it.labels]
         fields = {name for it in its for name, _, _ in it.values}
-        return Compared({tag for _, tag, _ in labels}, {*kinds, *(kind for kind, _, _ in labels)}, fields)
+        return ComparedParts({tag for _, tag, _ in labels}, {*kinds, *(kind for kind, _, _ in labels)}, fields)
 
 
 class SkosUpdate:
     """What differs between a store and a file, as rows of requests."""
 
-    def __init__(self, store: Store, wanted: Mapping[str, Wanted], scheme: int, values: ValuesOf, ends_gone: bool):
+    def __init__(
+        self, store: Store, wanted: Mapping[str, FileResource], scheme: int, values: ValuesOf, ends_gone: bool
+    ):
         self.store, self.scheme, self.values, self.ends_gone = store, scheme, values, ends_gone
         self.schemes = {name: it for name, it in wanted.items() if it.kind == "scheme"}
         self.all = {name: it for name, it in wanted.items() if it.kind != "scheme"}
@@ -103,7 +107,7 @@ class SkosUpdate:
         # What is compared: all that isn't of another scheme.
         self.wanted = {name: it for name, it in self.all.items() if it.scheme in self.own_schemes}
         self.forget_alike()
-        self.compared = Compared.of(self.wanted.values(), "pref", "alt")
+        self.compared = ComparedParts.of(self.wanted.values(), "pref", "alt")
         self.links = {kind for it in self.wanted.values() for kind, _ in it.links}
         self.names = {number: name for name, number in self.numbers.items() if self.is_live(name)}
         self.plans: list[RowPlan] = []
@@ -201,7 +205,7 @@ class SkosUpdate:
         self.add_gone()
         return self.plans
 
-    def from_top(self) -> Iterator[Wanted]:
+    def from_top(self) -> Iterator[FileResource]:
         """Yields concepts with their broader ones before them, and then collections."""
         seen: set[str] = set()
         for name in sorted(self.wanted, key=lambda it: (self.wanted[it].kind == "collection", len(it), it)):
@@ -216,7 +220,7 @@ class SkosUpdate:
                     seen.add(it)
                     yield self.wanted[it]
 
-    def add(self, it: Wanted, requests: Iterable[dict], error: RowError | None = None) -> None:
+    def add(self, it: FileResource, requests: Iterable[dict], error: RowError | None = None) -> None:
         """Adds a row."""
         its = [] if error else list(requests)
         self.plans.append(RowPlan(len(self.plans) + 1, [it.term(), it.name], its, str(error or ""), error))
@@ -228,12 +232,12 @@ class SkosUpdate:
                 count = sum(one.scheme == name for one in self.all.values())
                 self.add(it, (), RowError("other_scheme", count=count))
             elif ":" in name:
-                self.add(it, self.own_changes(self.scheme, it, Compared.of([it])))
+                self.add(it, self.own_changes(self.scheme, it, ComparedParts.of([it])))
         for name, it in sorted(self.all.items()):
             if name not in self.wanted and self.scheme_of(name) == self.scheme:
                 self.add(it, (), RowError("in_other_scheme", scheme=self.schemes[it.scheme].term()))
 
-    def add_change(self, it: Wanted) -> None:
+    def add_change(self, it: FileResource) -> None:
         """Adds the row of what is in the store."""
         number = self.numbers[it.name]
         error = None
@@ -243,7 +247,7 @@ class SkosUpdate:
             error = RowError("same_match", other=self.names[number], term=self.store.term(number))
         self.add(it, () if error else self.changes(number, it), error)
 
-    def new_resource(self, it: Wanted, made: set[str]) -> Iterator[dict]:
+    def new_resource(self, it: FileResource, made: set[str]) -> Iterator[dict]:
         """Yields the requests that make a concept or a collection. Links to what comes later are added there."""
         name, first = f"${it.name}", min(one for one in it.labels if one[0] == "pref")
         yield {"as": it.name, "do": it.kind, "scheme": self.scheme, "tag": first[1], "text": first[2]}
@@ -271,7 +275,7 @@ class SkosUpdate:
 
     # --- what changes ---
 
-    def changes(self, number: int, it: Wanted) -> Iterator[dict]:
+    def changes(self, number: int, it: FileResource) -> Iterator[dict]:
         """Yields the requests that make a resource of the store as the file has it."""
         yield from self.own_changes(number, it, self.compared)
         if it.kind == "collection":
@@ -281,7 +285,7 @@ class SkosUpdate:
             yield from self.link_changes(number, it, ("related",))
             yield from self.new_matches(number, it)
 
-    def own_changes(self, number: int, it: Wanted, compared: Compared) -> Iterator[dict]:
+    def own_changes(self, number: int, it: FileResource, compared: ComparedParts) -> Iterator[dict]:
         """Yields the requests that change labels, notes and values."""
         known = {(one.kind, one.tag, one.text) for one in self.store.labels_of.get(number, ())}
         there = {one for one in known if one[0] in compared.kinds and one[1] in compared.tags}
@@ -321,7 +325,7 @@ class SkosUpdate:
                 old, text = (its[place] if place < len(its) else None for its in (gone, come))
                 yield {"do": "set", "owner": owner, "field": name, "tag": tag, "old": old, "new": text}
 
-    def link_changes(self, number: int, it: Wanted, kinds: Sequence[str]) -> Iterator[dict]:
+    def link_changes(self, number: int, it: FileResource, kinds: Sequence[str]) -> Iterator[dict]:
         """Yields the requests for links of some kinds, if the file has such: those that lack, then those that it hasn't
         between its own. A type that the store knows stays where the file has none."""
         if not self.links.intersection(kinds):
@@ -348,7 +352,7 @@ class SkosUpdate:
                 if kind != "related" or end < number:
                     yield {"do": "unlink", "kind": kind, "a": number, "b": end}
 
-    def new_matches(self, number: int, it: Wanted) -> Iterator[dict]:
+    def new_matches(self, number: int, it: FileResource) -> Iterator[dict]:
         """Yields the requests for matches that a concept lacks. Others may be the office's own, and stay."""
         for kind, name in sorted((kind, self.end_of(kind, one)) for kind, one in it.links):
             iri = name.removeprefix(OUTSIDE)
@@ -362,7 +366,7 @@ class SkosUpdate:
 
     # --- what ends ---
 
-    def end(self, it: Wanted, number: int) -> Iterator[dict]:
+    def end(self, it: FileResource, number: int) -> Iterator[dict]:
         """Yields the requests that merge a concept into what replaces it, or take it out of use."""
         target, seen = it, {it.name}
         while target.is_dead and target.replaced in self.wanted and target.replaced not in seen:
@@ -395,6 +399,6 @@ class SkosUpdate:
         for it in sorted(self.store.resources.values()):
             name = f"{self.store.base}{it.number}" if 2 * own > len(self.numbers) else min(iris[it.number], default="")
             if name and it.kind == "concept" and it.is_live and it.scheme == self.scheme and it.number not in found:
-                gone = Wanted(name, "concept", {("pref", "", self.store.term(it.number))})
+                gone = FileResource(name, "concept", {("pref", "", self.store.term(it.number))})
                 error = None if self.ends_gone else RowError("gone")
                 self.add(gone, [{"do": "deprecate", "concept": it.number}], error)

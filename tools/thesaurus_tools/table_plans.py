@@ -6,13 +6,13 @@ from collections.abc import Iterator
 from dataclasses import dataclass, replace
 
 from thesaurus_tools.command_line import USAGE, ToolError
+from thesaurus_tools.concept_finder import RowError
 from thesaurus_tools.drafts import Draft, Reference
 from thesaurus_tools.exact_rows import IsSeen
 from thesaurus_tools.exchanges import Rename, Term, groups_of, ordered_renames, relabel
-from thesaurus_tools.finding import RowError
 from thesaurus_tools.headings import OF_FIELD, Column, fold_heading
 from thesaurus_tools.row_changes import BY_DEED, RowReader
-from thesaurus_tools.row_running import RowPlan
+from thesaurus_tools.row_runner import RowPlan
 from thesaurus_tools.spreadsheets import Row
 from thesaurus_tools.store import Store
 

@@ -7,10 +7,10 @@ import subprocess
 import sys
 from pathlib import Path
 
-from thesaurus_tools.bounded import TooMuch, limited
 from thesaurus_tools.catalogue_records import ENDING, read_records
 from thesaurus_tools.command_line import REFUSED, ToolError
 from thesaurus_tools.files import TableError
+from thesaurus_tools.parser_bounds import BoundReached, limit_run
 from thesaurus_tools.spreadsheets import Row, read_table
 
 # The time of a processor and the memory that a table may take: these, and as much again for its size.
@@ -52,7 +52,7 @@ def read_apart(path: Path, encoding: str = "", sheet: str = "") -> list[Row]:
 def answer(path: Path, encoding: str, sheet: str) -> dict[str, object]:
     """Returns the rows of a table, or why it isn't read."""
     try:
-        with limited(*limits_of(path)):
+        with limit_run(*limits_of(path)):
             is_table = path.suffix != ENDING
             return {"rows": read_table(path, encoding, sheet) if is_table else read_records(path)}
     except TableError as error:
@@ -60,7 +60,7 @@ def answer(path: Path, encoding: str, sheet: str) -> dict[str, object]:
         return {"key": error.key, "line": error.line, "status": error.status, "values": values}
     except ToolError as error:
         return {"said": str(error), "status": error.status}
-    except (TooMuch, MemoryError):
+    except (BoundReached, MemoryError):
         return {"status": REFUSED}
     except Exception as error:  # (whatever the readers of other forms don't foresee)
         values = {"form": path.suffix.removeprefix(".").upper(), "error": f"{type(error).__name__}: {error}"}

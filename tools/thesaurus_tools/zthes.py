@@ -14,7 +14,7 @@ from xml.etree.ElementTree import Element, SubElement
 
 from thesaurus_tools.command_line import REFUSED, ToolError
 from thesaurus_tools.ntriples import DCTERMS, RDF, SKOS, Iri, Literal, Node, Triple
-from thesaurus_tools.rdf_writing import ISO_THES
+from thesaurus_tools.rdf_writer import ISO_THES
 from thesaurus_tools.store import Resource, Store
 from thesaurus_tools.xml_texts import NO_CHARACTERS
 

@@ -67,7 +67,7 @@ class Entry(ABC):
         return Person(account.name, role_named(account.role)) if account else VISITOR
 
 
-class Alone(Entry):
+class SingleUserEntry(Entry):
     """One person at this machine, who comes in by an address with a key.
 
     A key is good once: an address stays in a browser's history, and other users of the machine may see it in the list
@@ -96,7 +96,7 @@ class Alone(Entry):
         return Person(self.name, Role.HEAD) if session and session.user == self.name else VISITOR
 
 
-class ByPassword(Entry):
+class PasswordEntry(Entry):
     """Several people with names and passwords, perhaps behind a server that only passes requests on."""
 
     kind = "password"
@@ -113,7 +113,7 @@ class ByPassword(Entry):
         return Person(account.name, role_named(account.role))
 
 
-class ByProxy(Entry):
+class ProxyEntry(Entry):
     """Several people whose names a server in front sends; the users' file has their roles, or else the groups that it
     sends with a name."""
 

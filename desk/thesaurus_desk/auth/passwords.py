@@ -12,14 +12,14 @@ LENGTH, ROUNDS, BLOCK, LANES, MEMORY = 32, 1 << 15, 8, 3, 64 << 20
 GATE = threading.Semaphore(2)
 
 
-class GateFull(Exception):
+class TooManyHashes(Exception):
     """As many passwords are hashed now as may be at once."""
 
 
 def scrypt(password: str, salt: bytes, rounds: int, lanes: int) -> bytes:
-    """Returns the hash of a password. Raises GateFull, and never waits: a page's thread would wait with it."""
+    """Returns the hash of a password. Raises TooManyHashes, and never waits: a page's thread would wait with it."""
     if not GATE.acquire(blocking=False):
-        raise GateFull
+        raise TooManyHashes
     try:
         return hashlib.scrypt(
             password.encode("utf-8", "surrogatepass"),
@@ -35,7 +35,7 @@ def scrypt(password: str, salt: bytes, rounds: int, lanes: int) -> bytes:
 
 
 def hash_password(password: str) -> str:
-    """Returns what the users' file keeps of a password. Raises GateFull."""
+    """Returns what the users' file keeps of a password. Raises TooManyHashes."""
     salt = secrets.token_bytes(16)
     return f"scrypt${ROUNDS}${LANES}${salt.hex()}${scrypt(password, salt, ROUNDS, LANES).hex()}"
 
@@ -45,7 +45,7 @@ NOBODY = f"scrypt${ROUNDS}${LANES}${secrets.token_hex(16)}${secrets.token_hex(LE
 
 
 def is_right(password: str, hashed: str) -> bool:
-    """Whether a password is the one that was hashed. A hash that can't be read is nobody's. Raises GateFull."""
+    """Whether a password is the one that was hashed. A hash that can't be read is nobody's. Raises TooManyHashes."""
     try:
         rounds, lanes, salt, digest = fields_of(hashed or NOBODY)
         found = scrypt(password[:LONGEST], salt, rounds, lanes)

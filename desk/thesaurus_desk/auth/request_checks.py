@@ -13,6 +13,7 @@ from thesaurus_desk.auth.roles import VISITOR, Role
 from thesaurus_desk.auth.route_roles import READING, DeskRequest, lowest_role
 from thesaurus_desk.auth.sessions import RENEWAL, Session
 from thesaurus_desk.web.context import the_entry, the_rights, the_settings
+from thesaurus_desk.web.paths import path_to
 from thesaurus_desk.words import LANGUAGES, Words, best_language
 
 POLICY = (
@@ -120,7 +121,7 @@ def send_again(reason: str, status: int) -> Any:
         reason=reason,
         fields=[(name, it) for name, it in request.form.items(multi=True) if name not in left_out],
         path=request.full_path.rstrip("?"),
-        is_login=request.endpoint == "coming_in.log_in",
+        is_login=request.endpoint == "account.log_in",
         has_file=any(it.filename for it in request.files.values()),
     )
     return page, status
@@ -152,7 +153,7 @@ def let_in() -> Any:
     if request.headers.get("Sec-Fetch-Site") == "cross-site" and "again" not in request.args:
         there = f"{request.path}?{urlencode([*request.args.items(multi=True), ('again', '1')])}"
         return make_response(Markup(RELOAD).format(there))
-    return redirect(f"/login?{urlencode({'next': request.full_path.rstrip('?')})}", 303)
+    return redirect(f"{path_to('account.login')}?{urlencode({'next': request.full_path.rstrip('?')})}", 303)
 
 
 def refusal(key: str, status: int, **values: object) -> Any:

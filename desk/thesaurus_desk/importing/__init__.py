@@ -7,9 +7,9 @@
   row_trial       what the program says of the rows of a table before any is done
   row_checks      whether the values that rows set are refused
   replacements    search and replace in terms and notes, as rows
-  exported_values values of fields from an export of this thesaurus, as a table
+  export_rows     values of fields from an export of this thesaurus, as a table
   vocabularies    vocabularies: converted, tried on a copy of the store, and performed
   skos_reports    what a converter reported, and what a copy of the store refused
-  named_requests  requests with names in place of numbers, in plans
+  request_series  requests with names in place of numbers, in plans
   uploads         what users have sent and look at before it is performed
 """

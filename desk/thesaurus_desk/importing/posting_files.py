@@ -49,7 +49,7 @@ class Row:
 
 
 @dataclass(slots=True)
-class Brought:
+class PostingImport:
     """What came of an import.
 
     `state` is done; refused (the file as a whole); fault (the rows before it are performed); or unknown (the program
@@ -90,7 +90,7 @@ def post_of(cells: tuple[str, ...]) -> Request:
     return {"do": "post", "key": key, "record": record, "concept": int(concept) if NUMERAL.fullmatch(concept) else 0}
 
 
-def bring_in(desk: OpenStore, user: str, data: bytes, name: str) -> Brought:
+def bring_in(desk: OpenStore, user: str, data: bytes, name: str) -> PostingImport:
     """Imports a posting file, under the desk's lock."""
     cells = cells_of(data)
     request = {"do": "import", "name": name, "sha256": hashlib.sha256(data).hexdigest(), "rows": max(0, len(cells) - 1)}
@@ -101,10 +101,10 @@ def bring_in(desk: OpenStore, user: str, data: bytes, name: str) -> Brought:
     try:
         desk.check_store()
         desk.write_late()
-        brought = Brought("done", plan=desk.journal.begin(Draft(user, "import", steps)))
+        brought = PostingImport("done", plan=desk.journal.begin(Draft(user, "import", steps)))
     except sqlite3.Error as error:
         log.error("%s: the journal can't be written: %s", desk.journal.path, error)
-        return Brought("fault", answer={"fault": fault_of(error)})
+        return PostingImport("fault", answer={"fault": fault_of(error)})
     if is_file:
         send(desk, brought, rows)
     else:
@@ -118,7 +118,7 @@ def resume(desk: OpenStore, plan: Plan) -> None:
     """Sends an import again that was cut short."""
     (step,) = plan.steps
     kept = step.kept or {}
-    brought = Brought("done", plan=plan.id)
+    brought = PostingImport("done", plan=plan.id)
     if desk.replica.counts()["postings"] < kept["before"]:
         # (the store is an older one than that of the import)
         brought.state = "lost"
@@ -128,7 +128,7 @@ def resume(desk: OpenStore, plan: Plan) -> None:
     finish(desk, brought, plan.steps, kept["before"])
 
 
-def send(desk: OpenStore, brought: Brought, cells: Sequence[tuple[str, ...]]) -> None:
+def send(desk: OpenStore, brought: PostingImport, cells: Sequence[tuple[str, ...]]) -> None:
     """Sends the rows of a posting file, some at a time, and notes what they change."""
     failures = 0
     while len(brought.rows) < len(cells) and brought.state == "done":
@@ -144,7 +144,7 @@ def send(desk: OpenStore, brought: Brought, cells: Sequence[tuple[str, ...]]) ->
         open_again(desk, brought)
 
 
-def send_part(desk: OpenStore, brought: Brought, part: Sequence[tuple[str, ...]]) -> None:
+def send_part(desk: OpenStore, brought: PostingImport, part: Sequence[tuple[str, ...]]) -> None:
     """Sends some rows. Raises NoAnswer: they may be sent again."""
     requests = [post_of(it) for it in part if len(it) == len(HEADING)]
     try:
@@ -169,7 +169,7 @@ def row_of(row: int, cells: tuple[str, ...], answer: dict[str, Any]) -> Row:
     return Row(row, cells, outcome, answer.get("ok", answer.get("again")))
 
 
-def open_again(desk: OpenStore, brought: Brought) -> bool:
+def open_again(desk: OpenStore, brought: PostingImport) -> bool:
     """Opens the store again in the midst of an import, and returns whether it could be."""
     # (the replica is made to have what was performed)
     brought.changes.clear()
@@ -182,7 +182,7 @@ def open_again(desk: OpenStore, brought: Brought) -> bool:
     return True
 
 
-def finish(desk: OpenStore, brought: Brought, steps: list[Step], before: int) -> None:
+def finish(desk: OpenStore, brought: PostingImport, steps: list[Step], before: int) -> None:
     """Writes down what came of an import: the new postings have the numbers from `first` to `last`. One of which nobody
     knows is sent again as soon as the store can be opened."""
     if brought.state == "unknown":

@@ -12,7 +12,7 @@ from thesaurus_desk.journal.values import Values, member_of, set_request
 from thesaurus_desk.store.replica import Replica
 from thesaurus_desk.store.schema import KIND_NUMBER, LABEL_NUMBER
 from thesaurus_tools.kinds import LABEL_KINDS
-from thesaurus_tools.row_running import RowPlan
+from thesaurus_tools.row_runner import RowPlan
 from thesaurus_tools.spreadsheets import Row
 from thesaurus_tools.table_store import KIND_OF_LABEL
 

@@ -21,8 +21,8 @@ from thesaurus_desk.store.replica import Replica
 from thesaurus_desk.store.run_threads import Report
 from thesaurus_desk.store.trial import number_of_outside
 from thesaurus_tools.command_line import ToolError
-from thesaurus_tools.one_plan import resolved
-from thesaurus_tools.row_running import RowPlan
+from thesaurus_tools.one_plan import resolve_names
+from thesaurus_tools.row_runner import RowPlan
 
 if TYPE_CHECKING:
     from thesaurus_desk.store.plan_execution import Desk
@@ -31,7 +31,7 @@ if TYPE_CHECKING:
 Meanings = MutableMapping[Any, Any]
 
 
-class NotTried(Exception):
+class NoTrial(Exception):
     """The program can't say now what rows would do: the name of the fault."""
 
     def __init__(self, fault: str) -> None:
@@ -39,25 +39,25 @@ class NotTried(Exception):
         self.fault = fault
 
 
-class Unplaced(Exception):
+class UnclearAnswer(Exception):
     """It isn't known which of several rows is meant by an answer, or their line is too long: fewer are to be sent."""
 
 
 def try_rows(desk: Desk, rows: Sequence[RowPlan], report: Report | None = None) -> dict[int, Outcome | None]:
     """Returns which rows would be refused if all were done in their order, by their lines: with what comes of each; or
-    with None, if it needs what another row would have made. Raises NotTried."""
+    with None, if it needs what another row would have made. Raises NoTrial."""
     count = sum(it["do"] != "set" for row in rows for it in row.requests)
     checks = RowChecks(ValueRules(desk.replica, desk.values))
     try:
         if count <= LONGEST_PLAN:
-            with contextlib.suppress(Unplaced):
+            with contextlib.suppress(UnclearAnswer):
                 return RowTrial(desk.program, desk.replica, checks).refusals(rows, report)
         with program_on_copy(desk) as program:
             return CopyTrial(program, desk.replica, checks).refusals(rows, report)
     except (NoAnswer, ToolError) as error:
-        raise NotTried("Closed") from error
+        raise NoTrial("Closed") from error
     except StoreBusy:
-        raise NotTried("Busy") from None
+        raise NoTrial("Busy") from None
 
 
 @contextlib.contextmanager
@@ -88,14 +88,14 @@ class SentRow:
 
     def refusal(self, place: int, answer: Answer) -> Outcome:
         """Returns the refusal of its request at a place."""
-        steps, own = [], Unknown()
+        steps, own = [], NameOrSelf()
         for at, it in enumerate(self.row.requests, 1):
-            steps.append(Step(resolved(it, own)))
+            steps.append(Step(resolve_names(it, own)))
             own.update({it["as"]: f"${at}"} if "as" in it else {})
         return Outcome("refused", steps, at=place, answer=answer)
 
 
-class Unknown(dict[str, Any]):
+class NameOrSelf(dict[str, Any]):
     """What names stand for: those that aren't known, for themselves."""
 
     def __missing__(self, name: str) -> str:
@@ -117,7 +117,7 @@ class RowTrial:
         self.named: dict[Any, Any] = {}
 
     def refusals(self, rows: Sequence[RowPlan], report: Report | None = None) -> dict[int, Outcome | None]:
-        """Returns which rows are refused. Raises NoAnswer, and Unplaced."""
+        """Returns which rows are refused. Raises NoAnswer, and UnclearAnswer."""
         found: dict[int, Outcome | None] = {}
         at, most = 0, LONGEST_PLAN
         while at < len(rows):
@@ -160,13 +160,13 @@ class RowTrial:
             key = ("outside", request.get("iri"))
             known = number_of_outside(self.replica, request["iri"]) or its.get(key) if key[1] else None
             if not known:
-                sent.requests.append(resolved(request, its))
+                sent.requests.append(resolve_names(request, its))
                 sent.places.append(place)
             its[request.get("as")] = its[key] = known or f"${count + len(sent.requests)}"
         return sent
 
     def try_group(self, group: Sequence[SentRow]) -> tuple[int, Outcome | None]:
-        """Returns how many of some rows are done, and the refusal of the next one. Raises NoAnswer and Unplaced."""
+        """Returns how many of some rows are done, and the refusal of the next. Raises NoAnswer and UnclearAnswer."""
         requests, refusal = requests_of(group), None
         answer = self.asked({"try": [*self.before, *requests]}) if requests else {"done": []}
         if "done" not in answer:
@@ -183,19 +183,19 @@ class RowTrial:
         return len(group), refusal
 
     def asked(self, plan: Request) -> Answer:
-        """Returns what the program says of a plan. Raises NoAnswer and Unplaced."""
+        """Returns what the program says of a plan. Raises NoAnswer and UnclearAnswer."""
         try:
             answer = self.program.ask(plan)
         except TooLong:
-            raise Unplaced from None
+            raise UnclearAnswer from None
         if "fault" in answer:
             raise NoAnswer(answer["fault"])
         return answer
 
     def parted(self, group: Sequence[SentRow], answer: Answer) -> tuple[Sequence[SentRow], Outcome]:
-        """Returns the rows before the one that is refused, and its refusal. Raises NoAnswer and Unplaced."""
+        """Returns the rows before the one that is refused, and its refusal. Raises NoAnswer and UnclearAnswer."""
         if "at" not in answer and len(group) > 1:
-            raise Unplaced
+            raise UnclearAnswer
         at = answer.pop("at", len(self.before) + 1) - len(self.before)
         if at < 1:
             raise NoAnswer("the store has changed meanwhile")
@@ -218,7 +218,7 @@ class CopyTrial(RowTrial):
     def try_group(self, group: Sequence[SentRow]) -> tuple[int, Outcome | None]:
         try:
             return super().try_group(group)
-        except Unplaced:
+        except UnclearAnswer:
             if len(group) > 1:
                 return self.try_group(group[: len(group) // 2])
             return 0, group[0].refusal(1, {"bad": "TooLong"})

@@ -7,7 +7,7 @@ import re
 from collections.abc import Iterable
 from dataclasses import dataclass, field
 
-from thesaurus_tools.converting import count_kinds, first_findings
+from thesaurus_tools.conversion import count_kinds, first_findings
 from thesaurus_tools.vocabulary import Finding
 
 # A line of a report with its rule.

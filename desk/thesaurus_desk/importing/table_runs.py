@@ -5,12 +5,12 @@ import time
 from collections.abc import Sequence
 from typing import TYPE_CHECKING
 
-from thesaurus_desk.importing.named_requests import NamedRun
-from thesaurus_desk.importing.tables import Bringer, TableRun, can_be_done, left_of, plan_rows, refused_rows
+from thesaurus_desk.importing.request_series import RequestSeries
+from thesaurus_desk.importing.tables import Importer, TableRun, can_be_done, left_of, plan_rows, refused_rows
 from thesaurus_desk.journal import Batch
-from thesaurus_desk.journal.batches import packed
+from thesaurus_desk.journal.batches import pack
 from thesaurus_desk.journal.edit_conflicts import is_change, parts_of
-from thesaurus_tools.row_running import RowPlan, with_others
+from thesaurus_tools.row_runner import RowPlan, with_others
 
 if TYPE_CHECKING:
     from thesaurus_desk.journal import Plan
@@ -25,7 +25,7 @@ def unreported(done: int, plan: int | None = None, size: int | None = None) -> N
     """Takes no note of how far a table is."""
 
 
-def run_table(desk: Desk, run: TableRun, bringer: Bringer, report: Report = unreported) -> None:
+def run_table(desk: Desk, run: TableRun, bringer: Importer, report: Report = unreported) -> None:
     """Performs the rows of a table, each as one plan, and notes why rows were refused; the others are done."""
     performed = TablePerformance(desk, run, bringer)
     batch = run.batch = performed.batch
@@ -47,7 +47,7 @@ class TablePerformance:
     A row that would do something else than was shown, or what it changes was changed by another plan since, isn't
     done."""
 
-    def __init__(self, desk: Desk, run: TableRun, bringer: Bringer) -> None:
+    def __init__(self, desk: Desk, run: TableRun, bringer: Importer) -> None:
         self.desk, self.run, self.bringer = desk, run, bringer
         self.shown = {it.line: it.requests for it in run.plans}
         self.refused = {it.line: it.reason for it in run.plans if it.reason}
@@ -57,8 +57,8 @@ class TablePerformance:
         self.last = desk.journal.last_plan()
         plan_rows(run, desk.replica, desk.values, bringer)
         self.changed = touched | {it.line for it in run.plans if it.requests != self.shown.get(it.line)}
-        self.batch = run.batch or Batch(run.name, run.digest, len(run.rows), packed(left_of(run)))
-        self.names = NamedRun(desk, bringer.name, "table", batch=self.batch)
+        self.batch = run.batch or Batch(run.name, run.digest, len(run.rows), pack(left_of(run)))
+        self.names = RequestSeries(desk, bringer.name, "table", batch=self.batch)
 
     def rows(self, report: Report) -> list[RowPlan]:
         """Performs the rows, and returns them with the reasons why they weren't done."""

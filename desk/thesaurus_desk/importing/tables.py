@@ -14,8 +14,8 @@ from typing import Any
 from markupsafe import Markup
 
 from thesaurus_desk.auth.roles import Role
-from thesaurus_desk.importing.named_requests import LONGEST_PLAN
 from thesaurus_desk.importing.replacements import REPLACE, replacing
+from thesaurus_desk.importing.request_series import LONGEST_PLAN
 from thesaurus_desk.importing.row_trial import try_rows
 from thesaurus_desk.importing.skos_reports import Findings
 from thesaurus_desk.journal import Batch
@@ -27,11 +27,11 @@ from thesaurus_desk.store.plan_execution import Desk, Outcome
 from thesaurus_desk.store.replica import Replica
 from thesaurus_desk.store.run_threads import Report
 from thesaurus_desk.words import Words
+from thesaurus_tools.concept_finder import RowError
 from thesaurus_tools.fields import Field, table_fields
 from thesaurus_tools.files import TableError
-from thesaurus_tools.finding import RowError
 from thesaurus_tools.headings import Column, Fields, find_columns, read_choices
-from thesaurus_tools.row_running import RowPlan, with_others
+from thesaurus_tools.row_runner import RowPlan, with_others
 from thesaurus_tools.skos_update import SkosUpdate, Value, wanted_of
 from thesaurus_tools.spreadsheets import Row
 from thesaurus_tools.store import Store
@@ -40,7 +40,7 @@ from thesaurus_tools.table_process import read_apart
 
 
 @dataclass(frozen=True)
-class Bringer:
+class Importer:
     """Who brings a table in: with which role, who may do what, and how refusals are put into words."""
 
     name: str
@@ -140,26 +140,26 @@ def table_error_in_words(error: TableError, name: str, words: Words) -> str:
     return words(f"tables.{error.key}", where=where, **error.values)
 
 
-def with_values(mirror: Replica, values: Values) -> Store:
+def with_values(replica: Replica, values: Values) -> Store:
     """Returns the store as it is at this moment, with the values of fields."""
-    store = mirror.as_store()
+    store = replica.as_store()
     store.fields, store.values_of = table_fields(values.fields()), values.by_owner()
     return store
 
 
-def plan_rows(run: TableRun, mirror: Replica, values: Values, bringer: Bringer) -> None:
+def plan_rows(run: TableRun, replica: Replica, values: Values, bringer: Importer) -> None:
     """Notes what the rows ask for, by the store as it is now, and why some can't be done. Raises NewConceptsError."""
     if run.vocabulary:
-        found = plan_update(run, mirror.as_store(), values)
+        found = plan_update(run, replica.as_store(), values)
     elif run.exported:
-        found = plan_exported(run, mirror, values)
+        found = plan_exported(run, replica, values)
     elif run.options.kind == REPLACE:
-        found = replacing(run.rows, not run.options.forget, mirror, values)
+        found = replacing(run.rows, not run.options.forget, replica, values)
     else:
         has_values = any(it.field for it in run.columns)
-        store = with_values(mirror, values) if has_values else mirror.as_store()
-        with mirror.reading():
-            _, found = plan_table(store, run.columns, run.rows, run.options, partial(is_as_seen, mirror, values))
+        store = with_values(replica, values) if has_values else replica.as_store()
+        with replica.reading():
+            _, found = plan_table(store, run.columns, run.rows, run.options, partial(is_as_seen, replica, values))
     plans = [it._replace(requests=bringer.rights.completed(it.requests, bringer.role)) for it in found]
     run.plans = with_reasons(plans, lambda it: reason_of(it, bringer))
 
@@ -176,14 +176,14 @@ def plan_update(run: TableRun, store: Store, values: Values) -> list[RowPlan]:
     return plans
 
 
-def plan_exported(run: TableRun, mirror: Replica, values: Values) -> list[RowPlan]:
+def plan_exported(run: TableRun, replica: Replica, values: Values) -> list[RowPlan]:
     """Returns the rows that set the values of an export that are lacking: a row for each resource."""
     fields, plans = values.fields(), []
     # (they are in the order of the resources)
     for line, (number, its) in enumerate(groupby(run.exported, lambda it: int(it["owner"])), 1):
         held = values.of(number)
         requests = [found for it in its if (found := lacking(it, held.get(it["field"], []), fields[it["field"]]))]
-        plans.append(RowPlan(line, [str(number), mirror.term(number)[1]], requests))
+        plans.append(RowPlan(line, [str(number), replica.term(number)[1]], requests))
     run.rows = [Row(it.line, it.cells) for it in plans]
     return plans
 
@@ -198,9 +198,9 @@ def lacking(wanted: Request, held: Sequence[HeldValue], field: Field) -> Request
     return wanted if field.is_many or not held else None
 
 
-def preview_rows(desk: Desk, run: TableRun, bringer: Bringer, report: Report | None = None) -> None:
+def preview_rows(desk: Desk, run: TableRun, bringer: Importer, report: Report | None = None) -> None:
     """Notes what the rows ask for, and which would be refused, as it is shown before it is performed. Raises
-    NewConceptsError and NotTried."""
+    NewConceptsError and NoTrial."""
     run.last = desk.journal.last_plan()
     plan_rows(run, desk.replica, desk.values, bringer)
     refused = try_rows(desk, [rows[-1] for rows in with_others(run.plans) if can_be_done(rows[-1])], report)
@@ -226,7 +226,7 @@ def with_reasons(plans: list[RowPlan], reason_of_row: Callable[[RowPlan], str]) 
     return sorted(found, key=lambda it: it.line)
 
 
-def reason_of(row: RowPlan, bringer: Bringer) -> str:
+def reason_of(row: RowPlan, bringer: Importer) -> str:
     """Returns why a row can't be done, or nothing: the program isn't asked."""
     if row.error:
         return reason_in_words(row.error, bringer.words)

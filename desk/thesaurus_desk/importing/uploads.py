@@ -16,7 +16,7 @@ from typing import Any, TypeVar
 
 from markupsafe import Markup
 
-from thesaurus_desk.journal.schema import Database, now, written
+from thesaurus_desk.journal.schema import Database, now, time_text
 
 T = TypeVar("T")
 log = logging.getLogger("desk")
@@ -64,14 +64,14 @@ KNOWN: dict[tuple[str, str], Any] = {(it.__module__, it.__name__): it for it in 
 KNOWN[__name__, "new_error"] = new_error
 
 
-def packed(what: object) -> bytes:
+def pack(what: object) -> bytes:
     """Returns a thing as it is kept."""
     out = io.BytesIO()
     Writer(out, protocol=5).dump(what)
     return zlib.compress(out.getbuffer(), 1)
 
 
-def unpacked(data: bytes) -> object:
+def unpack(data: bytes) -> object:
     """Returns a thing that was kept; None if a desk of another version has kept it."""
     try:
         return Reader(io.BytesIO(zlib.decompress(data))).load()
@@ -80,7 +80,7 @@ def unpacked(data: bytes) -> object:
         return None
 
 
-class Shelf:
+class Uploads:
     """Keeps things under names that nobody guesses, each for the user who sent it."""
 
     def __init__(self, journal: Database) -> None:
@@ -88,18 +88,18 @@ class Shelf:
 
     def keep(self, user: str, what: object, rows: int = 1) -> str:
         """Keeps something, and returns its name."""
-        name, data = secrets.token_urlsafe(12), packed(what)
+        name, data = secrets.token_urlsafe(12), pack(what)
         with self.journal.transaction() as table:
-            table.execute("DELETE FROM upload WHERE at < ?", (written(datetime.now(UTC) - AGE),))
+            table.execute("DELETE FROM upload WHERE at < ?", (time_text(datetime.now(UTC) - AGE),))
             table.execute("INSERT INTO upload VALUES (?, ?, ?, ?, ?)", (name, user, now(), rows, data))
-            bound(table, "user = ?", (user,), MOST_OF_USER, MOST_ROWS_OF_USER)
-            bound(table, "true", (), MOST_KEPT, MOST_ROWS)
+            drop_oldest(table, "user = ?", (user,), MOST_OF_USER, MOST_ROWS_OF_USER)
+            drop_oldest(table, "true", (), MOST_KEPT, MOST_ROWS)
         return name
 
     def find(self, user: str, name: str, kind: type[T]) -> T | None:
         """Returns what a user has under a name, if it is of a kind."""
         it = self.journal.one("SELECT data FROM upload WHERE name = ? AND user = ?", name, user)
-        what = unpacked(it["data"]) if it else None
+        what = unpack(it["data"]) if it else None
         return what if isinstance(what, kind) else None
 
     def take(self, user: str, name: str, kind: type[T]) -> T | None:
@@ -112,7 +112,7 @@ class Shelf:
         return what if gone else None
 
 
-def bound(table: sqlite3.Connection, which: str, values: tuple[object, ...], most: int, most_rows: int) -> None:
+def drop_oldest(table: sqlite3.Connection, which: str, values: tuple[object, ...], most: int, most_rows: int) -> None:
     """Drops the oldest things of some, until they are few enough, with few enough rows; the last one stays."""
     found = table.execute(f"SELECT name, rows FROM upload WHERE {which} ORDER BY rowid", values).fetchall()
     while len(found) > 1 and (len(found) > most or sum(it["rows"] for it in found) > most_rows):

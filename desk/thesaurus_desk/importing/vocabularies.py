@@ -11,11 +11,11 @@ from dataclasses import dataclass, field
 from pathlib import Path
 from typing import Any
 
-from thesaurus_desk.importing.named_requests import NamedRun
-from thesaurus_desk.importing.tables import TableRun
+from thesaurus_desk.importing.request_series import RequestSeries
 from thesaurus_desk.importing.skos_reports import Findings, by_rules, refused_by_rules
+from thesaurus_desk.importing.tables import TableRun
 from thesaurus_desk.journal import Batch
-from thesaurus_desk.journal.batches import packed
+from thesaurus_desk.journal.batches import pack
 from thesaurus_desk.store.plan_execution import Desk, Outcome
 from thesaurus_tools.rdf_files import FORMATS, PACKED, form_of
 from thesaurus_tools.requests import encode
@@ -138,8 +138,8 @@ def try_on_copy(desk: Desk, folder: Path, script: Path) -> list[str]:
 
 def perform_script(desk: Desk, user: str, run: SkosRun) -> Outcome:
     """Brings a vocabulary in, in plans one after another; the first that isn't done is the last."""
-    run.batch = run.batch or Batch(run.name, run.digest, len(run.requests), packed(run.requests))
-    names = NamedRun(desk, user, "skos", batch=run.batch)
+    run.batch = run.batch or Batch(run.name, run.digest, len(run.requests), pack(run.requests))
+    names = RequestSeries(desk, user, "skos", batch=run.batch)
     done = number_done(desk, names, run.requests)
     try:
         outcome = names.perform_all(run.requests[done:])
@@ -152,7 +152,7 @@ def perform_script(desk: Desk, user: str, run: SkosRun) -> Outcome:
     return outcome
 
 
-def number_done(desk: Desk, names: NamedRun, requests: Sequence[dict[str, Any]]) -> int:
+def number_done(desk: Desk, names: RequestSeries, requests: Sequence[dict[str, Any]]) -> int:
     """Returns how many requests of a vocabulary were performed before it was cut short, and notes the numbers of what
     they made."""
     steps = desk.batches.done(names.batch) if names.batch else []

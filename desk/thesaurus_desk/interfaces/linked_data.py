@@ -11,7 +11,7 @@ from flask import Blueprint, Response, abort, redirect, request
 from thesaurus_desk.auth.route_roles import interface
 from thesaurus_desk.interfaces.source import Source
 from thesaurus_desk.interfaces.whole_thesaurus import WholeAnswers
-from thesaurus_tools.rdf_writing import WRITERS, Names, prefix_lines, turtle_parts, write_ntriples
+from thesaurus_tools.rdf_writer import WRITERS, Names, prefix_lines, turtle_parts, write_ntriples
 from thesaurus_tools.texts import fold
 from werkzeug.datastructures import MIMEAccept
 from werkzeug.wrappers import Response as AnyResponse
@@ -45,20 +45,20 @@ def without_parameters(media: str) -> str:
     return media.partition(";")[0].strip().lower()
 
 
-def written(source: Source, number: int, form: str) -> Response:
+def write_resource(source: Source, number: int, form: str) -> Response:
     """Returns the triples of a resource in a form, or 304 if the client has them."""
-    mirror = source.mirror()
-    text = "".join(WRITERS[form](source.triples(number), mirror.base))
+    replica = source.replica()
+    text = "".join(WRITERS[form](source.triples(number), replica.base))
     response = Response(text, content_type=f"{MEDIA[form]}; charset=utf-8")
     response.set_etag(hashlib.blake2b(text.encode(), digest_size=12).hexdigest())
     response.headers["Link"] = ", ".join(links(source, number, form))
-    if modified := moment_of(source.dates(number)[1] or ""):
+    if modified := instant_of(source.dates(number)[1] or ""):
         response.last_modified = modified
     response.make_conditional(request)
     return response
 
 
-def moment_of(date: str) -> datetime | None:
+def instant_of(date: str) -> datetime | None:
     """Returns a date as a moment; None, if it has no day."""
     try:
         return datetime.fromisoformat(date)
@@ -68,44 +68,44 @@ def moment_of(date: str) -> datetime | None:
 
 def links(source: Source, number: int, form: str = "") -> list[str]:
     """Returns the values of the header Link: the resource itself, its other forms, and what replaces it."""
-    mirror = source.mirror()
-    found = [f'<{mirror.iri(number)}>; rel="describes"']
+    replica = source.replica()
+    found = [f'<{replica.iri(number)}>; rel="describes"']
     found += [
         f'<?format={short}>; rel="alternate"; type="{MEDIA[other]}"'
         for short, other in SHORT.items()
         if other not in (form, "html") and short != "turtle"
     ]
-    final = mirror.final(number)
+    final = replica.final(number)
     if final and final != number:
-        found.append(f'<{mirror.iri(final)}>; rel="successor-version"')
+        found.append(f'<{replica.iri(final)}>; rel="successor-version"')
     return found
 
 
-def exported(source: Source, scheme: int | None) -> list[int]:
+def numbers_of_export(source: Source, scheme: int | None) -> list[int]:
     """Returns the numbers of all resources, or those of a scheme, in their order."""
-    mirror = source.mirror()
-    numbers = [it for kind in ("scheme", "concept", "collection") for it in mirror.numbers(kind, scheme)]
+    replica = source.replica()
+    numbers = [it for kind in ("scheme", "concept", "collection") for it in replica.numbers(kind, scheme)]
     return sorted(numbers if scheme is None else [scheme, *numbers])
 
 
 def export_ntriples(source: Source, scheme: int | None) -> Iterator[str]:
     """Yields the triples of all resources, or of those of a scheme, as N-Triples."""
-    for number in exported(source, scheme):
-        yield from write_ntriples(source.triples(number), source.mirror().base)
+    for number in numbers_of_export(source, scheme):
+        yield from write_ntriples(source.triples(number), source.replica().base)
 
 
 def export_turtle(source: Source, scheme: int | None) -> Iterator[str]:
     """Yields the same in Turtle. Its prefixes come first, whether or not they are used."""
-    names = Names(source.mirror().base)
+    names = Names(source.replica().base)
     yield from prefix_lines(names, names.prefixes)
-    for number in exported(source, scheme):
+    for number in numbers_of_export(source, scheme):
         yield from turtle_parts(source.triples(number), names)
 
 
 def export_in(form: str, source: Source, scheme: int | None) -> Iterator[str]:
     """Yields the same in a form that is written as a whole."""
-    triples = (it for number in exported(source, scheme) for it in source.triples(number))
-    yield from WRITERS[form](triples, source.mirror().base)
+    triples = (it for number in numbers_of_export(source, scheme) for it in source.triples(number))
+    yield from WRITERS[form](triples, source.replica().base)
 
 
 EXPORTS = {"ntriples": export_ntriples, "turtle": export_turtle}
@@ -121,8 +121,8 @@ def whole_vocabulary(whole: WholeAnswers, scheme: int | None, form: str) -> Resp
 
 def file_name(source: Source, part: int | None, lang: str = "") -> str:
     """Returns the name of a file that a reader saves, without its ending: of plain letters, digits and hyphens."""
-    mirror = source.mirror()
-    title = mirror.term(part, [lang, *mirror.languages()])[1] if part else source.name()
+    replica = source.replica()
+    title = replica.term(part, [lang, *replica.languages()])[1] if part else source.name()
     return "-".join(re.findall("[a-z0-9]+", fold(title)))[:60] or "thesaurus"
 
 
@@ -135,7 +135,7 @@ def add_linked_data(blueprint: Blueprint, source: Source, whole: WholeAnswers) -
         """Returns all triples, or those of the scheme that is asked for, with the dates that are known."""
         asked = request.args.get("scheme", "")
         scheme = source.number_of(asked) if asked else None
-        if asked and (scheme is None or source.mirror().kind(scheme) != "scheme"):
+        if asked and (scheme is None or source.replica().kind(scheme) != "scheme"):
             abort(404, "no such thesaurus")
         name = f"{file_name(source, scheme)}.{ending}"
         response = whole_vocabulary(whole, scheme, ENDINGS[ending])
@@ -154,18 +154,18 @@ def add_linked_data(blueprint: Blueprint, source: Source, whole: WholeAnswers) -
     def resource(number: int) -> AnyResponse:
         """Sends a reader to the page of a resource, a program its triples: those of a dead concept say what replaces
         it."""
-        mirror = source.mirror()
+        replica = source.replica()
         form = wanted_form(source.page is not None)
         # (the page of a number that nothing has says so to a reader)
-        if mirror.kind(number) in (None, "outside") and (form != "html" or source.page is None):
+        if replica.kind(number) in (None, "outside") and (form != "html" or source.page is None):
             abort(404)
         if form is None:
             forms = sorted({it for it in FORMS if source.page or FORMS[it] != "html"})
             return Response(f"There are {', '.join(forms)}.\n", 406, content_type="text/plain; charset=utf-8")
         if form != "html" or source.page is None:
-            return written(source, number, form)
+            return write_resource(source, number, form)
         # (the page of a dead concept says what to use)
         response = redirect(source.page(number), 303)
-        if mirror.kind(number) not in (None, "outside"):
+        if replica.kind(number) not in (None, "outside"):
             response.headers["Link"] = ", ".join(links(source, number))
         return response

@@ -99,23 +99,23 @@ class Repository:
     """The concepts of a thesaurus as items; its schemes are their sets."""
 
     def __init__(self, source: Source) -> None:
-        self.source, self.mirror = source, source.mirror()
+        self.source, self.replica = source, source.replica()
 
     # --- what there is ---
 
     def number(self, identifier: str) -> int:
         """Returns the number of a concept. Raises OaiError if it has none."""
-        found = self.mirror.by_iri(identifier)
-        if found is None or self.mirror.kind(found) != "concept":
+        found = self.replica.by_iri(identifier)
+        if found is None or self.replica.kind(found) != "concept":
             raise OaiError("idDoesNotExist", "no concept has this identifier")
         return found
 
     def numbers(self, its: Selection) -> list[int]:
         """Returns the numbers of the concepts of a list, whole, in their order. Raises OaiError if there are none."""
         scheme = int(its.scheme) if its.scheme.isdigit() and len(its.scheme) < 11 else None
-        if its.scheme and (scheme is None or self.mirror.kind(scheme) != "scheme"):
+        if its.scheme and (scheme is None or self.replica.kind(scheme) != "scheme"):
             raise OaiError("noRecordsMatch", "there is no such set")
-        found = sorted(self.mirror.numbers("concept", scheme))
+        found = sorted(self.replica.numbers("concept", scheme))
         if its.first or its.last:
             size = len(its.first or its.last)
             times = dict(self.source.changes.since(its.first.rstrip("Z") if its.first > EARLIEST[:size] else ""))
@@ -155,13 +155,13 @@ class Repository:
         if "resumptionToken" in given:
             raise OaiError("badResumptionToken", "the sets are in one answer")
         answer = Element("ListSets")
-        schemes = self.mirror.numbers("scheme")
+        schemes = self.replica.numbers("scheme")
         if not schemes:
             raise OaiError("noSetHierarchy", "there is no scheme yet")
         for number in schemes:
             its = SubElement(answer, "set")
             SubElement(its, "setSpec").text = str(number)
-            SubElement(its, "setName").text = plain(self.mirror.term(number, self.mirror.languages())[1])
+            SubElement(its, "setName").text = plain(self.replica.term(number, self.replica.languages())[1])
         return answer
 
     def list_identifiers(self, given: dict[str, str]) -> Element:
@@ -208,11 +208,11 @@ class Repository:
 
     def header(self, number: int) -> Element:
         """Returns the header of a record: that of a deprecated concept is of a deleted one."""
-        header = Element("header", {} if self.mirror.is_live(number) else {"status": "deleted"})
-        SubElement(header, "identifier").text = self.mirror.iri(number)
+        header = Element("header", {} if self.replica.is_live(number) else {"status": "deleted"})
+        SubElement(header, "identifier").text = self.replica.iri(number)
         created, modified = self.source.dates(number)
         SubElement(header, "datestamp").text = stamp(modified or created)
-        view = self.mirror.view(number)
+        view = self.replica.view(number)
         if view and view.scheme is not None:
             SubElement(header, "setSpec").text = str(view.scheme)
         return header
@@ -221,7 +221,7 @@ class Repository:
         """Returns a record: its header, and what it says unless it is deleted."""
         record = Element("record")
         record.append(self.header(number))
-        if self.mirror.is_live(number):
+        if self.replica.is_live(number):
             SubElement(record, "metadata").append(metadata(self.source, number, prefix))
         return record
 

@@ -6,7 +6,7 @@ from xml.etree.ElementTree import Element, SubElement, fromstring, register_name
 
 from thesaurus_desk.interfaces.source import Source
 from thesaurus_tools.ntriples import RDF
-from thesaurus_tools.rdf_writing import PREFIXES, write_rdfxml
+from thesaurus_tools.rdf_writer import PREFIXES, write_rdfxml
 from thesaurus_tools.xml_texts import NO_CHARACTERS
 
 SCHEMA_INSTANCE = "http://www.w3.org/2001/XMLSchema-instance"
@@ -42,15 +42,15 @@ def metadata(source: Source, number: int, prefix: str) -> Element:
 
 def rdf_of(source: Source, number: int) -> Element:
     """Returns the triples of a concept as RDF/XML."""
-    return fromstring("".join(write_rdfxml(source.triples(number), source.mirror().base)))
+    return fromstring("".join(write_rdfxml(source.triples(number), source.replica().base)))
 
 
 def dublin_core(source: Source, number: int) -> Element:
     """Returns a concept in the elements of Dublin Core: its terms, notes and notations, and what it is linked to."""
     root = Element(f"{{{OAI_DC}}}dc")
     root.set(f"{{{SCHEMA_INSTANCE}}}schemaLocation", f"{OAI_DC} {FORMATS['oai_dc'].schema}")
-    mirror = source.mirror()
-    view = mirror.view(number)
+    replica = source.replica()
+    view = replica.view(number)
     assert view is not None
 
     def add(name: str, text: str, tag: str = "") -> None:
@@ -72,5 +72,5 @@ def dublin_core(source: Source, number: int) -> Element:
     add("type", "Concept")
     for other in (view.scheme, *view.broader, *view.narrower, *view.related, *(it for _, it in view.mappings)):
         if other is not None:
-            add("relation", mirror.iri(other))
+            add("relation", replica.iri(other))
     return root

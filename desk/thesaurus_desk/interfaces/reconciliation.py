@@ -24,8 +24,8 @@ SUGGESTED = ("entity", "property", "type")
 
 def manifest(reconciler: Reconciler, root: str) -> Json:
     """Returns what the service is, and where its parts are."""
-    mirror = reconciler.mirror
-    types = [{"id": str(it), "name": reconciler.term(it)} for it in mirror.numbers("scheme")]
+    replica = reconciler.replica
+    types = [{"id": str(it), "name": reconciler.term(it)} for it in replica.numbers("scheme")]
     suggest = {
         it: {
             "service_url": root, "service_path": f"/reconcile/suggest/{it}",
@@ -35,8 +35,8 @@ def manifest(reconciler: Reconciler, root: str) -> Json:
     }  # fmt: skip
     propose = {"service_url": root, "service_path": "/reconcile/properties"}
     return {
-        "versions": ["0.1", "0.2"], "name": reconciler.source.name(), "identifierSpace": mirror.base,
-        "schemaSpace": SKOS + "Concept", "defaultTypes": types, "view": {"url": mirror.base + "{{id}}"},
+        "versions": ["0.1", "0.2"], "name": reconciler.source.name(), "identifierSpace": replica.base,
+        "schemaSpace": SKOS + "Concept", "defaultTypes": types, "view": {"url": replica.base + "{{id}}"},
         "batchSize": MOST_QUERIES,
         "preview": {"url": root + "/reconcile/preview?id={{id}}", "width": 430, "height": 220}, "suggest": suggest,
         "extend": {"propose_properties": propose, "property_settings": settings_of(reconciler)},
@@ -45,7 +45,7 @@ def manifest(reconciler: Reconciler, root: str) -> Json:
 
 def entities(reconciler: Reconciler, prefix: str) -> list[Json]:
     """Returns the concepts that a beginning suggests."""
-    hits = reconciler.mirror.search(prefix[:LONGEST], live=True, most=MOST_SUGGESTED)
+    hits = reconciler.replica.search(prefix[:LONGEST], live=True, most=MOST_SUGGESTED)
     names = [(it, reconciler.term(it.number, it.tag)) for it in hits]
     return [
         {
@@ -65,7 +65,7 @@ def properties(reconciler: Reconciler, prefix: str) -> list[Json]:
 
 def types(reconciler: Reconciler, prefix: str) -> list[Json]:
     """Returns the schemes whose term begins with a text."""
-    named = [(str(it), reconciler.term(it)) for it in reconciler.mirror.numbers("scheme")]
+    named = [(str(it), reconciler.term(it)) for it in reconciler.replica.numbers("scheme")]
     return beginning_with(named, prefix)[:MOST_SUGGESTED]
 
 
@@ -90,12 +90,12 @@ def flyout(reconciler: Reconciler, what: str, name: str) -> Markup:
         return Markup("<p>{}</p>").format(properties_of(reconciler).get(name) or abort(404, "no such property"))
     number = reconciler.source.number_of(name)
     wanted = "concept" if what == "entity" else "scheme"
-    if number is None or reconciler.mirror.kind(number) != wanted:
+    if number is None or reconciler.replica.kind(number) != wanted:
         abort(404, f"no such {what}")
     return body_of(reconciler, number)
 
 
-def needed(name: str) -> str:
+def required_parameter(name: str) -> str:
     """Returns a parameter. Ends with 400 if it is missing."""
     return request.args[name] if name in request.args else abort(400, f"the parameter {name} is missing")
 
@@ -122,7 +122,7 @@ def add_reconciliation(blueprint: Blueprint, source: Source) -> None:
     @interface
     def show_preview() -> AnyResponse:
         """Returns a small page about a concept, for a frame."""
-        number = source.number_of(needed("id"))
+        number = source.number_of(required_parameter("id"))
         if number is None:
             abort(404, "no such concept")
         response = Response(preview(Reconciler(source), number), content_type="text/html; charset=utf-8")
@@ -134,13 +134,13 @@ def add_reconciliation(blueprint: Blueprint, source: Source) -> None:
     @interface
     def suggest(what: str) -> Json:
         """Returns what a beginning suggests, while one types."""
-        return {"result": SUGGESTIONS[what](Reconciler(source), needed("prefix"))}
+        return {"result": SUGGESTIONS[what](Reconciler(source), required_parameter("prefix"))}
 
     @blueprint.get(f"/reconcile/flyout/<any({','.join(SUGGESTED)}):what>")
     @interface
     def show_flyout(what: str) -> Json:
         """Returns the box beside a suggestion."""
-        name: Any = needed("id")
+        name: Any = required_parameter("id")
         return {"id": name, "html": flyout(Reconciler(source), what, name)}
 
     @blueprint.get("/reconcile/properties")

@@ -70,17 +70,17 @@ class Reconciler:
     """Answers the queries of one request."""
 
     source: Source
-    mirror: Replica = field(init=False)
+    replica: Replica = field(init=False)
     terms: dict[tuple[int, str], str] = field(default_factory=dict)
 
     def __post_init__(self) -> None:
-        self.mirror = self.source.mirror()
-        self.langs = self.mirror.languages() or ["en"]
+        self.replica = self.source.replica()
+        self.langs = self.replica.languages() or ["en"]
 
     def term(self, number: int, lang: str = "") -> str:
         """Returns the term of a concept in a language, if it has one."""
         if (number, lang) not in self.terms:
-            self.terms[number, lang] = self.mirror.term(number, [it for it in (lang, *self.langs) if it])[1]
+            self.terms[number, lang] = self.replica.term(number, [it for it in (lang, *self.langs) if it])[1]
         return self.terms[number, lang]
 
     # --- reading queries ---
@@ -113,7 +113,7 @@ class Reconciler:
         if len(names) > MOST_TYPES:
             raise BadQuery(f"a query has at most {MOST_TYPES} types")
         found = dict.fromkeys(self.source.number_of(it) for it in others)
-        schemes = tuple(it for it in found if it is not None and self.mirror.kind(it) == "scheme")
+        schemes = tuple(it for it in found if it is not None and self.replica.kind(it) == "scheme")
         # (a concept has one scheme)
         return () if needs_all and (len(found) > 1 or not schemes) else schemes
 
@@ -160,26 +160,26 @@ class Reconciler:
         """Returns what a search finds."""
         found: list[Hit] = []
         for scheme in [None] if query.schemes is None else query.schemes:
-            found += self.mirror.search(query.text, scheme=scheme, live=True, most=share.hits, weigh=share.labels)
+            found += self.replica.search(query.text, scheme=scheme, live=True, most=share.hits, weigh=share.labels)
         return found
 
     def named(self, query: Query) -> Hit | None:
         """Returns the concept that the text of a query names by its IRI or number: of a merged one that which replaces
         it."""
         number = self.source.number_of(query.text)
-        final = self.mirror.final(number) if number is not None and self.mirror.kind(number) == "concept" else None
-        found = self.mirror.get(final) if final is not None else None
+        final = self.replica.final(number) if number is not None and self.replica.kind(number) == "concept" else None
+        found = self.replica.get(final) if final is not None else None
         if found is None or query.schemes is not None and found.scheme not in query.schemes:
             return None
-        return Hit(found.number, "pref", *self.mirror.term(found.number, self.langs))
+        return Hit(found.number, "pref", *self.replica.term(found.number, self.langs))
 
     def value(self, query: Query, hit: Hit) -> float:
         """Returns the score of a hit: a broader term that doesn't fit costs a quarter."""
         value = score(query.text, hit)
         if query.above:
-            above = self.mirror.path_up(hit.number)[:-1]
+            above = self.replica.path_up(hit.number)[:-1]
             terms = {
-                fold(text) for it in above if (view := self.mirror.view(it)) for _, text in (*view.pref, *view.alt)
+                fold(text) for it in above if (view := self.replica.view(it)) for _, text in (*view.pref, *view.alt)
             }
             value *= 1 if terms & query.above else 0.75
         return round(value, 1)
@@ -193,11 +193,11 @@ class Reconciler:
 
     def way(self, number: int, between: str) -> str:
         """Returns the terms above a concept, the top term first."""
-        return between.join(self.term(it) for it in self.mirror.path_up(number, self.langs)[:-1])
+        return between.join(self.term(it) for it in self.replica.path_up(number, self.langs)[:-1])
 
     def types(self, number: int) -> list[Json]:
         """Returns the scheme of a concept, as its type."""
-        found = self.mirror.get(number)
+        found = self.replica.get(number)
         return [{"id": str(found.scheme), "name": self.term(found.scheme)}] if found and found.scheme else []
 
 

@@ -84,17 +84,17 @@ def extend(reconciler: Reconciler, asked: Any) -> Json:
 def row_of(reconciler: Reconciler, name: str, columns: list[Column]) -> Json:
     """Returns the values of a row's properties; none for a concept that isn't there."""
     number = reconciler.source.number_of(name)
-    view = reconciler.mirror.view(number) if number is not None else None
+    view = reconciler.replica.view(number) if number is not None else None
     return {it.of: values(reconciler, view, it) if view is not None else [] for it in columns}
 
 
 def values(reconciler: Reconciler, view: View, column: Column) -> list[Json]:
     """Returns the values of a property of a concept."""
-    mirror = reconciler.mirror
+    replica = reconciler.replica
     if column.of == "iri":
         return [{"str": view.iri}]
     if column.of == "exactMatch":
-        return [{"str": mirror.iri(other)} for kind, other in view.mappings if kind == "exact"]
+        return [{"str": replica.iri(other)} for kind, other in view.mappings if kind == "exact"]
     if column.of not in OF_CONCEPTS:
         return [{"str": it} for it in texts(reconciler, view, column)]
     others: tuple[int, ...] = getattr(view, column.of)
@@ -127,7 +127,7 @@ def settings_of(reconciler: Reconciler) -> list[Json]:
 
 def body_of(reconciler: Reconciler, number: int) -> Markup:
     """Returns what there is to say of a concept in short."""
-    view = reconciler.mirror.view(number)
+    view = reconciler.replica.view(number)
     defined = [it.text for it in reconciler.source.values(number) if it.field.name == "definition"][:1]
     said = [*(text for _, text in (view.scope[:1] if view else ())), *defined]
     notes = Markup("").join(Markup("<p>{}</p>").format(text) for text in said)

@@ -7,8 +7,15 @@ from functools import partial
 from flask import Blueprint, abort, request
 from thesaurus_desk.auth.route_roles import interface
 from thesaurus_desk.interfaces import skosmos_lists as lists
-from thesaurus_desk.interfaces.linked_data import wanted_form, whole_vocabulary, written
-from thesaurus_desk.interfaces.skosmos_concepts import children, hierarchy, label_answer, mappings, near, transitive
+from thesaurus_desk.interfaces.linked_data import wanted_form, whole_vocabulary, write_resource
+from thesaurus_desk.interfaces.skosmos_concepts import (
+    children,
+    hierarchy,
+    label_answer,
+    mappings,
+    list_near,
+    transitive,
+)
 from thesaurus_desk.interfaces.skosmos_search import lookup, search_all, search_one
 from thesaurus_desk.interfaces.skosmos_vocabulary import Json, Vocabulary, all_of_them, vocabulary_of
 from thesaurus_desk.interfaces.source import Source
@@ -18,12 +25,12 @@ from werkzeug.wrappers import Response as AnyResponse
 JSON = "application/json; charset=utf-8"
 # The answers about one vocabulary.
 ANSWERS: dict[str, Callable[[Vocabulary], Json]] = {
-    "": lists.about, "types": lists.types, "topConcepts": lists.top_concepts,
+    "": lists.about_vocabulary, "types": lists.types, "topConcepts": lists.top_concepts,
     "vocabularyStatistics": lists.statistics, "labelStatistics": lists.label_statistics,
     "groups": lists.groups, "groupMembers": lists.group_members,
     "new": lists.new_concepts, "modified": lists.modified_concepts,
     "search": search_one, "lookup": lookup, "label": label_answer, "mappings": mappings,
-    "broader": near("broader"), "narrower": near("narrower"), "related": near("related"),
+    "broader": list_near("broader"), "narrower": list_near("narrower"), "related": list_near("related"),
     "children": children, "hierarchy": hierarchy,
 }  # fmt: skip
 # The answers about all vocabularies that are like those about one.
@@ -39,7 +46,7 @@ def data(whole: WholeAnswers, vocabulary: Vocabulary) -> AnyResponse:
     if form is None and "format" in request.args:
         abort(400, "unsupported format: text/turtle, application/rdf+xml, application/ld+json, application/n-triples")
     if request.args.get("uri"):
-        return written(whole.source, vocabulary.asked(), form or "turtle")
+        return write_resource(whole.source, vocabulary.asked(), form or "turtle")
     return whole_vocabulary(whole, vocabulary.scheme, form or "turtle")
 
 

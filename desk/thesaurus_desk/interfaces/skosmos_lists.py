@@ -19,11 +19,11 @@ MOST_UNDATED = 1000
 LABELS = {"pref": "skos:prefLabel", "alt": "skos:altLabel", "hidden": "skos:hiddenLabel"}
 
 
-def about(vocabulary: Vocabulary) -> Json:
+def about_vocabulary(vocabulary: Vocabulary) -> Json:
     """Returns what a vocabulary is called, and its languages."""
-    mirror, scheme = vocabulary.mirror, vocabulary.scheme or 0
+    replica, scheme = vocabulary.replica, vocabulary.scheme or 0
     title = vocabulary.term(scheme)[1]
-    schemes = [{"prefLabel": title, "uri": mirror.iri(scheme), "type": "skos:ConceptScheme"}]
+    schemes = [{"prefLabel": title, "uri": replica.iri(scheme), "type": "skos:ConceptScheme"}]
     context = vocabulary.context(
         title="dct:title",
         conceptschemes="onki:hasConceptScheme",
@@ -39,9 +39,9 @@ def about(vocabulary: Vocabulary) -> Json:
 
 def statistics(vocabulary: Vocabulary) -> Json:
     """Returns how many concepts and collections a vocabulary has."""
-    mirror, scheme = vocabulary.mirror, vocabulary.scheme or 0
-    live, dead = (len(mirror.numbers("concept", scheme, it)) for it in (True, False))
-    collections = len(mirror.numbers("collection", scheme))
+    replica, scheme = vocabulary.replica, vocabulary.scheme or 0
+    live, dead = (len(replica.numbers("concept", scheme, it)) for it in (True, False))
+    collections = len(replica.numbers("collection", scheme))
     return {
         "@context": vocabulary.context(concepts="void:class", void="http://rdfs.org/ns/void#"), "uri": "",
         "id": vocabulary.name, "title": vocabulary.term(scheme)[1],
@@ -53,10 +53,10 @@ def statistics(vocabulary: Vocabulary) -> Json:
 
 def label_statistics(vocabulary: Vocabulary) -> Json:
     """Returns how many labels of each kind a vocabulary has in each language."""
-    mirror = vocabulary.mirror
+    replica = vocabulary.replica
     counts: Counter[tuple[str, str]] = Counter()
-    for number in mirror.numbers("concept", vocabulary.scheme, True):
-        if view := mirror.view(number):
+    for number in replica.numbers("concept", vocabulary.scheme, True):
+        if view := replica.view(number):
             counts.update((tag, kind) for kind in LABELS for tag, _ in view.terms(kind))
     languages = [
         {
@@ -83,20 +83,20 @@ def letters(vocabulary: Vocabulary) -> Json:
 
 def letters_here(vocabulary: Vocabulary) -> list[str]:
     """Returns the first characters of the terms in a language."""
-    return vocabulary.mirror.letters_of(vocabulary.default_lang, vocabulary.scheme)
+    return vocabulary.replica.letters_of(vocabulary.default_lang, vocabulary.scheme)
 
 
 def index_of(vocabulary: Vocabulary, letter: str) -> Json:
     """Returns the terms that begin with a letter."""
-    mirror, lang = vocabulary.mirror, vocabulary.default_lang
+    replica, lang = vocabulary.replica, vocabulary.default_lang
     starts = [fold(letter)]
     if letter in (DIGITS, SIGNS):
         starts = [it for it in letters_here(vocabulary) if it.isdigit() == (letter == DIGITS) and not it.isalpha()]
     offset, most = integer("offset", 0, 1_000_000), integer("limit", 1_000_000, 1_000_000)
-    hits = [hit for it in starts for hit in mirror.beginning(it, lang, vocabulary.scheme)][offset : offset + most]
+    hits = [hit for it in starts for hit in replica.beginning(it, lang, vocabulary.scheme)][offset : offset + most]
     concepts = [
-        {"uri": mirror.iri(it.number), "localname": str(it.number)}
-        | {"prefLabel": mirror.term(it.number, [lang])[1], "lang": it.tag}
+        {"uri": replica.iri(it.number), "localname": str(it.number)}
+        | {"prefLabel": replica.term(it.number, [lang])[1], "lang": it.tag}
         | ({"altLabel": it.text} if it.kind == "alt" else {})
         for it in hits
     ]
@@ -106,16 +106,16 @@ def index_of(vocabulary: Vocabulary, letter: str) -> Json:
 
 def top_concepts(vocabulary: Vocabulary) -> Json:
     """Returns the top concepts of a vocabulary."""
-    mirror, asked = vocabulary.mirror, request.args.get("scheme", "")
+    replica, asked = vocabulary.replica, request.args.get("scheme", "")
     scheme = vocabulary.find(asked, ("scheme",)) if asked else vocabulary.scheme or 0
     found = [
         {
-            "uri": mirror.iri(it),
-            "topConceptOf": mirror.iri(scheme),
+            "uri": replica.iri(it),
+            "topConceptOf": replica.iri(scheme),
             "label": vocabulary.term(it)[1],
-            "hasChildren": has_children(mirror, it),
+            "hasChildren": has_children(replica, it),
         }
-        for it in vocabulary.ordered(mirror.tops(scheme))
+        for it in vocabulary.ordered(replica.tops(scheme))
     ]
     context = vocabulary.context(
         topConceptOf={"@id": "skos:topConceptOf", "@type": "@id"},
@@ -123,7 +123,7 @@ def top_concepts(vocabulary: Vocabulary) -> Json:
         label="skos:prefLabel",
         hasChildren="onki:hasChildren",
     )
-    return {"@context": context, "uri": mirror.iri(scheme), "topconcepts": found}
+    return {"@context": context, "uri": replica.iri(scheme), "topconcepts": found}
 
 
 def types(vocabulary: Vocabulary) -> Json:
@@ -135,11 +135,11 @@ def types(vocabulary: Vocabulary) -> Json:
 
 def groups(vocabulary: Vocabulary) -> Json:
     """Returns the collections of a vocabulary, with those within each."""
-    mirror, places = vocabulary.mirror, vocabulary.source.places()
+    replica, places = vocabulary.replica, vocabulary.source.places()
     found = []
-    for it in vocabulary.ordered(mirror.numbers("collection", vocabulary.scheme)):
-        parts = parts_of(mirror, places, it, vocabulary.langs)
-        inner = [mirror.iri(other) for other in parts if mirror.kind(other) == "collection"]
+    for it in vocabulary.ordered(replica.numbers("collection", vocabulary.scheme)):
+        parts = parts_of(replica, places, it, vocabulary.langs)
+        inner = [replica.iri(other) for other in parts if replica.kind(other) == "collection"]
         group = {**vocabulary.one(it), "hasMembers": bool(parts)}
         found.append(group | ({"childGroups": inner} if inner else {}))
     context = vocabulary.context(
@@ -152,13 +152,13 @@ def groups(vocabulary: Vocabulary) -> Json:
 
 def group_members(vocabulary: Vocabulary) -> Json:
     """Returns the members of a collection, and the collections within it, in its order."""
-    mirror, number = vocabulary.mirror, vocabulary.asked("collection")
+    replica, number = vocabulary.replica, vocabulary.asked("collection")
     found = []
-    for it in parts_of(mirror, vocabulary.source.places(), number, vocabulary.langs):
-        is_group = mirror.kind(it) == "collection"
+    for it in parts_of(replica, vocabulary.source.places(), number, vocabulary.langs):
+        is_group = replica.kind(it) == "collection"
         member = {**vocabulary.one(it), "type": ["skos:Collection" if is_group else "skos:Concept"]}
         found.append(member | ({"isSuper": True} if is_group else {}))
-    return {"@context": vocabulary.context(members="skos:member"), "uri": mirror.iri(number), "members": found}
+    return {"@context": vocabulary.context(members="skos:member"), "uri": replica.iri(number), "members": found}
 
 
 def new_concepts(vocabulary: Vocabulary) -> Json:
@@ -167,7 +167,7 @@ def new_concepts(vocabulary: Vocabulary) -> Json:
     def dated() -> Iterable[tuple[int, str]]:
         # (numbers are given in order, so the latest are the highest)
         undated = 0
-        for number in reversed(vocabulary.mirror.numbers("concept", vocabulary.scheme, True)):
+        for number in reversed(vocabulary.replica.numbers("concept", vocabulary.scheme, True)):
             created, _ = vocabulary.source.dates(number)
             undated += created is None
             if created:
@@ -185,18 +185,18 @@ def modified_concepts(vocabulary: Vocabulary) -> Json:
 
 def change_list(vocabulary: Vocabulary, dated: Iterable[tuple[int, str]], name: str) -> Json:
     """Returns concepts of a vocabulary with the times of changes."""
-    mirror = vocabulary.mirror
+    replica = vocabulary.replica
     offset, most = integer("offset", 0, 1_000_000), integer("limit", USUAL, MOST)
     found: list[Json] = []
     for number, at in dated:
-        it = mirror.get(number)
+        it = replica.get(number)
         if len(found) >= offset + most:
             break
         if it is None or it.kind != "concept" or it.scheme != vocabulary.scheme:
             continue
         item: Json = {**vocabulary.one(number), "date": at}
         if it.replaced is not None:
-            item |= {"replacedBy": mirror.iri(it.replaced), "replacingLabel": vocabulary.term(it.replaced)[1]}
+            item |= {"replacedBy": replica.iri(it.replaced), "replacingLabel": vocabulary.term(it.replaced)[1]}
         found.append(item)
     date = {"@id": DCTERMS + name, "@type": XSD + "dateTime"}
     context = {
@@ -209,7 +209,7 @@ def change_list(vocabulary: Vocabulary, dated: Iterable[tuple[int, str]], name: 
 def vocabularies(vocabulary: Vocabulary) -> Json:
     """Returns the schemes."""
     found = [
-        {"uri": str(it), "id": str(it), "title": vocabulary.term(it)[1]} for it in vocabulary.mirror.numbers("scheme")
+        {"uri": str(it), "id": str(it), "title": vocabulary.term(it)[1]} for it in vocabulary.replica.numbers("scheme")
     ]
     names: Json = {
         "title": {"@id": f"{RDFS}label"},

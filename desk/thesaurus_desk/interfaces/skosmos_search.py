@@ -7,7 +7,8 @@ from dataclasses import dataclass
 from flask import abort, request
 
 from thesaurus_desk.interfaces.skosmos_vocabulary import (
-    ISO_THES, MOST, OTHERS, PREF, USUAL, Json, Vocabulary, flag, integer, language_asked, needed, vocabulary_of, words,
+    ISO_THES, MOST, OTHERS, PREF, USUAL, Json, Vocabulary, flag, integer, language_asked, required_parameter,
+    vocabulary_of, words,
 )  # fmt: skip
 from thesaurus_desk.interfaces.source import Source
 from thesaurus_desk.store.model import Hit, View
@@ -54,7 +55,7 @@ def read_search(vocabularies: Sequence[Vocabulary]) -> Search:
     first = vocabularies[0]
     within = branch_of(vocabularies) if request.args.get("parent") else None
     if request.args.get("group"):
-        view = first.mirror.view(bound_of(vocabularies, "group", "collection"))
+        view = first.replica.view(bound_of(vocabularies, "group", "collection"))
         members = frozenset(view.members if view else ())
         within = members if within is None else within & members
     return Search(vocabularies, kinds, within, first.lang or None, tuple(fields), flag("unique"))
@@ -63,7 +64,7 @@ def read_search(vocabularies: Sequence[Vocabulary]) -> Search:
 def bound_of(vocabularies: Sequence[Vocabulary], name: str, kind: str) -> int:
     """Returns the number of the resource of one of the vocabularies that a parameter names. Ends with 404."""
     first, uri = vocabularies[0], request.args[name]
-    found = first.mirror.get(first.source.number_of(uri) or 0)
+    found = first.replica.get(first.source.number_of(uri) or 0)
     own = next((it for it in vocabularies if found and it.scheme == found.scheme), first)
     return own.find(uri, (kind,))
 
@@ -71,17 +72,17 @@ def bound_of(vocabularies: Sequence[Vocabulary], name: str, kind: str) -> int:
 def branch_of(vocabularies: Sequence[Vocabulary]) -> frozenset[int]:
     """Returns the concepts below the one that the parameter parent names."""
     parent = bound_of(vocabularies, "parent", "concept")
-    return vocabularies[0].mirror.below(parent) - {parent}
+    return vocabularies[0].replica.below(parent) - {parent}
 
 
 def find_hits(search: Search, query: str) -> list[Hit]:
     """Returns the labels that a query matches: a whole label, but for what * stands for; in the order of the labels.
 
     Each concept is there once, by its preferred term if that matches, where the search is unique."""
-    mirror: Replica = search.vocabularies[0].mirror
+    replica: Replica = search.vocabularies[0].replica
     found: list[Hit] = []
     for vocabulary in search.vocabularies:
-        found += mirror.matching(query[:LONGEST], kinds=search.kinds, scheme=vocabulary.scheme, lang=search.lang)
+        found += replica.matching(query[:LONGEST], kinds=search.kinds, scheme=vocabulary.scheme, lang=search.lang)
     found = [it for it in found if search.within is None or it.number in search.within]
     if search.is_unique:
         found.sort(key=lambda it: it.kind != "pref")
@@ -91,11 +92,11 @@ def find_hits(search: Search, query: str) -> list[Hit]:
 
 def result_of(vocabulary: Vocabulary, hit: Hit, fields: Sequence[str] = ()) -> Json:
     """Returns a hit as Skosmos does."""
-    mirror, number = vocabulary.mirror, hit.number
-    view = mirror.view(number)
+    replica, number = vocabulary.replica, hit.number
+    view = replica.view(number)
     assert view is not None
     _, text = vocabulary.term(number, language_asked("labellang") or hit.tag)
-    found: Json = {"uri": mirror.iri(number), "type": [TYPE_OF[view.kind]], "localname": str(number)}
+    found: Json = {"uri": replica.iri(number), "type": [TYPE_OF[view.kind]], "localname": str(number)}
     found |= {"prefLabel": text, "lang": hit.tag, "vocab": str(view.scheme or ""), **vocabulary.notation(number)}
     if hit.kind != "pref":
         found[KIND_FIELDS[hit.kind]] = hit.text
@@ -119,7 +120,7 @@ def extra(vocabulary: Vocabulary, view: View, field: str) -> Json:
 
 def search_answer(vocabularies: Sequence[Vocabulary]) -> Json:
     """Returns the answer to a search in some vocabularies."""
-    query = needed("query")
+    query = required_parameter("query")
     offset, most = integer("offset", 0, 1_000_000), integer("maxhits", USUAL, MOST, least=1)
     search = read_search(vocabularies)
     hits = find_hits(search, query)[offset : offset + most]
@@ -135,7 +136,7 @@ def search_one(vocabulary: Vocabulary) -> Json:
 
 def search_all(source: Source) -> Json:
     """Returns the answer to a search in the vocabularies that the parameter vocab names, or in all."""
-    names = words("vocab") or [str(it) for it in source.mirror().numbers("scheme")]
+    names = words("vocab") or [str(it) for it in source.replica().numbers("scheme")]
     if not names:
         abort(404, "there is no vocabulary")
     return search_answer([vocabulary_of(source, it) for it in names])
@@ -152,7 +153,7 @@ FITS: tuple[Callable[[Hit, str], bool], ...] = (
 
 def lookup(vocabulary: Vocabulary) -> Json:
     """Returns the concepts that a label names. Ends with 404 if none does."""
-    label = needed("label")
+    label = required_parameter("label")
     hits = find_hits(read_search([vocabulary]), label.replace("*", "")) if label.strip("* ") else []
     for fits in FITS:
         if found := [it for it in hits if fits(it, label)]:

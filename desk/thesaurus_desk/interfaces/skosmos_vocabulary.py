@@ -26,9 +26,9 @@ class Vocabulary:
     """A scheme that a request asks about, or all of them (`scheme` is None), in a language."""
 
     def __init__(self, source: Source, scheme: int | None, lang: str) -> None:
-        self.mirror: Replica = source.mirror()
+        self.replica: Replica = source.replica()
         self.source, self.scheme, self.lang = source, scheme, lang
-        self.languages = self.mirror.languages() or ["en"]
+        self.languages = self.replica.languages() or ["en"]
         self.langs = [it for it in (lang, *self.languages) if it]
 
     @property
@@ -47,23 +47,23 @@ class Vocabulary:
 
     def term(self, number: int, lang: str = "") -> tuple[str, str]:
         """Returns the tag and the text of the term by which a resource is shown."""
-        return self.mirror.term(number, [it for it in (lang, *self.langs) if it])
+        return self.replica.term(number, [it for it in (lang, *self.langs) if it])
 
     def own_terms(self, number: int, kind: str) -> list[str]:
         """Returns the labels of a kind in the language that is asked for, and in no other."""
-        view = self.mirror.view(number)
+        view = self.replica.view(number)
         return [text for tag, text in (view.terms(kind) if view else ()) if has_language(tag, self.default_lang)]
 
     def asked(self, *kinds: str) -> int:
         """Returns the number of the resource of this vocabulary that the parameter uri names: of one of some kinds.
 
         Ends with 400 without the parameter, and with 404."""
-        return self.find(needed("uri"), kinds or ("concept", "collection", "scheme"))
+        return self.find(required_parameter("uri"), kinds or ("concept", "collection", "scheme"))
 
     def find(self, uri: str, kinds: Iterable[str]) -> int:
         """Returns the number of a resource of this vocabulary. Ends with 404 if there is none."""
         number = self.source.number_of(uri)
-        found = self.mirror.get(number) if number is not None else None
+        found = self.replica.get(number) if number is not None else None
         if found is None or found.kind not in kinds:
             abort(404, f"could not find {' or '.join(kinds)} <{uri[:300]}>")
         if self.scheme not in (None, found.scheme, found.number):
@@ -72,7 +72,7 @@ class Vocabulary:
 
     def one(self, number: int) -> Json:
         """Returns a concept as lists have it."""
-        return {"uri": self.mirror.iri(number), "prefLabel": self.term(number)[1], **self.notation(number)}
+        return {"uri": self.replica.iri(number), "prefLabel": self.term(number)[1], **self.notation(number)}
 
     def notation(self, number: int) -> Json:
         """Returns the notation of a resource as a member of an answer, if it has one."""
@@ -81,7 +81,7 @@ class Vocabulary:
 
     def ordered(self, numbers: Iterable[int]) -> list[int]:
         """Returns resources in the order of their terms."""
-        return self.mirror.ordered(numbers, self.langs)
+        return self.replica.ordered(numbers, self.langs)
 
     def many(self, numbers: Iterable[int]) -> list[Json]:
         """Returns concepts as lists have them, in the order of their terms."""
@@ -96,7 +96,7 @@ def language_asked(name: str = "lang") -> str:
 def vocabulary_of(source: Source, name: str) -> Vocabulary:
     """Returns the vocabulary of a name, in the language that the request names. Ends with 404."""
     scheme = source.number_of(name)
-    if scheme is None or source.mirror().kind(scheme) != "scheme":
+    if scheme is None or source.replica().kind(scheme) != "scheme":
         abort(404, f"there is no vocabulary {name[:100]!r}")
     return Vocabulary(source, scheme, language_asked())
 
@@ -106,7 +106,7 @@ def all_of_them(source: Source) -> Vocabulary:
     return Vocabulary(source, None, language_asked())
 
 
-def needed(name: str) -> str:
+def required_parameter(name: str) -> str:
     """Returns a parameter. Ends with 400 if it is missing."""
     return request.args.get(name) or abort(400, f"{name} parameter missing")
 

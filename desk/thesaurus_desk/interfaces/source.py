@@ -54,8 +54,8 @@ def no_fields() -> Iterable[Field]:
 class Source:
     """A thesaurus that other programs may ask."""
 
-    # (a desk that starts again has another mirror)
-    mirror: Callable[[], Replica]
+    # (a desk that starts again has another replica)
+    replica: Callable[[], Replica]
     # When a resource was made and last changed, as far as that is known.
     dates: Callable[[int], tuple[str | None, str | None]] = no_dates
     changes: Changes = Changes()
@@ -73,25 +73,25 @@ class Source:
 
     def name(self) -> str:
         """Returns what the thesaurus is called: its title, or the terms of its schemes."""
-        mirror = self.mirror()
-        schemes = mirror.numbers("scheme")
-        return self.title or " · ".join(mirror.term(it, mirror.languages())[1] for it in schemes) or "Thesaurus"
+        replica = self.replica()
+        schemes = replica.numbers("scheme")
+        return self.title or " · ".join(replica.term(it, replica.languages())[1] for it in schemes) or "Thesaurus"
 
     def version(self) -> tuple[object, int, int]:
-        """Returns what is another value after each change, and with another mirror."""
-        mirror = self.mirror()
-        return weakref.ref(mirror), mirror.version, self.changes.last()
+        """Returns what is another value after each change, and with another replica."""
+        replica = self.replica()
+        return weakref.ref(replica), replica.version, self.changes.last()
 
     def number_of(self, name: str) -> int | None:
         """Returns the number of the own resource that an IRI or a number names, or None.
 
         An address elsewhere, as one that a concept had before it came here, names the concept that has it as its exact
         match, if there is one."""
-        mirror = self.mirror()
+        replica = self.replica()
         if name.isascii() and name.isdigit() and len(name) < 11:
-            return int(name) if mirror.kind(int(name)) not in (None, "outside") else None
-        found = mirror.by_iri(name)
-        view = mirror.view(found) if found is not None else None
+            return int(name) if replica.kind(int(name)) not in (None, "outside") else None
+        found = replica.by_iri(name)
+        view = replica.view(found) if found is not None else None
         if view is None or view.kind != "outside":
             return found
         same = [other for kind, other in view.mappings if kind == "exact"]
@@ -104,13 +104,13 @@ class Source:
     def triples(self, number: int) -> list[Triple]:
         """Returns the triples whose subject is a resource: those of the export, its values, its place and its dates;
         and those of the list of its members, if they have an order."""
-        mirror = self.mirror()
-        with mirror.reading():
-            it = mirror.get(number)
-            subject = Iri(mirror.iri(number))
-            found = [Triple(subject, Iri(name), node) for name, node in properties(mirror, it)] if it else []
-            found += place_triples(self.places(), mirror.base, number, sorted(it.members)) if it else []
-        found += [triple for it in self.values(number) for triple in value_triples(subject, it, mirror.base)]
+        replica = self.replica()
+        with replica.reading():
+            it = replica.get(number)
+            subject = Iri(replica.iri(number))
+            found = [Triple(subject, Iri(name), node) for name, node in properties(replica, it)] if it else []
+            found += place_triples(self.places(), replica.base, number, sorted(it.members)) if it else []
+        found += [triple for it in self.values(number) for triple in value_triples(subject, it, replica.base)]
         if it is not None and it.kind == "scheme":
             found += version_triples(subject, *self.edition())
         for name, at in zip(("created", "modified"), self.dates(number)):
@@ -125,27 +125,27 @@ def version_triples(scheme: Iri, name: str, day: str) -> list[Triple]:
     return [*version, *([Triple(scheme, Iri(DCTERMS + "issued"), Literal(day, "", XSD + "date"))] if day else [])]
 
 
-def properties(mirror: Replica, it: Resource) -> Iterator[tuple[str, Node]]:
+def properties(replica: Replica, it: Resource) -> Iterator[tuple[str, Node]]:
     """Yields the properties of a resource, as the program's export has them."""
     yield RDF + "type", Iri(SKOS + CLASS_OF[it.kind])
     for kind, tag, text in it.labels:
         yield SKOS + LABEL_OF[kind], Literal(text, tag)
     if it.scheme is not None:
-        yield SKOS + "inScheme", Iri(mirror.iri(it.scheme))
+        yield SKOS + "inScheme", Iri(replica.iri(it.scheme))
         if it.kind == "concept" and it.is_live and not it.broader:
-            yield SKOS + "topConceptOf", Iri(mirror.iri(it.scheme))
-    for other in mirror.tops(it.number) if it.kind == "scheme" else ():
-        yield SKOS + "hasTopConcept", Iri(mirror.iri(other))
+            yield SKOS + "topConceptOf", Iri(replica.iri(it.scheme))
+    for other in replica.tops(it.number) if it.kind == "scheme" else ():
+        yield SKOS + "hasTopConcept", Iri(replica.iri(other))
     for name, others in (("broader", it.broader), ("narrower", it.narrower), ("related", it.related)):
-        yield from ((SKOS + name, Iri(mirror.iri(other))) for other in others)
-    yield from ((SKOS + "member", Iri(mirror.iri(other))) for other in it.members)
+        yield from ((SKOS + name, Iri(replica.iri(other))) for other in others)
+    yield from ((SKOS + "member", Iri(replica.iri(other))) for other in it.members)
     for link in it.matches:
         # A symmetric match is stated at both ends, a broader or narrower one where it was made.
         if link.a == it.number:
-            yield SKOS + MATCH_OF[link.kind], Iri(mirror.iri(link.b))
+            yield SKOS + MATCH_OF[link.kind], Iri(replica.iri(link.b))
         elif link.kind in SYMMETRIC:
-            yield SKOS + MATCH_OF[link.kind], Iri(mirror.iri(link.a))
+            yield SKOS + MATCH_OF[link.kind], Iri(replica.iri(link.a))
     if it.kind == "concept" and not it.is_live:
         yield OWL + "deprecated", Literal("true", "", XSD + "boolean")
         if it.replaced is not None:
-            yield DCTERMS + "isReplacedBy", Iri(mirror.iri(it.replaced))
+            yield DCTERMS + "isReplacedBy", Iri(replica.iri(it.replaced))

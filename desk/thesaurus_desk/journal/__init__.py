@@ -10,7 +10,7 @@
   queue           the records that are to be indexed, and what the head settles of it
   record_texts    what the catalogue says of records: titles, texts, links
   recovery        plans whose answer never came, and changes made by other means
-  earlier         what journals of earlier desks have in place of the changes of rows
+  old_journals    what journals of earlier desks have in place of the changes of rows
   rights          who may do what, as the head settles it
   watches         what people watch, and what has happened to it
   visitor_proposals  what visitors propose
@@ -23,14 +23,14 @@
   forgotten_users a user's name taken out of the journal
   undo            the plan that takes another one back
   edit_conflicts  what the author of a form saw, and what has changed since
-  past            what was there after an earlier plan
+  past_replica    what was there after an earlier plan
 """
-from thesaurus_desk.journal.entries import Accepted, Answer, Batch, Draft, Journal, Plan, Request, Step
+from thesaurus_desk.journal.entries import Acceptance, Answer, Batch, Draft, Journal, Plan, Request, Step
 from thesaurus_desk.journal.history import Dates, Filter, History
 from thesaurus_desk.journal.schema import journal_of
 
 __all__ = [
-    "Accepted",
+    "Acceptance",
     "Answer",
     "Batch",
     "Dates",

@@ -21,13 +21,13 @@ STANDING = (
 )
 
 
-def packed(left: object) -> bytes | None:
+def pack(left: object) -> bytes | None:
     """Returns what is left of a file as it is kept, unless that is too much."""
     data = zlib.compress(json.dumps(left, ensure_ascii=False, separators=(",", ":")).encode(), 1)
     return data if len(data) <= MOST_LEFT else None
 
 
-def unpacked(data: bytes) -> Any:
+def unpack(data: bytes) -> Any:
     """Returns what was packed."""
     return json.loads(zlib.decompress(data))
 
@@ -62,7 +62,7 @@ class Batches:
     def end(self, batch: Batch, refused: Sequence[Sequence[str]] = ()) -> None:
         """Notes that a file is done, how many of its rows were refused, and these as a table, with its heading."""
         if batch.plan is not None:
-            kept = packed(refused) if refused else None
+            kept = pack(refused) if refused else None
             with self.journal.writing() as rows:
                 values = (batch.refused, batch.plan)
                 rows.execute("UPDATE batch SET is_done = 1, rest = NULL, refused = ? WHERE plan = ?", values)
@@ -80,7 +80,7 @@ class Batches:
     def refused(self, plan: int) -> list[list[str]]:
         """Returns the rows of a file that were refused as a table, by its first plan; nothing if there are none."""
         found = self.journal.one("SELECT rows FROM refused WHERE plan = ?", plan)
-        rows: list[list[str]] = unpacked(found["rows"]) if found else []
+        rows: list[list[str]] = unpack(found["rows"]) if found else []
         return rows
 
     def of(self, plan: int) -> Batch | None:
@@ -104,7 +104,7 @@ class Batches:
     def rest(self, batch: Batch) -> Any:
         """Returns what a file asks for, as long as it isn't done; or None."""
         found = self.journal.one("SELECT rest FROM batch WHERE plan = ?", batch.plan)
-        return unpacked(found["rest"]) if found and found["rest"] else None
+        return unpack(found["rest"]) if found and found["rest"] else None
 
     def done(self, batch: Batch) -> list[Step]:
         """Returns the steps of a file that were done, in their order."""

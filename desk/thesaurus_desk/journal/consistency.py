@@ -14,7 +14,7 @@ from thesaurus_desk.journal.schema import journal_of
 from thesaurus_desk.journal.values import Values, source_of, text_of
 from thesaurus_desk.store.build import is_usable
 from thesaurus_desk.store.changes import ENDS, PLACES
-from thesaurus_desk.store.difference import attached, differences
+from thesaurus_desk.store.difference import attach_store, differences
 from thesaurus_desk.store.resources import COUNTS
 from thesaurus_desk.store.schema import KINDS
 from thesaurus_tools.command_line import ToolError
@@ -85,15 +85,15 @@ def differing_plans(journal: Journal, store: Rows) -> Iterator[str]:
     while plans := journal.plans("SELECT * FROM plan WHERE id > ? ORDER BY id LIMIT ?", last, MANY):
         for plan in plans:
             if plan.state in ("sent", "unknown"):
-                yield f"{named(plan)}: nobody knows whether it was performed"
+                yield f"{plan_name(plan)}: nobody knows whether it was performed"
             for place, step in enumerate(plan.steps, 1):
                 what = difference(store, step) if step.state in ("done", "undone") else None
                 if what:
-                    yield f"{named(plan)}, step {place}: {what}"
+                    yield f"{plan_name(plan)}, step {place}: {what}"
         last = plans[-1].id
 
 
-def named(plan: Plan) -> str:
+def plan_name(plan: Plan) -> str:
     return f"plan {plan.id} ({plan.at}, {plan.user}, {plan.action})"
 
 
@@ -129,7 +129,7 @@ def differing_rows(journal: Journal, store: Rows) -> Iterator[str]:
     """Yields the resources that were changed by other means since the last plan."""
     if not is_usable(journal.rows):
         return
-    with attached(journal.rows, Path(store.name)):
+    with attach_store(journal.rows, Path(store.name)):
         found = differences(journal.rows)
     numbers: set[int] = set()
     for it in found:

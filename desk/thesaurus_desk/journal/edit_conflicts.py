@@ -11,7 +11,7 @@ from dataclasses import dataclass
 from typing import TYPE_CHECKING, Any
 
 from thesaurus_desk.journal.entries import LAST_PLAN
-from thesaurus_desk.journal.past import JournalAtMoment, before_plans
+from thesaurus_desk.journal.past_replica import JournalSnapshot, before_plans
 from thesaurus_desk.journal.values import Values, source_of, text_of
 from thesaurus_desk.store.replica import Replica
 from thesaurus_tools.kinds import LABEL_KINDS
@@ -79,9 +79,9 @@ def digest(content: Content) -> str:
     return hashlib.blake2b(text.encode(), digest_size=9).hexdigest()
 
 
-def content_of(mirror: Replica, values: Values, number: int, part: str) -> Content | None:
+def content_of(replica: Replica, values: Values, number: int, part: str) -> Content | None:
     """Returns what a part of a resource holds; None if there is no such resource."""
-    view = mirror.view(number)
+    view = replica.view(number)
     if view is None:
         return None
     if part.startswith(OF_FIELD):
@@ -91,58 +91,58 @@ def content_of(mirror: Replica, values: Values, number: int, part: str) -> Conte
     if part in OF_TABLES:
         held = [it for its in values.of(number).values() for it in its]
         content["values"] = tuple((it.field, it.tag, it.text, it.source) for it in held)
-        content["names"] = names_in(mirror, content)
+        content["names"] = names_in(replica, content)
     return content
 
 
-def names_in(mirror: Replica, content: Content) -> tuple[Any, ...]:
+def names_in(replica: Replica, content: Content) -> tuple[Any, ...]:
     """Returns the preferred terms by which the cells of a table may name the other ends of links."""
     pairs = [it for name in ("above", "below", "mappings") for it in content.get(name, ())]
     ends = [*(number for _, number in pairs), *(it for name in ("related", "collections") for it in content[name])]
-    views = map(mirror.view, [*ends, *content["members"]])
+    views = map(replica.view, [*ends, *content["members"]])
     return tuple(it.pref for it in views if it is not None)
 
 
-def mark_of_row(mirror: Replica, values: Values, number: int, *, has_below: bool, plan: int) -> str:
+def mark_of_row(replica: Replica, values: Values, number: int, *, has_below: bool, plan: int) -> str:
     """Returns what the row of a table carries of what a resource was, after the plan that was the journal's last."""
     part = "tables" if has_below else "table"
-    content = content_of(mirror, values, number, part)
+    content = content_of(replica, values, number, part)
     return f"{number}.{part}.{digest(content) if content else ''}.{plan}"
 
 
-def is_as_seen(mirror: Replica, values: Values, mark: str) -> bool:
+def is_as_seen(replica: Replica, values: Values, mark: str) -> bool:
     """Whether a resource is as the row of a table has it."""
     number, part, was, _ = read_mark(mark)
-    content = content_of(mirror, values, number, part)
+    content = content_of(replica, values, number, part)
     return content is not None and digest(content) == was
 
 
-def content_now(mirror: Replica, number: int, part: str) -> Content | None:
+def content_now(replica: Replica, number: int, part: str) -> Content | None:
     """Returns what a part of a resource holds at the moment of a replica, its values among it."""
-    at_moment: Any = JournalAtMoment(mirror)
-    return content_of(mirror, Values(at_moment), number, part)
+    snapshot: Any = JournalSnapshot(replica)
+    return content_of(replica, Values(snapshot), number, part)
 
 
 @dataclass
-class Seen:
+class FormMarks:
     """Gives forms what they carry, and finds out whether it still holds."""
 
-    mirror: Replica
+    replica: Replica
     journal: Journal
 
     def mark(self, number: int, part: str = "all") -> str:
         """Returns what a form that edits a part of a resource carries, as `12.labels.9f3c….77`.
 
         The last number is that of the journal's last plan."""
-        with self.mirror.reading():
-            plan = self.mirror.value(LAST_PLAN)
-            content = content_now(self.mirror, number, part)
+        with self.replica.reading():
+            plan = self.replica.value(LAST_PLAN)
+            content = content_now(self.replica, number, part)
         return f"{number}.{part}.{digest(content) if content else ''}.{plan}"
 
     def conflict(self, mark: str) -> Conflict | None:
         """Returns what has changed since a form was made, or None. A mark that no form has made is a conflict, too."""
         number, part, was, plan = read_mark(mark)
-        content = content_now(self.mirror, number, part)
+        content = content_now(self.replica, number, part)
         if content is not None and digest(content) == was:
             return None
         old = self.content_after(number, part, plan) if was and content else None
@@ -152,7 +152,7 @@ class Seen:
     def content_after(self, number: int, part: str, plan: int) -> Content | None:
         """Returns what a part of a resource held after a plan, as far as the journal knows what was changed since."""
         try:
-            with before_plans(self.mirror, self.journal, self.journal.since(number, plan), number) as past:
+            with before_plans(self.replica, self.journal, self.journal.since(number, plan), number) as past:
                 return content_now(past, number, part) if past else None
         except (sqlite3.Error, TypeError) as error:
             log.warning("it isn't known what %s held after plan %s: %s", number, plan, error)
@@ -218,14 +218,14 @@ def value_now(conflict: Conflict, value: Valued) -> Valued | None:
         requests = [it.request for it in plan.steps if it.state == "done" and it.request["do"] == "set"]
         its = [it for it in requests if (it["owner"], OF_FIELD + it["field"]) == (conflict.number, conflict.part)]
         # (a value with another language is removed, and added)
-        added = next((valued(it, "new") for it in its if it["old"] is None), None)
+        added = next((value_content(it, "new") for it in its if it["old"] is None), None)
         for it in its:
-            if found is not None and valued(it, "old") == found:
-                found = valued(it, "new") or added
+            if found is not None and value_content(it, "old") == found:
+                found = value_content(it, "new") or added
     return found
 
 
-def valued(request: Request, name: str) -> Valued | None:
+def value_content(request: Request, name: str) -> Valued | None:
     """Returns the value that a request sets, or that it sets another one for; None where there is none."""
     text = text_of(request[name])
     return None if text is None else (request["tag"], text, source_of(request[name]))

@@ -44,7 +44,7 @@ class Step:
         may_be_made = self.answer or (self.foreseen if self.state in ("sent", "unknown") else None)
         ends = {end for it in kept.get("links", ()) for end in it[1:]}
         places = {*kept.get("places", ()), *([kept["place"]] if "place" in kept else [])}
-        return concerned(self.request, may_be_made) | ends | places
+        return resources_of_request(self.request, may_be_made) | ends | places
 
 
 @dataclass(slots=True)
@@ -75,7 +75,7 @@ class Plan:
 
 
 @dataclass(frozen=True, slots=True)
-class Accepted:
+class Acceptance:
     """The proposal that a plan performs: its number, its author, and the editor's word to the author."""
 
     proposal: int
@@ -111,7 +111,7 @@ class Draft:
     user: str
     action: str
     steps: list[Step]
-    accepted: Accepted | None = None
+    accepted: Acceptance | None = None
     takes_back: int | None = None
     first: int | None = None
     # The file whose first plan it is.
@@ -135,7 +135,7 @@ def from_text(text: str | None) -> Any:
     return None if text is None else json.loads(text)
 
 
-def concerned(request: Request, answer: Answer | None = None) -> set[int]:
+def resources_of_request(request: Request, answer: Answer | None = None) -> set[int]:
     """Returns the resources that a request names, and the one that it made; of those in an order only those that come
     or go."""
     found = {request[name] for name in NAMED if isinstance(request.get(name), int)}
@@ -362,14 +362,14 @@ class Journal(Database):
 
     def plans(self, query: str, *values: Any) -> list[Plan]:
         """Returns the plans that a query finds, with their steps, all as they are at one moment."""
-        with self.at_one_moment():
+        with self.in_one_transaction():
             return [self.plan_of(it) for it in self.all(query, *values)]
 
     def plans_about(self, number: int, most: int) -> list[Plan]:
         """Returns the last plans that concern a resource, each with the steps alone that do; one of which none does has
         all."""
         query = "SELECT plan.* FROM plan JOIN concern ON plan = id WHERE number = ? ORDER BY id DESC LIMIT ?"
-        with self.at_one_moment():
+        with self.in_one_transaction():
             return [self.plan_of(it, self.steps_about(it["id"], number)) for it in self.all(query, number, most)]
 
     def steps_about(self, plan: int, number: int) -> list[Step]:

@@ -7,9 +7,9 @@ import sqlite3
 from collections.abc import Iterable, Sequence
 from dataclasses import dataclass, replace
 
-from thesaurus_desk.journal.earlier import differing_from_seals, look_up_by_facts
 from thesaurus_desk.journal.entries import Draft, Journal, Plan, Request, Step
-from thesaurus_desk.journal.references import resolved
+from thesaurus_desk.journal.old_journals import differing_from_seals, look_up_by_facts
+from thesaurus_desk.journal.references import resolve_request
 from thesaurus_desk.journal.values import Values, set_request
 from thesaurus_desk.store.outcome import look_for, touched_by
 from thesaurus_desk.store.replica import Replica
@@ -22,7 +22,7 @@ RESTORED = "restored from a backup"
 
 
 @dataclass(frozen=True, slots=True)
-class Found:
+class StartReport:
     """What a desk found when it opened the store."""
 
     # Plans that an earlier desk left open, as they are settled now.
@@ -54,7 +54,7 @@ def mark_steps(steps: Sequence[Step], state: str) -> None:
     for step in steps:
         step.state = state
         step.answer = step.foreseen if state == "done" and step.answer is None else step.answer
-        step.request = resolved(step.request, numbers)
+        step.request = resolve_request(step.request, numbers)
         answer = step.answer or {}
         numbers.append(answer.get("ok", answer.get("again")))
 
@@ -107,7 +107,7 @@ def explained_by(journal: Journal, replica: Replica, plans: Iterable[Plan]) -> s
 # --- what others have changed ---
 
 
-def start(journal: Journal, replica: Replica, differing: frozenset[int] | None) -> Found:
+def start(journal: Journal, replica: Replica, differing: frozenset[int] | None) -> StartReport:
     """Settles what an earlier desk left open, and notes what was changed by other means since. `differing` are the
     resources of which the replica had others than the store; None if it was made anew."""
     settled = settle(journal, replica)
@@ -117,7 +117,7 @@ def start(journal: Journal, replica: Replica, differing: frozenset[int] | None) 
 
 def note_changes(
     journal: Journal, replica: Replica, differing: frozenset[int] | None, explained: Iterable[int] = ()
-) -> Found:
+) -> StartReport:
     """Notes as changed by other means what no plan explains."""
     explained = set(explained)
     digest = replica.digest()
@@ -142,7 +142,7 @@ def note_changes(
         journal.finish(plan, "done", lost, changed=changed, counts=counts, note=note, also=set_apart)
         log.warning("%d resources were changed by other means%s", len(changed), f"; {note}" if note else "")
     journal.note_digest(digest)
-    return Found((), is_changed or bool(lost), tuple(sorted(changed)), restored)
+    return StartReport((), is_changed or bool(lost), tuple(sorted(changed)), restored)
 
 
 def removals(replica: Replica, values: Values) -> list[Request]:

@@ -20,7 +20,7 @@ def resolve(value: Any, numbers: Sequence[int | str | None]) -> Any:
     return value
 
 
-def resolved(request: Request, numbers: Sequence[int | str | None]) -> Request:
+def resolve_request(request: Request, numbers: Sequence[int | str | None]) -> Request:
     """Returns a request with numbers, or other references, for references."""
     # (a list among the values of a field has numbers; a text may begin with a dollar sign)
     return {

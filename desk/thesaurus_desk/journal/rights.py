@@ -27,7 +27,7 @@ INDEXING = ("post", "withdraw", "import")
 ENDS = ("owner", "scheme", "concept", "source", "target", "a", "b")
 
 
-class Facts(Protocol):
+class StoreFacts(Protocol):
     """What is asked of a store."""
 
     def scheme_of(self, number: int) -> int | None:
@@ -56,7 +56,7 @@ class Rights:
     visitors_propose: bool = False
     # Who asks, and the store.
     name: str = field(default="", compare=False)
-    facts: Facts | None = field(default=None, compare=False)
+    facts: StoreFacts | None = field(default=None, compare=False)
 
     def lowest_role(self, requests: Sequence[Request]) -> Role:
         """Returns the lowest role that may make requests, none of which has been performed."""
@@ -148,7 +148,7 @@ def as_candidates(requests: Sequence[Request]) -> list[Request]:
 PEOPLE = "people."
 
 
-def read_rights(journal: Database, name: str = "", facts: Facts | None = None) -> Rights:
+def read_rights(journal: Database, name: str = "", facts: StoreFacts | None = None) -> Rights:
     """Returns what the head has settled, for someone at a store."""
     found = {it["name"]: it["value"] for it in journal.all("SELECT name, value FROM setting")}
     return Rights(

@@ -8,7 +8,7 @@ from dataclasses import dataclass
 from datetime import UTC, datetime, timedelta
 from typing import Any
 
-from thesaurus_desk.journal.schema import Database, now, written
+from thesaurus_desk.journal.schema import Database, now, time_text
 
 # How long a run is named, and how many of them to its user.
 AGE, MOST = timedelta(days=2), 6
@@ -43,7 +43,7 @@ class Runs:
         """Notes a run that begins, and returns its name, which nobody guesses."""
         name = secrets.token_urlsafe(12)
         with self.journal.transaction() as rows:
-            rows.execute("DELETE FROM run WHERE at < ?", (written(datetime.now(UTC) - AGE),))
+            rows.execute("DELETE FROM run WHERE at < ?", (time_text(datetime.now(UTC) - AGE),))
             values = (name, user, now(), title, is_trial, size)
             rows.execute("INSERT INTO run VALUES (?, ?, ?, ?, ?, ?, 0, 'running', NULL, '')", values)
         return name

@@ -212,10 +212,10 @@ def journal_of(store: Path) -> Path:
 
 def now() -> str:
     """Returns the time in UTC, as the journal writes it."""
-    return written(datetime.now(UTC))
+    return time_text(datetime.now(UTC))
 
 
-def written(time: datetime) -> str:
+def time_text(time: datetime) -> str:
     """Returns a time in UTC as the journal writes it: texts of times have the order of the times."""
     return time.isoformat(timespec="milliseconds").replace("+00:00", "Z")
 
@@ -294,7 +294,7 @@ class Database:
         # (what an earlier desk had under way was cut short)
         self.rows.execute("UPDATE run SET state = 'cut' WHERE state = 'running'")
         self.rows.execute("DELETE FROM under_way")
-        self.rows.execute("DELETE FROM sent WHERE at < ?", (written(datetime.now(UTC) - SENT_FOR),))
+        self.rows.execute("DELETE FROM sent WHERE at < ?", (time_text(datetime.now(UTC) - SENT_FOR),))
         self.open_reader()
         self.mark = mark_of(self.path)
 
@@ -397,7 +397,7 @@ class Database:
             log.warning("%s: this isn't kept: %s", self.path, error)
 
     @contextlib.contextmanager
-    def at_one_moment(self) -> Iterator[None]:
+    def in_one_transaction(self) -> Iterator[None]:
         """Has several queries see nothing of what is written meanwhile."""
         with self.reading:
             is_outer = not self.reader.in_transaction

@@ -123,8 +123,8 @@ def inverses(step: Step) -> list[Request]:
 class Builder:
     """Builds a take-back request by request."""
 
-    def __init__(self, mirror: Replica, values: Values, plan: Plan, label: tuple[str, str] | None) -> None:
-        self.mirror, self.values, self.label = mirror, values, label
+    def __init__(self, replica: Replica, values: Values, plan: Plan, label: tuple[str, str] | None) -> None:
+        self.replica, self.values, self.label = replica, values, label
         # The values of fields, by their owners, as the requests so far leave them: tags and texts.
         self.held: dict[tuple[int, str], list[tuple[str, str]]] = {}
         self.made = TakeBack(plan)
@@ -169,7 +169,7 @@ class Builder:
             self.take_back_value(inverse_of(step.request))
         elif do == "post":
             number = answer.get("ok")
-            it = self.mirror.postings.get(number) if number else None
+            it = self.replica.postings.get(number) if number else None
             if it and not it.is_withdrawn:
                 self.add(*inverses(step))
         else:
@@ -181,7 +181,7 @@ class Builder:
         named = {it[name] for it in requests for name in NAMED if isinstance(it.get(name), int)}
         if step.request["do"] in OF_LABELS_AND_LINKS and named & self.ending:
             return
-        ended = sorted(it for it in named - self.back.keys() if not self.mirror.is_live(it))
+        ended = sorted(it for it in named - self.back.keys() if not self.replica.is_live(it))
         for number in ended:
             self.remark("has ended", number)
         if ended:
@@ -202,7 +202,7 @@ class Builder:
         elif owner in self.back:
             # (it comes back with the values that it ended with)
             self.add(request)
-        elif not self.mirror.is_live(owner):
+        elif not self.replica.is_live(owner):
             self.remark("has ended", owner)
         else:
             if (owner, field) not in self.held:
@@ -222,7 +222,7 @@ class Builder:
         now = self.list_now(*key)
         if (None if now is None else self.renamed(now)) != old:
             self.remark("value changed", request["owner"])
-        elif new and isinstance(new[0], int) and not self.mirror.is_live(new[0]) and request["field"] != ORDER:
+        elif new and isinstance(new[0], int) and not self.replica.is_live(new[0]) and request["field"] != ORDER:
             self.remark("end dead", new[0])
         else:
             self.set_list(*key, new)
@@ -262,9 +262,9 @@ class Builder:
         field = self.values.fields().get(value.field)
         if field is None or not field.is_unique:
             return False
-        scheme = getattr(self.mirror.get(value.owner), "scheme", None)
+        scheme = getattr(self.replica.get(value.owner), "scheme", None)
         holders = (it for it in self.values.holders(value.field, value.tag, value.text) if it != value.owner)
-        found = [it for it in holders if self.mirror.is_live(it) and self.mirror.resource(it).scheme == scheme]
+        found = [it for it in holders if self.replica.is_live(it) and self.replica.resource(it).scheme == scheme]
         for it in found:
             self.remark("value taken", it, value.text)
         return bool(found)
@@ -277,21 +277,21 @@ class Builder:
         while True:
             end = f"~{n}"
             tried = key[: LONGEST_KEY - len(end)] + end
-            if tried not in self.keys and self.mirror.postings.with_key(tried) is None:
+            if tried not in self.keys and self.replica.postings.with_key(tried) is None:
                 self.keys.add(tried)
                 return tried
             n += 1
 
     def take_back_withdrawal(self, step: Step) -> None:
         kept = step.kept or {}
-        if self.mirror.final(kept["place"]) is None and kept["place"] not in self.back:
+        if self.replica.final(kept["place"]) is None and kept["place"] not in self.back:
             self.remark("end dead", kept["place"], kept["record"])
             return
         self.add({"do": "post", "key": self.free_key(kept["key"]), "record": kept["record"], "concept": kept["place"]})
 
     def take_back_import(self, answer: dict[str, Any]) -> None:
         for number in range(answer.get("first") or 1, (answer.get("last") or 0) + 1):
-            it = self.mirror.postings.get(number)
+            it = self.replica.postings.get(number)
             if it and not it.is_withdrawn:
                 self.add({"do": "withdraw", "posting": number})
 
@@ -302,7 +302,7 @@ class Builder:
         in the commonest language."""
         if self.label:
             return self.label
-        places = {tag: place for place, tag in enumerate(self.mirror.languages())}
+        places = {tag: place for place, tag in enumerate(self.replica.languages())}
         preferred = [(tag, text) for kind, tag, text in kept["labels"] if kind == "pref"]
         preferred.sort(key=lambda it: places.get(it[0], len(places)))
         free = [it for it in preferred if self.is_free(kept["scheme"], *it)]
@@ -310,7 +310,7 @@ class Builder:
         return (free or preferred)[0]
 
     def is_free(self, scheme: int | None, tag: str, text: str) -> bool:
-        return self.mirror.holder(scheme, tag, text) is None
+        return self.replica.holder(scheme, tag, text) is None
 
     def give_labels(self, back: str, kept: dict[str, Any], first: tuple[str, str]) -> None:
         """Gives a concept that comes back its other labels and its notes."""
@@ -320,7 +320,7 @@ class Builder:
                 continue
             is_taken = kind == "pref" and (tag in tags or not self.is_free(kept["scheme"], tag, text))
             if is_taken:
-                self.remark("label taken", self.mirror.holder(kept["scheme"], tag, text), text)
+                self.remark("label taken", self.replica.holder(kept["scheme"], tag, text), text)
                 kind = "alt"
             tags |= {tag} if kind == "pref" else set()
             self.add(label_request("addLabel", back, (kind, tag, text)))
@@ -329,7 +329,7 @@ class Builder:
         """Gives a concept that comes back its links to what is live."""
         for kind, *ends in links:
             other = ends[0] if ends[1] == old else ends[1]
-            if not self.mirror.is_live(other):
+            if not self.replica.is_live(other):
                 self.remark("end dead", other)
                 continue
             self.add(link_request("link", (kind, *(back if it == old else it for it in ends))))
@@ -346,7 +346,7 @@ class Builder:
 
     def take_back_merge(self, step: Step) -> None:
         kept, source, target = step.kept or {}, step.request["source"], step.request["target"]
-        if not self.mirror.is_live(target):
+        if not self.replica.is_live(target):
             self.remark("end dead", target)
             return
         first = self.first_label(kept)
@@ -354,12 +354,12 @@ class Builder:
         split = {"do": "split", "source": target, "tag": first[0], "text": first[1], "postings": postings}
         back = self.add(split)
         self.remark("new number", source)
-        now = self.mirror.resource(target)
+        now = self.replica.resource(target)
         self.add(*(label_request("dropLabel", target, it) for it in kept["copied"] if tuple(it) in now.labels))
         had = {tuple(it) for it in kept["target"]["links"]}
         for kind, *ends in kept["links"]:
-            got = self.mirror.normal(Link(kind, *(target if it == source else it for it in ends)))
-            if got.a != got.b and tuple(got) not in had and self.mirror.has_link(got):
+            got = self.replica.normal(Link(kind, *(target if it == source else it for it in ends)))
+            if got.a != got.b and tuple(got) not in had and self.replica.has_link(got):
                 self.add(link_request("unlink", got))
         self.give_labels(back, kept, first)
         self.give_links(back, source, kept["links"])
@@ -369,7 +369,7 @@ class Builder:
     def returning(self, postings: list[int], source: int, target: int) -> Iterator[int]:
         """Yields the postings that go back: those that are still where the merge moved them."""
         for number in postings:
-            it = self.mirror.postings.get(number)
+            it = self.replica.postings.get(number)
             if it is None or it.is_withdrawn:
                 self.remark("withdrawn", number)
             elif not it.moves or it.moves[-1][1:] != (source, target):
@@ -379,15 +379,15 @@ class Builder:
 
 
 def take_back(
-    journal: Journal, mirror: Replica, plans: Sequence[Plan], label: tuple[str, str] | None = None
+    journal: Journal, replica: Replica, plans: Sequence[Plan], label: tuple[str, str] | None = None
 ) -> TakeBack:
     """Returns the plan that takes others back, the parts of a long one, by the store as it is now.
 
     `label` is for a concept that comes back. Without requests there is nothing to take back, or nothing that can be;
     the remarks say which."""
-    with mirror.reading():
-        builder = Builder(mirror, Values(journal), plans[0], label)
-        builder.made.rights = read_rights(journal, facts=mirror)
+    with replica.reading():
+        builder = Builder(replica, Values(journal), plans[0], label)
+        builder.made.rights = read_rights(journal, facts=replica)
         builder.own = {
             it.answer["ok"] for plan in plans for it in plan.steps if it.request["do"] in MAKING and it.answer
         }
@@ -400,16 +400,16 @@ def take_back(
                     builder.take_back(step)
         builder.rename_lists()
         made = builder.made
-        made.in_use = tuple(concepts_in_use(mirror, made.requests))
+        made.in_use = tuple(concepts_in_use(replica, made.requests))
     note_later(made, journal, plans)
     return made
 
 
-def concepts_in_use(mirror: Replica, requests: Sequence[Request]) -> Iterator[int]:
+def concepts_in_use(replica: Replica, requests: Sequence[Request]) -> Iterator[int]:
     """Yields the concepts that requests would end, and at which postings stay."""
     withdrawn = {it["posting"] for it in requests if it["do"] == "withdraw"}
     for number in (it["concept"] for it in requests if it["do"] == "deprecate"):
-        postings = (mirror.postings.get(it) for it in mirror.postings.numbers_at(number))
+        postings = (replica.postings.get(it) for it in replica.postings.numbers_at(number))
         if any(it is not None and not it.is_withdrawn and it.number not in withdrawn for it in postings):
             yield number
 

@@ -32,8 +32,8 @@ class ValueRules:
     BadSuperordinate, BadWithin, BadOrder (a collection can't be there, or have that in it); NestedRing (a collection
     would be within itself); BelowCandidate (a concept is approved, and one above it isn't)."""
 
-    def __init__(self, mirror: Replica, values: Values) -> None:
-        self.mirror, self.values = mirror, values
+    def __init__(self, replica: Replica, values: Values) -> None:
+        self.replica, self.values = replica, values
         self.fields = values.fields()
         # The kind and the scheme of what the plan has made, what it has ended, and values as it has left them.
         self.made: dict[int, tuple[str, int | None]] = {}
@@ -71,18 +71,18 @@ class ValueRules:
 
     def kind(self, number: int) -> str | None:
         """Returns the kind of a resource; None if there is none."""
-        return self.made[number][0] if number in self.made else self.mirror.kind(number)
+        return self.made[number][0] if number in self.made else self.replica.kind(number)
 
     def scheme(self, number: int) -> int | None:
         """Returns the scheme to which a resource belongs; a scheme belongs to itself."""
         if number in self.made:
             return self.made[number][1]
-        it = self.mirror.get(number)
+        it = self.replica.get(number)
         return None if it is None else number if it.kind == "scheme" else it.scheme
 
     def is_live(self, number: int) -> bool:
         """Whether a resource is in use."""
-        return number not in self.ended and (number in self.made or self.mirror.is_live(number))
+        return number not in self.ended and (number in self.made or self.replica.is_live(number))
 
     def values_of(self, owner: int, field: str) -> list[Value]:
         """Returns the values of a field of a resource, as the plan has left them."""
@@ -119,7 +119,7 @@ class ValueRules:
 
     def broader(self, number: int) -> set[int]:
         """Returns the broader concepts of a concept, as the plan has left them."""
-        found = self.mirror.get(number)
+        found = self.replica.get(number)
         now = {one for (low, one), is_there in self.above.items() if low == number and is_there}
         gone = {one for (low, one), is_there in self.above.items() if low == number and not is_there}
         return (set(found.broader) if found and number not in self.made else set()) - gone | now

@@ -87,7 +87,7 @@ class Candidate:
 
 
 @dataclass
-class Around:
+class NeighbourStems:
     """The stems of the terms of what is broader and narrower than a concept here."""
 
     above: set[str]
@@ -139,18 +139,18 @@ class Finder:
                 if is_near(row[4], folded):
                     yield row[:4]
 
-    def around(self, it: Resource) -> Around:
+    def around(self, it: Resource) -> NeighbourStems:
         """Returns what is around a concept here."""
         above = {own.stems for number in it.broader for own in self.terms(number)}
         below = {own.stems for number in sorted(it.narrower)[:MOST_BELOW] for own in self.terms(number)}
-        return Around(above, below)
+        return NeighbourStems(above, below)
 
     def terms(self, number: int) -> list[OwnLabel]:
         """Returns the preferred terms of a concept, which are read with those of its neighbours."""
         self.replica.look_at([number])
-        return [OwnLabel("pref", tag, text) for tag, text, _ in self.replica.moment.terms[number]]
+        return [OwnLabel("pref", tag, text) for tag, text, _ in self.replica.transaction.terms[number]]
 
-    def rated(self, entry: int, agreements: list[Agreement], around: Around) -> Candidate | None:
+    def rated(self, entry: int, agreements: list[Agreement], around: NeighbourStems) -> Candidate | None:
         """Returns an entry as a candidate; None if it isn't in use there."""
         row = next(iter(self.vocabularies.all("SELECT iri, state FROM entry WHERE id = ?", entry)), None)
         if row is None or row[1] != CURRENT:

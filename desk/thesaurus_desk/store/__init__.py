@@ -30,7 +30,7 @@
   upkeep             keeps the replica that of its store: at the start, and after each plan
   public_view        which concepts the public doesn't see, and the hierarchy without them
   digest             a digest of all rows, by which an earlier state of the store is known again
-  exported           a replica of an export, for what only reads
+  export_replica     a replica of an export, for what only reads
   copies             copies of the store, from which the program makes what it alone can make
   snapshot           all files of a desk as they are at one moment, and the socket by which tools get them
   release_export     the export of a release: of one moment, while others read and change the store

@@ -18,33 +18,33 @@ class Arrays:
         # With the last plan and the version of the replica of which they were made.
         self.kept: WeakKeyDictionary[Replica, tuple[tuple[int, int], Places[int]]] = WeakKeyDictionary()
 
-    def now(self, mirror: Replica) -> Places[int]:
+    def now(self, replica: Replica) -> Places[int]:
         """Returns the places as they are now."""
-        state = self.journal.last_plan(), mirror.version
-        found = self.kept.get(mirror)
+        state = self.journal.last_plan(), replica.version
+        found = self.kept.get(replica)
         if found is None or found[0] != state:
             rows = ((it.owner, it.field, it.text) for it in self.values.places())
-            with mirror.reading():
-                found = state, places_of_values(rows, mirror.final)
-            self.kept[mirror] = found
+            with replica.reading():
+                found = state, places_of_values(rows, replica.final)
+            self.kept[replica] = found
         return found[1]
 
 
-def parts_of(mirror: Replica, places: Places[int], number: int, langs: Sequence[str]) -> list[int]:
+def parts_of(replica: Replica, places: Places[int], number: int, langs: Sequence[str]) -> list[int]:
     """Returns what is in a collection, its members and the collections within it, in its order; what has no place in
     that comes last, by its term."""
-    view = mirror.view(number)
+    view = replica.view(number)
     members = view.members if view is not None else ()
-    return places.in_order(number, mirror.ordered([*places.inner.get(number, ()), *members], langs))
+    return places.in_order(number, replica.ordered([*places.inner.get(number, ()), *members], langs))
 
 
-def below(mirror: Replica, places: Places[int], concept: int, langs: Sequence[str]) -> list[int]:
+def numbers_below(replica: Replica, places: Places[int], concept: int, langs: Sequence[str]) -> list[int]:
     """Returns what a tree has below a concept: its arrays, and the narrower concepts that are in none of these."""
-    narrower = mirror.branch(concept)
+    narrower = replica.branch(concept)
     arrays = places.arrays.get(concept)
     if not arrays:
-        return mirror.ordered(narrower, langs)
-    views = (mirror.view(it) for it in arrays)
+        return replica.ordered(narrower, langs)
+    views = (replica.view(it) for it in arrays)
     within = {member for view in views if view is not None for member in view.members}
-    labels = mirror.ordered(places.directly_below(concept), langs)
-    return [*labels, *mirror.ordered((it for it in narrower if it not in within), langs)]
+    labels = replica.ordered(places.directly_below(concept), langs)
+    return [*labels, *replica.ordered((it for it in narrower if it not in within), langs)]

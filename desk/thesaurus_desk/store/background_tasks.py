@@ -10,7 +10,7 @@ log = logging.getLogger("desk")
 PACE, LAST_WAIT = 1.0, 5.0
 
 
-class Chore(threading.Thread):
+class BackgroundTask(threading.Thread):
     """Something that is done whenever it is due, by a thread of its own."""
 
     def __init__(self, name: str, do: Callable[[], None]) -> None:

@@ -10,7 +10,7 @@ from datetime import time as Hour
 from pathlib import Path
 from typing import TYPE_CHECKING
 
-from thesaurus_desk.journal.schema import written
+from thesaurus_desk.journal.schema import time_text
 from thesaurus_desk.store.copies import StoreBusy
 from thesaurus_desk.store.snapshot import copy_all
 from thesaurus_tools.backups import Backups, StoreName, check_copy, is_of, time_of, write_sign
@@ -61,7 +61,7 @@ class DeskBackups:
         """Returns the backups of this store that are there, the newest first."""
         folder, stem = Backups(self.settings.folder), self.desk.db.stem
         found = folder.named(stem) if self.settings.folder.is_dir() else []
-        return [Backup(it, written(time_of(it.name, stem))) for it in reversed(found) if is_of(it, self.name())]
+        return [Backup(it, time_text(time_of(it.name, stem))) for it in reversed(found) if is_of(it, self.name())]
 
     def make(self) -> Path:
         """Makes a backup, and returns its folder. Raises ToolError and StoreBusy, which are noted, too."""
@@ -110,4 +110,4 @@ class DeskBackups:
         due = datetime.combine(now.date(), self.settings.hour).astimezone()
         due = due if due <= now else datetime.combine(now.date() - timedelta(1), self.settings.hour).astimezone()
         last = next(iter(self.all()), None)
-        return last is None or last.at < written(due.astimezone(UTC))
+        return last is None or last.at < time_text(due.astimezone(UTC))

@@ -6,7 +6,7 @@ from dataclasses import dataclass
 from datetime import UTC, datetime, timedelta
 
 from thesaurus_desk.journal.entries import Journal
-from thesaurus_desk.journal.schema import now, written
+from thesaurus_desk.journal.schema import now, time_text
 from thesaurus_desk.store.replica import Replica
 
 # The most concepts and the most postings of which the records are counted for a page.
@@ -53,7 +53,7 @@ class BelowCounts:
 
     def state(self) -> str:
         """Returns what is another text once postings or links have changed."""
-        return " ".join(str(self.replica.moment.versions[it]) for it in PARTS)
+        return " ".join(str(self.replica.transaction.versions[it]) for it in PARTS)
 
     def count(self, concept: int) -> None:
         """Counts the records of a concept with those of the concepts below it, and keeps their number. Raises
@@ -69,7 +69,7 @@ class BelowCounts:
     def bring_up(self) -> None:
         """Counts anew for one concept that somebody has asked for, if nothing was changed for a while."""
         last = self.journal.one("SELECT max(at) FROM ended")
-        if last and last[0] and last[0] > written(datetime.now(UTC) - IDLE):
+        if last and last[0] and last[0] > time_text(datetime.now(UTC) - IDLE):
             return
         with self.replica.reading():
             query = "SELECT concept FROM below_count WHERE state <> ? ORDER BY at LIMIT 1"

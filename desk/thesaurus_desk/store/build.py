@@ -5,7 +5,7 @@ import sqlite3
 from collections import Counter
 from pathlib import Path
 
-from thesaurus_desk.store.difference import attached
+from thesaurus_desk.store.difference import attach_store
 from thesaurus_desk.store.digest import digest_of_rows, write_digest
 from thesaurus_desk.store.public_view import build_public_view
 from thesaurus_desk.store.schema import (
@@ -42,7 +42,7 @@ def build(rows: sqlite3.Connection, store: Path) -> None:
     rows.create_function("fold", 1, fold, deterministic=True)
     rows.create_function("sort_text", 1, sort_text, deterministic=True)
     try:
-        with attached(rows, store):
+        with attach_store(rows, store):
             rows.execute("BEGIN IMMEDIATE")
             try:
                 fill(rows)

@@ -7,7 +7,7 @@ from typing import NoReturn
 from thesaurus_desk.journal import History, Journal, Plan, journal_of
 from thesaurus_desk.journal.batches import Batches
 from thesaurus_desk.journal.daily_counts import DailyCounts
-from thesaurus_desk.journal.edit_conflicts import Seen
+from thesaurus_desk.journal.edit_conflicts import FormMarks
 from thesaurus_desk.journal.proposals import Proposals
 from thesaurus_desk.journal.queue import Queue
 from thesaurus_desk.journal.record_texts import RecordTexts
@@ -49,7 +49,7 @@ class DeskReader:
         self.public = PublicReplica(journal.path)
         self.daily_counts = DailyCounts(journal, lambda: count_quality(self.replica))
         self.suggester = Suggester(self.replica)
-        self.seen = Seen(self.replica, journal)
+        self.seen = FormMarks(self.replica, journal)
         self.vocabularies = Vocabularies(vocabularies_of(db))
         self.decisions = Decisions(journal, self.vocabularies)
         self.replica.names = self.public.names = self.decisions.names

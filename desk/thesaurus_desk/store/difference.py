@@ -62,7 +62,7 @@ def mark_of_log(log: Path) -> tuple[Any, ...] | None:
 
 
 @contextlib.contextmanager
-def attached(rows: sqlite3.Connection, store: Path) -> Iterator[None]:
+def attach_store(rows: sqlite3.Connection, store: Path) -> Iterator[None]:
     """Attaches a store that no program has open as `store`: itself, unless its log holds what it lacks, then a copy of
     both. Neither of its files changes. Raises ToolError for tables of another version."""
     log = Path(f"{store}-wal")

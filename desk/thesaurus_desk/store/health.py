@@ -13,7 +13,7 @@ from functools import cache
 from pathlib import Path
 from typing import TYPE_CHECKING
 
-from thesaurus_desk.journal.schema import Database, now, written
+from thesaurus_desk.journal.schema import Database, now, time_text
 from thesaurus_desk.store.backups import DeskBackups
 from thesaurus_desk.store.program import Fault, NoAnswer
 
@@ -52,7 +52,7 @@ class Errors(logging.Handler):
                     values = at, text.encode(errors="replace").decode()
                     rows.execute("INSERT INTO error (at, text) VALUES (?, ?)", values)
                     rows.execute("DELETE FROM error WHERE id <= (SELECT max(id) FROM error) - ?", (MOST_ERRORS,))
-                    rows.execute("DELETE FROM error WHERE at < ?", (written(datetime.now(UTC) - AGE_OF_ERRORS),))
+                    rows.execute("DELETE FROM error WHERE at < ?", (time_text(datetime.now(UTC) - AGE_OF_ERRORS),))
             except sqlite3.Error:
                 return
             self.new.popleft()

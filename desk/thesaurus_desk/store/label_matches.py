@@ -8,7 +8,7 @@ from collections.abc import Iterator, Sequence
 from dataclasses import dataclass, field
 from math import sqrt
 
-from thesaurus_desk.store.read_transactions import Moments
+from thesaurus_desk.store.read_transactions import ReadTransactions
 from thesaurus_desk.store.text_keys import WORD, fold
 from thesaurus_tools.stems import ALL_SMALL, SMALL_WORDS, forms, language_of, stem
 
@@ -80,7 +80,7 @@ def part_of(text: str, weight: float) -> Part:
 class LabelMatcher:
     """Finds terms in texts."""
 
-    def __init__(self, store: Moments) -> None:
+    def __init__(self, store: ReadTransactions) -> None:
         self.store = store
 
     def find(self, title: str, text: str) -> list[LabelMatch]:

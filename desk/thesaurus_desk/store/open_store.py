@@ -14,7 +14,7 @@ from pathlib import Path
 from thesaurus_desk.importing.posting_files import resume
 from thesaurus_desk.journal import Journal, journal_of
 from thesaurus_desk.journal.entries import Plan, write_digest
-from thesaurus_desk.journal.recovery import Found, explained_by, note_changes, start
+from thesaurus_desk.journal.recovery import StartReport, explained_by, note_changes, start
 from thesaurus_desk.journal.schema import FileReplaced
 from thesaurus_desk.journal.values import owners_of_statuses
 from thesaurus_desk.store.changes import Change, WrongChange
@@ -96,7 +96,7 @@ class OpenStore(DeskReader):
         self.log = Path(f"{db}-wal")
         self.store_mark, self.log_mark = "", mark_of_log(self.log)
         # What was found at the start, and each time when the store was opened again.
-        self.found = Found()
+        self.found = StartReport()
         self.copies = Copies(self)
         # Whether the store is being opened, and not before when that is tried again.
         self.is_opening, self.not_before = False, 0.0
@@ -259,7 +259,7 @@ class OpenStore(DeskReader):
         if not is_same:
             raise FileReplaced(self.db, "StoreReplaced")
 
-    def settle(self, differing: frozenset[int] | None) -> Found:
+    def settle(self, differing: frozenset[int] | None) -> StartReport:
         """Settles what the journal has open by looking at the replica, and notes what no plan explains."""
         found = start(self.journal, self.replica, differing)
         with self.journal.writing() as rows:

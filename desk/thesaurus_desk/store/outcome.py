@@ -6,7 +6,7 @@ from collections.abc import Iterable
 from typing import Any
 
 from thesaurus_desk.store.changes import ENDS, PLACES, Change
-from thesaurus_desk.store.read_transactions import Moments
+from thesaurus_desk.store.read_transactions import ReadTransactions
 from thesaurus_desk.store.schema import COLUMNS, EMPTY
 
 # What is so after a plan, and wasn't before: a test of a row, and whether it finds one.
@@ -37,7 +37,7 @@ def facts_of(changes: Iterable[Change]) -> Facts:
     return facts
 
 
-def holds(replica: Moments, fact: tuple[Any, ...]) -> bool:
+def holds(replica: ReadTransactions, fact: tuple[Any, ...]) -> bool:
     """Whether there is a row, or a resource or posting is in a state."""
     name, *cells = fact
     if name in STATE:
@@ -46,7 +46,7 @@ def holds(replica: Moments, fact: tuple[Any, ...]) -> bool:
     return replica.one(f"SELECT 1 FROM {name} WHERE {same}", *cells) is not None
 
 
-def look_for(replica: Moments, changes: Iterable[Change]) -> str:
+def look_for(replica: ReadTransactions, changes: Iterable[Change]) -> str:
     """Returns whether changes were made: done, lost (none of them), or unknown (some). Without changes it's lost, since
     nothing was to be done."""
     found = {holds(replica, fact) is is_so for fact, is_so in facts_of(changes).items()}

@@ -6,11 +6,11 @@ import logging
 import sqlite3
 from collections.abc import Iterable, Iterator, Sequence
 
-from thesaurus_desk.importing.posting_files import Brought, bring_in
-from thesaurus_desk.journal import Accepted, Answer, Batch, Draft, Plan, Request, Step
-from thesaurus_desk.journal.batches import packed
+from thesaurus_desk.importing.posting_files import PostingImport, bring_in
+from thesaurus_desk.journal import Acceptance, Answer, Batch, Draft, Plan, Request, Step
+from thesaurus_desk.journal.batches import pack
 from thesaurus_desk.journal.recovery import changed_by, mark_steps
-from thesaurus_desk.journal.references import resolved
+from thesaurus_desk.journal.references import resolve_request
 from thesaurus_desk.journal.schema import fault_of
 from thesaurus_desk.journal.undo import TakeBack
 from thesaurus_desk.journal.value_rules import ValueRules
@@ -57,7 +57,7 @@ class Desk(OpenStore):
         requests: Sequence[Request],
         *,
         seen: Iterable[str] = (),
-        accepted: Accepted | None = None,
+        accepted: Acceptance | None = None,
         takes_back: int | None = None,
         may_cut: bool = False,
         batch: Batch | None = None,
@@ -81,7 +81,7 @@ class Desk(OpenStore):
             for first in range(0, len(requests), LONGEST_PLAN):
                 # (what an earlier part made has its number by now)
                 names = [*whole.numbers(), *(f"${place}" for place in range(1, LONGEST_PLAN + 1))]
-                steps = [Step(resolved(it, names)) for it in requests[first : first + LONGEST_PLAN]]
+                steps = [Step(resolve_request(it, names)) for it in requests[first : first + LONGEST_PLAN]]
                 before = whole.plan or (batch.plan if batch else None)
                 is_first = batch if batch and not batch.plan else None
                 lines = batch.lines if batch else ()
@@ -184,7 +184,7 @@ class Desk(OpenStore):
         changed: set[int] = set()
         for step in outcome.steps:
             if step.state == "done":
-                step.request = resolved(step.request, numbers)
+                step.request = resolve_request(step.request, numbers)
                 changed |= self.values.changed_by(step.request, self.without_rows(step.request))
             elif outcome.state == "lost":
                 step.state = "lost"
@@ -216,7 +216,7 @@ class Desk(OpenStore):
             self.settle_outcome(outcome, changes)
         numbers = outcome.numbers()
         for step in outcome.steps:
-            step.request = resolved(step.request, numbers)
+            step.request = resolve_request(step.request, numbers)
         self.note_differences(differing, [Plan(outcome.plan or 0, "", "", "", outcome.state, outcome.steps)])
         # (the replica has its changes)
         self.write(outcome, changed_by(outcome.steps, self.values), ())
@@ -251,7 +251,7 @@ class Desk(OpenStore):
         plan, requests = back.plan.id, back.requests
         if len(requests) <= LONGEST_PLAN:
             return self.perform(user, TAKE_BACK, requests, takes_back=plan)
-        return self.take_back_in_parts(user, plan, Batch("", "", len(requests), packed(requests)), requests)
+        return self.take_back_in_parts(user, plan, Batch("", "", len(requests), pack(requests)), requests)
 
     def go_on_taking_back(self, user: str, batch: Batch, requests: Sequence[Request]) -> Outcome:
         """Takes the rest of a plan back, where that was cut short; `requests` are those for all of it."""
@@ -263,7 +263,7 @@ class Desk(OpenStore):
         rest = requests[len(done) :]
         numbers = [(it.answer or {}).get("ok") for it in done]
         names = [*numbers, *(f"${place}" for place in range(1, len(rest) + 1))]
-        return self.take_back_in_parts(user, first.takes_back, batch, [resolved(it, names) for it in rest])
+        return self.take_back_in_parts(user, first.takes_back, batch, [resolve_request(it, names) for it in rest])
 
     def take_back_in_parts(self, user: str, plan: int, batch: Batch, requests: Sequence[Request]) -> Outcome:
         """Performs requests that take a plan back, as one entry of the journal."""
@@ -275,13 +275,13 @@ class Desk(OpenStore):
         finally:
             self.batches.left(batch)
 
-    def bring_in(self, user: str, rows: bytes, name: str) -> Brought:
+    def bring_in(self, user: str, rows: bytes, name: str) -> PostingImport:
         """Imports a posting file. Pages are there meanwhile; other changes wait."""
         with self.alone() as is_free:
             if fault := self.fault_of_now(is_free):
-                return Brought("fault", answer={"fault": fault})
+                return PostingImport("fault", answer={"fault": fault})
             with self.compared_if_broken_off():
                 return bring_in(self, user, rows, name)
 
 
-__all__ = ["Brought", "Desk", "Outcome", "TakeBack"]
+__all__ = ["PostingImport", "Desk", "Outcome", "TakeBack"]

@@ -6,7 +6,7 @@ from dataclasses import dataclass, field
 
 from thesaurus_desk.journal import Answer, Request, Step
 from thesaurus_desk.journal.edit_conflicts import Conflict
-from thesaurus_desk.journal.references import resolved
+from thesaurus_desk.journal.references import resolve_request
 from thesaurus_desk.store.changes import Change
 from thesaurus_desk.store.program import Program
 
@@ -68,7 +68,7 @@ def requests_for(steps: Sequence[Step]) -> tuple[list[Step], list[Request]]:
         known = it.foreseen or {}
         same = names[known["same"] - 1] if "same" in known else known.get("ok")
         names.append(same if known.get("known") else f"${places.get(id(it), 0)}")
-    return left, [resolved(it.request, names) for it in left]
+    return left, [resolve_request(it.request, names) for it in left]
 
 
 def send(program: Program, outcome: Outcome) -> list[Change]:

@@ -6,7 +6,7 @@ from collections.abc import Iterable, Iterator, Sequence
 from typing import Any
 
 from thesaurus_desk.store.model import Posting
-from thesaurus_desk.store.read_transactions import Moments, Row
+from thesaurus_desk.store.read_transactions import ReadTransactions, Row
 from thesaurus_desk.store.search import MOST_WEIGHED
 from thesaurus_desk.store.text_keys import LAST, fold
 
@@ -22,7 +22,7 @@ AT_BELOW = (
 class Postings:
     """All postings, withdrawn ones among them."""
 
-    def __init__(self, store: Moments) -> None:
+    def __init__(self, store: ReadTransactions) -> None:
         self.store = store
 
     def made_of(self, rows: Sequence[Row]) -> list[Posting]:

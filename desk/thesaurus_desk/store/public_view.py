@@ -64,11 +64,11 @@ def show_to_public(rows: sqlite3.Connection) -> None:
 
 def build_public_view(rows: sqlite3.Connection) -> None:
     """Makes the tables of what the public sees of a new replica."""
-    rows.executemany("INSERT INTO hidden VALUES (?)", [(it,) for it in wanted(rows)])
+    rows.executemany("INSERT INTO hidden VALUES (?)", [(it,) for it in concepts_to_hide(rows)])
     write_places(rows, [it for it, in rows.execute("SELECT DISTINCT a FROM hier").fetchall()])
 
 
-def wanted(rows: sqlite3.Connection) -> set[int]:
+def concepts_to_hide(rows: sqlite3.Connection) -> set[int]:
     """Returns the concepts that are to be hidden."""
     if not rows.execute("SELECT 1 FROM sqlite_schema WHERE name = 'value'").fetchone():
         return set()
@@ -79,10 +79,14 @@ def update_public_view(rows: sqlite3.Connection, linked: Collection[int], owners
     """Brings what the public sees up to what was changed: the concepts with other links to broader or narrower ones,
     and those whose statuses may be others; None: any."""
     known = None if owners is None else set(owners)
-    asked = wanted(rows) ^ {it for it, in rows.execute("SELECT num FROM hidden").fetchall()} if known is None else known
+    asked = (
+        concepts_to_hide(rows) ^ {it for it, in rows.execute("SELECT num FROM hidden").fetchall()}
+        if known is None
+        else known
+    )
     changed = [it for it in asked if write_hidden(rows, it)]
     if changed or linked:
-        write_places(rows, below(rows, {*linked, *changed}))
+        write_places(rows, numbers_below(rows, {*linked, *changed}))
     if known != set():
         names = ("version", *PARTS) if changed else ("version", "statuses")
         rows.executemany("UPDATE replica SET value = value + 1 WHERE name = ?", [(it,) for it in names])
@@ -99,7 +103,7 @@ def write_hidden(rows: sqlite3.Connection, number: int) -> bool:
     return is_hidden != was_hidden
 
 
-def below(rows: sqlite3.Connection, numbers: Iterable[int]) -> list[int]:
+def numbers_below(rows: sqlite3.Connection, numbers: Iterable[int]) -> list[int]:
     """Returns concepts, and those whose broader ones depend on them."""
     return [it[0] for it in rows.execute(BELOW, (json.dumps(sorted(numbers)),)).fetchall()]
 

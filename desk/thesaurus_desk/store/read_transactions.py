@@ -15,7 +15,7 @@ from thesaurus_desk.store.schema import PARTS
 P = ParamSpec("P")
 R = TypeVar("R")
 V = TypeVar("V")
-M = TypeVar("M", bound="Moments")
+M = TypeVar("M", bound="ReadTransactions")
 Row = tuple[Any, ...]
 # How many values are kept until what they are made of changes.
 MOST_KEPT = 2000
@@ -26,7 +26,7 @@ CACHE, MAPPED = 8_000, 2_147_418_112
 
 
 @dataclass(slots=True)
-class Moment:
+class ReadTransaction:
     """What a thread has read of one moment of the replica."""
 
     # How often each part was changed.
@@ -53,15 +53,15 @@ class Local(threading.local):
     rows: sqlite3.Connection | None = None
     # Which opening of the replica the connection is of.
     opening = 0
-    moment: Moment | None = None
+    transaction: ReadTransaction | None = None
 
 
-def at_one_moment(method: Callable[Concatenate[M, P], R]) -> Callable[Concatenate[M, P], R]:
+def in_one_transaction(method: Callable[Concatenate[M, P], R]) -> Callable[Concatenate[M, P], R]:
     """Has a method see one moment: that of its caller, if it has one."""
 
     @wraps(method)
     def reading(self: M, /, *args: P.args, **named: P.kwargs) -> R:
-        if self.local.moment is not None:
+        if self.local.transaction is not None:
             return method(self, *args, **named)
         with self.reading():
             return method(self, *args, **named)
@@ -81,7 +81,7 @@ def connect(path: Path) -> sqlite3.Connection:
     return rows
 
 
-class Moments:
+class ReadTransactions:
     """The replica's file as threads read it."""
 
     def __init__(self, path: Path) -> None:
@@ -99,7 +99,7 @@ class Moments:
         """Returns the connection of the thread."""
         it = self.local
         if it.rows is None or it.opening != self.opening:
-            it.rows, it.opening, it.moment = self.connect(), self.opening, None
+            it.rows, it.opening, it.transaction = self.connect(), self.opening, None
             with self.lock:
                 self.opened.append(it.rows)
         return it.rows
@@ -143,7 +143,7 @@ class Moments:
         """Returns the first values of the rows that a query finds."""
         return [it[0] for it in self.all(query, *values)]
 
-    # --- moments ---
+    # --- transactions ---
 
     @contextlib.contextmanager
     def reading(self) -> Iterator[None]:
@@ -162,45 +162,45 @@ class Moments:
         """Begins a moment of the thread."""
         rows = self.connection()
         rows.execute("BEGIN")
-        self.local.moment = Moment(
+        self.local.transaction = ReadTransaction(
             dict(rows.execute("SELECT name, value FROM replica WHERE name NOT IN ('mark', 'digest')").fetchall())
         )
         return rows
 
     def end(self) -> None:
         """Ends the moment of the thread."""
-        self.local.moment = None
+        self.local.transaction = None
         if self.local.rows is not None and self.local.rows.in_transaction:
             self.local.rows.execute("COMMIT")
 
     def renew(self) -> None:
         """Has the thread see what was changed since its moment began, if it has one."""
-        if self.local.moment is not None:
+        if self.local.transaction is not None:
             self.end()
             self.begin()
 
     @property
     def is_reading(self) -> bool:
         """Whether the thread sees one moment of the replica."""
-        return self.local.moment is not None and self.local.opening == self.opening
+        return self.local.transaction is not None and self.local.opening == self.opening
 
     @property
     def version(self) -> int:
         """What is another number after each plan that changes something."""
         with self.reading():
-            return self.moment.versions["version"]
+            return self.transaction.versions["version"]
 
     @property
-    def moment(self) -> Moment:
-        """The moment of the thread, within `reading`."""
-        assert self.local.moment is not None
-        return self.local.moment
+    def transaction(self) -> ReadTransaction:
+        """The transaction of the thread, within `reading`."""
+        assert self.local.transaction is not None
+        return self.local.transaction
 
     def once(self, name: Any, make: Callable[[], V], parts: tuple[str, ...] = PARTS) -> V:
         """Returns what a function makes, which is kept until one of the parts of the store changes that it is made
         of."""
         with self.reading():
-            made_of = tuple(self.moment.versions[it] for it in parts)
+            made_of = tuple(self.transaction.versions[it] for it in parts)
             found = self.kept.get(name)
             if found is None or found[0] != made_of:
                 if len(self.kept) >= MOST_KEPT:

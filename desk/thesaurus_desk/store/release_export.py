@@ -6,10 +6,10 @@ from collections.abc import Iterator
 from dataclasses import dataclass
 from typing import Any
 
-from thesaurus_desk.interfaces.linked_data import exported
+from thesaurus_desk.interfaces.linked_data import numbers_of_export
 from thesaurus_desk.interfaces.source import Source
 from thesaurus_desk.journal.history import Dates, History
-from thesaurus_desk.journal.past import JournalAtMoment
+from thesaurus_desk.journal.past_replica import JournalSnapshot
 from thesaurus_desk.journal.releases import new_release, pieces_of
 from thesaurus_desk.journal.values import Values, set_request
 from thesaurus_desk.store.plan_execution import Desk
@@ -18,22 +18,22 @@ from thesaurus_desk.store.replica import Replica
 from thesaurus_tools.arrays import places_of_values
 from thesaurus_tools.fields import RELEASE, in_rdf
 from thesaurus_tools.public_values import PublicValue
-from thesaurus_tools.rdf_writing import write_ntriples
+from thesaurus_tools.rdf_writer import write_ntriples
 from thesaurus_tools.release_changes import changes_of_lines
 
 
 @dataclass(frozen=True)
-class FrozenSource:
+class ReleaseSource:
     """What an export is made of at the moment of a replica, and the last plan before."""
 
     source: Source
     plan: int
 
 
-def frozen_source(replica: Replica, name: str, day: str) -> FrozenSource:
+def frozen_source(replica: Replica, name: str, day: str) -> ReleaseSource:
     """Returns what a release with a name and a day is made of, within `replica.reading()`: all values and dates are
     read at once."""
-    journal: Any = JournalAtMoment(replica)
+    journal: Any = JournalSnapshot(replica)
     values, dates = Values(journal), History(journal).all_dates()
     before = values.stated_dates()
     public = in_rdf(values.fields())
@@ -57,13 +57,13 @@ def frozen_source(replica: Replica, name: str, day: str) -> FrozenSource:
         places=lambda: places,
         edition=lambda: (name, day),
     )
-    return FrozenSource(source, int(last[0]))
+    return ReleaseSource(source, int(last[0]))
 
 
 def release_lines(source: Source) -> Iterator[str]:
     """Yields the N-Triples of all that everybody sees."""
-    for number in exported(source, None):
-        yield from write_ntriples(source.triples(number), source.mirror().base)
+    for number in numbers_of_export(source, None):
+        yield from write_ntriples(source.triples(number), source.replica().base)
 
 
 def make_release(desk: Desk, user: str, name: str, day: str, note: str) -> Outcome:

@@ -8,11 +8,11 @@ from pathlib import Path
 from thesaurus_desk.store.model import Hit, Term
 from thesaurus_desk.store.postings import Postings
 from thesaurus_desk.store.public_view import show_to_public
-from thesaurus_desk.store.read_transactions import at_one_moment
+from thesaurus_desk.store.read_transactions import in_one_transaction
 from thesaurus_desk.store.resources import Resources
 from thesaurus_desk.store.schema import KINDS
 from thesaurus_desk.store.search import MOST_SHOWN, MOST_WEIGHED, has_parts
-from thesaurus_desk.store.search import BY_TEXT, COLUMNS, Asked, Search, entry_of
+from thesaurus_desk.store.search import BY_TEXT, COLUMNS, LabelFilter, Search, entry_of
 from thesaurus_desk.store.text_keys import has_language
 from thesaurus_desk.store.text_keys import LAST, fold
 from thesaurus_tools.table_store import TableStore
@@ -105,7 +105,7 @@ class Replica(Resources):
 
     def holder(self, scheme: int | None, tag: str, text: str) -> int | None:
         """Returns the live concept of a scheme that has a preferred label."""
-        for _, number, kind, its_tag, its_text in self.index.same(text, Asked(live=True)):
+        for _, number, kind, its_tag, its_text in self.index.same(text, LabelFilter(live=True)):
             head = self.head(number)
             if (kind, its_tag, its_text) == ("pref", tag.lower(), text) and head and head[2] == scheme:
                 return number
@@ -114,11 +114,11 @@ class Replica(Resources):
     def named(self, text: str, kinds: Sequence[str] = ("concept",), live: bool | None = None) -> list[Hit]:
         """Returns resources that have a label with the same folded text."""
         found: dict[int, Hit] = {}
-        for entry in self.index.same(text, Asked(kinds, live=live)):
+        for entry in self.index.same(text, LabelFilter(kinds, live=live)):
             found.setdefault(entry[1], Hit(*entry[1:]))
         return list(found.values())
 
-    @at_one_moment
+    @in_one_transaction
     def search(
         self,
         query: str,
@@ -136,7 +136,7 @@ class Replica(Resources):
         `lang` leaves out labels in other languages; `prefer` only puts those of a language first. Old codes are
         hidden labels. `weigh` bounds the labels that are looked at."""
         query = query.strip()
-        found = self.index.find(query, Asked(kinds, scheme, live, lang), prefer, most, weigh)
+        found = self.index.find(query, LabelFilter(kinds, scheme, live, lang), prefer, most, weigh)
         plain = query.removeprefix("#")
         number = int(plain) if plain.isascii() and plain.isdigit() and len(plain) < 11 else self.by_iri(query)
         it = self.head(number or 0)
@@ -147,14 +147,14 @@ class Replica(Resources):
 
     # --- lists of terms ---
 
-    @at_one_moment
+    @in_one_transaction
     def beginning(self, letter: str, lang: str, scheme: int | None = None) -> list[Hit]:
         """Returns the preferred and alternative terms of live concepts that begin with a letter, in their order."""
         query = f"SELECT {COLUMNS} {LISTED} AND (?4 IS NULL OR r.scheme = ?4)"
         rows = (it for tag in self.tags_of(lang) for it in self.all(query, tag, letter, letter + LAST, scheme))
         return [Hit(*it[1:]) for it in sorted(map(entry_of, rows))]
 
-    @at_one_moment
+    @in_one_transaction
     def count_beginning(self, letter: str, lang: str) -> int:
         """Returns how many terms `beginning` returns."""
 
@@ -163,7 +163,7 @@ class Replica(Resources):
 
         return self.once(("beginning", letter, lang), count, ("labels", "resources"))
 
-    @at_one_moment
+    @in_one_transaction
     def page_beginning(self, letter: str, lang: str, page: int, size: int) -> list[Hit]:
         """Returns a page of what `beginning` returns; pages count from 0."""
         tags = self.tags_of(lang)
@@ -178,7 +178,7 @@ class Replica(Resources):
         query = f"SELECT 1 {LISTED} AND (?4 IS NULL OR r.scheme = ?4) LIMIT 1"
         return any(self.one(query, it, letter, letter + LAST, scheme) for it in self.tags_of(lang))
 
-    @at_one_moment
+    @in_one_transaction
     def matching(
         self, pattern: str, *, scheme: int | None = None, lang: str | None = None, kinds: Sequence[str] = ("concept",)
     ) -> list[Hit]:
@@ -187,16 +187,16 @@ class Replica(Resources):
         if not pattern.strip("* "):
             return []
         parts = [fold(it) for it in pattern.split("*")]
-        found = self.index.all(Asked(kinds, scheme, True, lang), parts[0])
+        found = self.index.all(LabelFilter(kinds, scheme, True, lang), parts[0])
         return [Hit(*it[1:]) for it in found if has_parts(parts, it[0])]
 
-    @at_one_moment
+    @in_one_transaction
     def containing(self, text: str, most: int = MOST_SHOWN) -> list[Hit]:
         """Returns resources with a term, an old code or a scope note that contains a text, also within a word: each
         once, terms first."""
         return self.index.find_within(text, most)
 
-    @at_one_moment
+    @in_one_transaction
     def letters_of(self, lang: str, scheme: int | None = None) -> list[str]:
         """Returns the first letters of the terms of live concepts in a language, folded, in their order."""
 

@@ -7,7 +7,7 @@ from collections.abc import Callable, Iterable, Sequence
 
 from thesaurus_desk.store.model import Link, Resource, Term, View, best_of, normal, view_of
 from thesaurus_desk.store.postings import Postings
-from thesaurus_desk.store.read_transactions import Moments, Row, at_one_moment
+from thesaurus_desk.store.read_transactions import ReadTransactions, Row, in_one_transaction
 from thesaurus_desk.store.schema import KIND_NUMBER, KINDS, LINK_NUMBER, TYPE_NUMBER
 from thesaurus_desk.store.text_keys import sort_text
 from thesaurus_tools.kinds import BROADER
@@ -29,7 +29,7 @@ def counts_of(rows: sqlite3.Connection) -> dict[str, int]:
     return {name: rows.execute(query).fetchone()[0] for name, query in COUNTS.items()}
 
 
-class Resources(Moments):
+class Resources(ReadTransactions):
     """Resources by their numbers and IRIs, and their links."""
 
     postings: Postings
@@ -43,31 +43,31 @@ class Resources(Moments):
         """What the IRIs of the store's own resources begin with; it never changes."""
         return self.once("base", lambda: str(self.value("SELECT base FROM meta")), ())
 
-    @at_one_moment
+    @in_one_transaction
     def look_at(self, numbers: Iterable[int]) -> None:
         """Reads what links to resources show, of all in two queries: what they are, and their preferred terms."""
-        moment = self.moment
-        wanted = [it for it in numbers if it not in moment.terms]
+        transaction = self.transaction
+        wanted = [it for it in numbers if it not in transaction.terms]
         if not wanted:
             return
-        moment.make_room(len(wanted))
+        transaction.make_room(len(wanted))
         where, value = (
             ("= ?", wanted[0]) if len(wanted) == 1 else ("IN (SELECT value FROM json_each(?))", json.dumps(wanted))
         )
         for it in wanted:
-            moment.terms[it], moment.heads[it] = [], None
+            transaction.terms[it], transaction.heads[it] = [], None
         for row in self.all(f"SELECT num, kind, scheme, live, replaced FROM resource WHERE num {where}", value):
-            moment.heads[row[0]] = row
+            transaction.heads[row[0]] = row
         labels = f"SELECT owner, tag, text, sort FROM label WHERE kind = 1 AND owner {where} ORDER BY owner, tag, text"
         for owner, tag, text, key in self.all(labels, value):
-            moment.terms[owner].append((tag, text, key))
+            transaction.terms[owner].append((tag, text, key))
 
-    @at_one_moment
+    @in_one_transaction
     def head(self, number: int) -> Row | None:
         """Returns the row of a resource: number, kind, scheme, whether it is live, what it was merged into."""
-        if number not in self.moment.heads:
+        if number not in self.transaction.heads:
             self.look_at([number])
-        return self.moment.heads[number]
+        return self.transaction.heads[number]
 
     def kind(self, number: int) -> str | None:
         """Returns the kind of a resource: scheme, concept, collection or outside."""
@@ -91,10 +91,10 @@ class Resources(Moments):
             raise KeyError(number)
         return found
 
-    @at_one_moment
+    @in_one_transaction
     def get(self, number: int) -> Resource | None:
         """Returns a resource with its labels and links; it must not be changed."""
-        known = self.moment.resources
+        known = self.transaction.resources
         if number not in known:
             row = self.head(number)
             known[number] = self.made_of(row) if row else None
@@ -123,22 +123,22 @@ class Resources(Moments):
                 it.matches.add(Link(KIND_OF_LINK[kind], a, b))
         return it
 
-    @at_one_moment
+    @in_one_transaction
     def view(self, number: int) -> View | None:
         """Returns a resource as it is now, of any kind, live or dead."""
-        known = self.moment.views
+        known = self.transaction.views
         if number not in known:
             it = self.get(number)
             known[number] = view_of(it, self.base, self.postings.count_at(number)) if it else None
         found: View | None = known[number]
         return found
 
-    @at_one_moment
+    @in_one_transaction
     def iri(self, number: int) -> str:
         """Returns the IRI of a resource."""
         return self.value("SELECT iri FROM outside WHERE num = ?", number) or f"{self.base}{number}"
 
-    @at_one_moment
+    @in_one_transaction
     def by_iri(self, iri: str) -> int | None:
         """Returns the number of the resource that has an IRI."""
         found: int | None = self.value("SELECT num FROM outside WHERE iri = ?", iri)
@@ -148,7 +148,7 @@ class Resources(Moments):
         is_number = rest.isascii() and rest.isdigit() and not rest.startswith("0") and len(rest) < 11
         return int(rest) if is_number and self.head(int(rest)) else None
 
-    @at_one_moment
+    @in_one_transaction
     def outside_named(self, text: str) -> list[int]:
         """Returns the concepts elsewhere whose address is a text, or ends with it after one of / # = : if it may be an
         identifier, of three characters or more with a digit among them."""
@@ -159,11 +159,11 @@ class Resources(Moments):
         query = "SELECT num FROM outside WHERE substr(iri, -?) IN (?, ?, ?, ?) ORDER BY num"
         return self.numbers_of(query, len(text) + 1, *ends)
 
-    @at_one_moment
+    @in_one_transaction
     def best_term(self, number: int, langs: Iterable[str] = ()) -> tuple[str, str, str]:
         """Returns the language, the text and the sort key of a resource's term, as `term` chooses it."""
         found = self.head(number)
-        preferred = self.moment.terms[number]
+        preferred = self.transaction.terms[number]
         if not preferred:
             iri = self.value("SELECT iri FROM outside WHERE num = ?", number) if found else None
             named = self.names(iri) if iri else ()
@@ -176,7 +176,7 @@ class Resources(Moments):
         elsewhere what it is called there; else the IRI or the number."""
         return self.best_term(number, langs)[:2]
 
-    @at_one_moment
+    @in_one_transaction
     def final(self, number: int) -> int | None:
         """Returns the live concept to which replacements lead from a concept."""
         found = self.head(number)
@@ -184,7 +184,7 @@ class Resources(Moments):
             found = self.head(found[4] or 0)
         return found[0] if found else None
 
-    @at_one_moment
+    @in_one_transaction
     def replacements(self, number: int) -> list[int]:
         """Returns the concept and, if it was merged, what it was merged into, one after another."""
         way, found = [number], self.head(number)
@@ -213,7 +213,7 @@ class Resources(Moments):
         query = "SELECT sum(value) FROM total WHERE name = 'live' AND (?1 IS NULL OR about = ?1)"
         return self.once(("live", scheme), lambda: self.value(query, scheme) or 0, ("resources",))
 
-    @at_one_moment
+    @in_one_transaction
     def ordered(self, numbers: Iterable[int], langs: Sequence[str] = ()) -> list[int]:
         """Returns resources in the order of their terms in the reader's languages."""
         found = list(numbers)
@@ -236,10 +236,10 @@ class Resources(Moments):
 
     # --- links ---
 
-    @at_one_moment
+    @in_one_transaction
     def link_types(self, narrower: int, broader: int) -> tuple[str, ...]:
         """Returns the kinds of the links that lead from a concept to a broader one: `broader` is untyped."""
-        branch = self.moment.branches.get(broader)
+        branch = self.transaction.branches.get(broader)
         if branch is not None:
             return branch.get(narrower, ())
         found = self.numbers_of("SELECT typ FROM hier WHERE a = ? AND b = ? ORDER BY typ", narrower, broader)
@@ -261,10 +261,10 @@ class Resources(Moments):
             return self.one("SELECT 1 FROM hier WHERE a = ? AND b = ? AND typ = ?", a, b, TYPE_NUMBER[kind]) is not None
         return self.one("SELECT 1 FROM link WHERE a = ? AND kind = ? AND b = ?", a, LINK_NUMBER[kind], b) is not None
 
-    @at_one_moment
+    @in_one_transaction
     def branch(self, number: int) -> dict[int, tuple[str, ...]]:
         """Returns the narrower concepts of a concept, with the kinds of the links that lead from each to it."""
-        known = self.moment.branches
+        known = self.transaction.branches
         if number not in known:
             known[number] = {}
             # (what a tree shows of each is read with them: how many are below it)
@@ -272,18 +272,18 @@ class Resources(Moments):
             query = f"SELECT a, group_concat(typ), ({count}) FROM hier h WHERE b = ? GROUP BY a"
             for low, types, its in self.all(query, number):
                 known[number][low] = tuple(BROADER[int(it)] for it in sorted(types.split(",")))
-                self.moment.narrower[low] = its
+                self.transaction.narrower[low] = its
         return known[number]
 
-    @at_one_moment
+    @in_one_transaction
     def count_narrower(self, number: int) -> int:
         """Returns the number of narrower concepts of a concept."""
-        known = self.moment.narrower
+        known = self.transaction.narrower
         if number not in known:
             known[number] = self.value("SELECT count(DISTINCT a) FROM hier WHERE b = ?", number) or 0
         return known[number]
 
-    @at_one_moment
+    @in_one_transaction
     def above(self, numbers: Iterable[int]) -> dict[int, list[int]]:
         """Returns the broader concepts of several ones."""
         found: dict[int, list[int]] = {it: [] for it in numbers}
@@ -292,7 +292,7 @@ class Resources(Moments):
             found[low].append(high)
         return found
 
-    @at_one_moment
+    @in_one_transaction
     def path_up(self, number: int, langs: Sequence[str] = ()) -> list[int]:
         """Returns a way from a top concept down to a concept, by the first broader one in alphabetical order."""
         way = [number]
@@ -308,7 +308,7 @@ class Resources(Moments):
             ("concepts below", number), lambda: frozenset((number, *self.numbers_of(find, number))), ("links",)
         )
 
-    @at_one_moment
+    @in_one_transaction
     def ring(self, low: int, high: int) -> list[int]:
         """Returns the shortest chain up from one concept to another, both among them; empty if there is none.
 

@@ -26,7 +26,7 @@ from thesaurus_tools import file_forms
 from thesaurus_tools.fields import in_rdf, node_of
 from thesaurus_tools.kinds import BROADER
 from thesaurus_tools.ntriples import Iri, Triple
-from thesaurus_tools.rdf_writing import ISO_THES, ntriple
+from thesaurus_tools.rdf_writer import ISO_THES, ntriple
 
 # How many files are kept, how many requests may wait for theirs, and the seconds that a process may take.
 MOST_KEPT, MOST_WAITING, LONGEST = 24, 6, 600
@@ -40,7 +40,7 @@ class Busy(Exception):
 
 
 @dataclass(frozen=True)
-class Wish:
+class FileOrder:
     """What is saved, and as what: a release, or the present."""
 
     form: str
@@ -53,7 +53,7 @@ class SavedFile:
     """A file that is being made, or is there. `needs` names a package that is lacking, `fault` what else failed."""
 
     ticket: str
-    wish: Wish
+    wish: FileOrder
     name: str
     answer: Answer
     needs: str = ""
@@ -71,14 +71,14 @@ class SavedFiles:
         self.desk, self.source = desk, source
         self.lock = threading.Lock()
         self.files: OrderedDict[str, SavedFile] = OrderedDict()
-        self.tickets: dict[tuple[object, Wish], str] = {}
+        self.tickets: dict[tuple[object, FileOrder], str] = {}
         self.waiting: queue.Queue[SavedFile] = queue.Queue(MOST_WAITING)
         self.worker: threading.Thread | None = None
         # What the last file was made of: it serves for the next one of the same state.
         self.state: object = None
         self.folder: tempfile.TemporaryDirectory[str] | None = None
 
-    def ask(self, wish: Wish, name: str) -> SavedFile:
+    def ask(self, wish: FileOrder, name: str) -> SavedFile:
         """Returns the file that somebody wishes, which may be yet to be made. Raises Busy."""
         key = (self.state_of(wish), wish)
         with self.lock:
@@ -102,7 +102,7 @@ class SavedFiles:
         with self.lock:
             return self.files.get(ticket)
 
-    def state_of(self, wish: Wish) -> object:
+    def state_of(self, wish: FileOrder) -> object:
         """Returns what is another value if the file would be another one."""
         return wish.release.digest if wish.release else self.source.version()
 
@@ -141,7 +141,7 @@ class SavedFiles:
                 it.answer.write(iter(lambda: file.read(PIECE), b""))
         made.unlink(missing_ok=True)
 
-    def input_of(self, wish: Wish) -> Path:
+    def input_of(self, wish: FileOrder) -> Path:
         """Returns a folder with what a file is made of: the last one, if nothing has changed since."""
         state = self.state_of(wish)
         if self.folder is None or state != self.state:
@@ -159,7 +159,7 @@ def write_input(folder: Path, desk: Desk, source: Source, release: Release | Non
         (folder / file_forms.EXPORT).write_bytes(desk.releases.text(release))
         (folder / file_forms.MORE).touch()
         return
-    replica = source.mirror()
+    replica = source.replica()
     with replica.reading():
         frozen = frozen_source(replica, *source.edition()).source
         write_lines(folder / file_forms.EXPORT, release_lines(frozen))
@@ -174,18 +174,18 @@ def write_lines(path: Path, lines: Iterable[str]) -> None:
 
 def more_triples(source: Source) -> Iterator[Triple]:
     """Yields what RDF doesn't have of concepts: the types of hierarchical links, and values without a property."""
-    mirror = source.mirror()
-    for number in mirror.numbers("concept"):
-        view, subject = mirror.view(number), Iri(mirror.iri(number))
+    replica = source.replica()
+    for number in replica.numbers("concept"):
+        view, subject = replica.view(number), Iri(replica.iri(number))
         for kind, other in view.typed if view else ():
             if kind in BROADER:
-                yield Triple(subject, Iri(ISO_THES + kind), Iri(mirror.iri(other)))
+                yield Triple(subject, Iri(ISO_THES + kind), Iri(replica.iri(other)))
         for it in source.values(number):
             if not it.field.property:
-                yield Triple(subject, Iri(OWN + it.field.name), node_of(it.field, it.tag, it.text, mirror.base))
+                yield Triple(subject, Iri(OWN + it.field.name), node_of(it.field, it.tag, it.text, replica.base))
 
 
-def run_form(wish: Wish, folder: Path) -> dict[str, Any]:
+def run_form(wish: FileOrder, folder: Path) -> dict[str, Any]:
     """Has a process make a file of what a folder has, and returns what it says of that."""
     choice = wish.choice
     words = [sys.executable, "-P", "-m", file_forms.__name__, wish.form, str(folder), "--lang", choice.lang]

@@ -7,7 +7,7 @@ from dataclasses import dataclass
 from typing import Any
 
 from thesaurus_desk.store.model import Hit
-from thesaurus_desk.store.read_transactions import Moments, Row
+from thesaurus_desk.store.read_transactions import ReadTransactions, Row
 from thesaurus_desk.store.schema import KIND_NUMBER
 from thesaurus_desk.store.text_keys import LAST, WORD, fold
 from thesaurus_tools.table_store import KIND_OF_LABEL
@@ -31,7 +31,7 @@ PART = 3
 
 
 @dataclass(frozen=True, slots=True)
-class Asked:
+class LabelFilter:
     """Which labels are looked for: those of resources of some kinds, of a scheme, live or dead ones, in a language."""
 
     kinds: Sequence[str] = ("concept",)
@@ -90,28 +90,28 @@ def from_index(table: str, asked: str, most: int, test: str = "1", *values: Any)
 class Search:
     """Finds labels, and by them resources."""
 
-    def __init__(self, store: Moments) -> None:
+    def __init__(self, store: ReadTransactions) -> None:
         self.store = store
 
     # --- labels ---
 
-    def labels(self, source: Source, asked: Asked, order: str, *values: Any) -> Iterator[Entry]:
+    def labels(self, source: Source, asked: LabelFilter, order: str, *values: Any) -> Iterator[Entry]:
         """Yields the labels of a source that are looked for, in an order."""
         test, its = asked.test()
         owned = f"{source.query} CROSS JOIN resource r ON r.num = l.owner"
         query = f"SELECT {COLUMNS} FROM {owned} WHERE {test} ORDER BY {order}"
         return (entry_of(it) for it in self.store.all(query, *source.values, *its, *values))
 
-    def weighed(self, source: Source, asked: Asked, folded: str, prefer: str | None) -> Iterator[Entry]:
+    def weighed(self, source: Source, asked: LabelFilter, folded: str, prefer: str | None) -> Iterator[Entry]:
         """Yields the labels of a source that are looked for, the best first."""
         return self.labels(source, asked, BY_WEIGHT, folded, prefer or "")
 
-    def same(self, text: str, asked: Asked) -> Iterator[Entry]:
+    def same(self, text: str, asked: LabelFilter) -> Iterator[Entry]:
         """Yields the labels whose folded text is that of a text."""
         test = "(SELECT fold, owner, kind, tag, text FROM label WHERE kind < 4 AND fold = ?) l"
         return self.labels(Source(test, (fold(text),)), asked, BY_TEXT)
 
-    def all(self, asked: Asked, beginning: str = "") -> Iterator[Entry]:
+    def all(self, asked: LabelFilter, beginning: str = "") -> Iterator[Entry]:
         """Yields the labels that begin with a folded text, in their order: all of them, however many."""
         return self.labels(beginning_with(beginning, -1), asked, BY_TEXT)
 
@@ -129,7 +129,7 @@ class Search:
     def find(
         self,
         query: str,
-        asked: Asked,
+        asked: LabelFilter,
         prefer: str | None = None,
         most: int = MOST_SHOWN,
         weigh: int = MOST_WEIGHED,
@@ -152,14 +152,14 @@ class Search:
                     self.take(hits, self.weighed(with_words(changed, weigh), asked, "", prefer), most, is_alike=True)
         return list(hits.values())[:most]
 
-    def find_part(self, query: str, asked: Asked, prefer: str | None = None, most: int = MOST_SHOWN) -> list[Hit]:
+    def find_part(self, query: str, asked: LabelFilter, prefer: str | None = None, most: int = MOST_SHOWN) -> list[Hit]:
         """Returns resources that have a label with a text of three letters or more anywhere in it."""
         folded, hits = fold(query.strip()), dict[int, Hit]()
         if len(folded) >= PART:
             self.take(hits, self.weighed(with_part(folded), asked, "", prefer), most)
         return list(hits.values())
 
-    def find_notes(self, query: str, asked: Asked, most: int = MOST_SHOWN) -> list[Hit]:
+    def find_notes(self, query: str, asked: LabelFilter, most: int = MOST_SHOWN) -> list[Hit]:
         """Returns resources that have a scope note with a word for each word of a query."""
         starts, hits = WORD.findall(fold(query)), dict[int, Hit]()
         words = " AND ".join(f'"{it}" *' for it in starts)

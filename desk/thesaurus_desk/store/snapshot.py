@@ -50,10 +50,10 @@ def copy_all(desk: Desk, users: Path | None, room: Path) -> dict[str, int]:
         return copy_store(desk, room)
 
 
-class Passing(socketserver.StreamRequestHandler):
+class SnapshotSender(socketserver.StreamRequestHandler):
     """Sends a tool the files for which it asks."""
 
-    server: MomentServer
+    server: SnapshotServer
     timeout = PATIENCE
 
     def handle(self) -> None:
@@ -75,7 +75,7 @@ class Passing(socketserver.StreamRequestHandler):
             socket.send_fds(self.request, [answer], [it.fileno() for it in files])
 
 
-class MomentServer(socketserver.UnixStreamServer):
+class SnapshotServer(socketserver.UnixStreamServer):
     """Answers tools at a socket in a folder that only the desk's user opens, one at a time."""
 
     def __init__(self, desk: Desk, users: Path | None) -> None:
@@ -83,8 +83,8 @@ class MomentServer(socketserver.UnixStreamServer):
         # (the journal's lock says that no other desk is running)
         make_own_folder(self.folder)
         with address_in(self.folder) as address:
-            super().__init__(address, Passing)
-        threading.Thread(target=self.serve_forever, name="moments", daemon=True).start()
+            super().__init__(address, SnapshotSender)
+        threading.Thread(target=self.serve_forever, name="snapshots", daemon=True).start()
 
     def verify_request(self, request: object, client_address: object) -> bool:
         """Whether it is the desk's own user who asks, or root."""

@@ -10,11 +10,11 @@ from pathlib import Path
 from typing import Any
 
 from thesaurus_desk.journal import Answer, Request, Step
-from thesaurus_desk.journal.references import resolved
+from thesaurus_desk.journal.references import resolve_request
 from thesaurus_desk.store.changes import Change, Changes
 from thesaurus_desk.store.plan_outcome import requests_for
 from thesaurus_desk.store.program import Program
-from thesaurus_desk.store.read_transactions import Moment, Row, V
+from thesaurus_desk.store.read_transactions import ReadTransaction, Row, V
 from thesaurus_desk.store.replica import Replica
 from thesaurus_desk.store.schema import KIND_OF_LABEL
 from thesaurus_desk.store.step_changes import changes_of_step
@@ -52,7 +52,7 @@ def try_steps(program: Program, replica: Replica, steps: Sequence[Step]) -> Tria
         if "same" in foreseen:
             foreseen = {"ok": numbers[foreseen["same"] - 1], "known": True}
         step.foreseen = foreseen
-        found.requests.append(resolved(step.request, numbers))
+        found.requests.append(resolve_request(step.request, numbers))
         numbers.append(foreseen.get("ok", foreseen.get("again")))
     return found
 
@@ -74,13 +74,13 @@ def note_known(replica: Replica, steps: Sequence[Step]) -> None:
 # --- what a plan destroys ---
 
 
-class TriedReplica(Replica):
+class TrialReplica(Replica):
     """The replica as the requests of a plan so far would leave it: read by the connection that writes."""
 
     def __init__(self, path: Path, rows: sqlite3.Connection) -> None:
         super().__init__(path)
         self.rows = rows
-        self.local.moment = Moment({})
+        self.local.transaction = ReadTransaction({})
 
     def all(self, query: str, *values: Any) -> list[Row]:
         cursor = self.rows.cursor()
@@ -100,7 +100,7 @@ class TriedReplica(Replica):
     def make(self, changes: Sequence[Change]) -> None:
         """Makes changes, and forgets what was read before. Raises WrongChange."""
         Changes(self.rows).make(changes)
-        self.local.moment = Moment({})
+        self.local.transaction = ReadTransaction({})
 
 
 def note_destroyed(rows: sqlite3.Connection, path: Path, steps: Sequence[Step], trial: Trial) -> None:
@@ -108,21 +108,21 @@ def note_destroyed(rows: sqlite3.Connection, path: Path, steps: Sequence[Step], 
     changes that are made by it nothing stays. Raises WrongChange."""
     last = max((at for at, it in enumerate(steps) if it.request["do"] in LOOKED_UP), default=-1)
     rest = list(reversed(trial.changes))
-    with tried(rows, path) if last >= 0 else contextlib.nullcontext() as replica:
+    with trial_replica(rows, path) if last >= 0 else contextlib.nullcontext() as replica:
         for at, (step, request) in enumerate(zip(steps, trial.requests, strict=True)):
             kept = looked_up(replica, request) if replica else None
             own = changes_of_step(request, step.foreseen or {}, rest, kept or {})
-            step.kept = destroyed(request, own, kept)
+            step.kept = losses_of(request, own, kept)
             if replica and at < last:
                 replica.make(own)
 
 
 @contextlib.contextmanager
-def tried(rows: sqlite3.Connection, path: Path) -> Iterator[TriedReplica]:
+def trial_replica(rows: sqlite3.Connection, path: Path) -> Iterator[TrialReplica]:
     """Yields the replica to which changes can be made of which nothing stays."""
     rows.execute("BEGIN IMMEDIATE")
     try:
-        yield TriedReplica(path, rows)
+        yield TrialReplica(path, rows)
     finally:
         rows.execute("ROLLBACK")
 
@@ -144,7 +144,7 @@ def looked_up(replica: Replica, request: Request) -> dict[str, Any] | None:
     return kept
 
 
-def destroyed(request: Request, own: Sequence[Change], kept: dict[str, Any] | None) -> dict[str, Any] | None:
+def losses_of(request: Request, own: Sequence[Change], kept: dict[str, Any] | None) -> dict[str, Any] | None:
     """Returns what a request destroys, as far as it is needed to take it back."""
     do = request["do"]
     if do == "relabel":

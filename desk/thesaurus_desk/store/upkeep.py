@@ -10,10 +10,10 @@ from pathlib import Path
 
 from thesaurus_desk.store.build import build, is_usable
 from thesaurus_desk.store.changes import Change, Changes
+from thesaurus_desk.store.difference import Difference, attach_store, differences, mark_of, mark_of_open
 from thesaurus_desk.store.digest import digest_of_rows, write_digest
-from thesaurus_desk.store.difference import Difference, attached, differences, mark_of, mark_of_open
-from thesaurus_desk.store.schema import COLUMNS
 from thesaurus_desk.store.public_view import update_public_view
+from thesaurus_desk.store.schema import COLUMNS
 from thesaurus_tools.command_line import ToolError
 from thesaurus_tools.program import lock_file
 
@@ -55,7 +55,7 @@ class Upkeep:
             return None
         if rows.execute("SELECT value FROM replica WHERE name = 'mark'").fetchone() == (mark,):
             return frozenset()
-        with attached(rows, self.store):
+        with attach_store(rows, self.store):
             found = differences(rows)
         if any(it.table == "meta" for it in found):
             self.make(rows, mark)

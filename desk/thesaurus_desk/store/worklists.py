@@ -60,7 +60,7 @@ def by_query(query: str, *values: object) -> Finder:
     return look
 
 
-def untranslated(store: Replica, scheme: int | None, lang: str) -> list[int]:
+def without_language(store: Replica, scheme: int | None, lang: str) -> list[int]:
     """Returns the concepts without a preferred term in a language."""
     query = f"SELECT r.num FROM {LIVE} AND NOT {HAS_TERM} ORDER BY r.num"
     return store.numbers_of(query, scheme, lang, f"{lang}-")
@@ -96,7 +96,7 @@ def busiest(store: Replica, scheme: int | None, lang: str) -> list[int]:
 
 
 LISTS: dict[str, Finder] = {
-    "untranslated": untranslated,
+    "untranslated": without_language,
     "undefined": by_query(quality.UNDEFINED),
     "orphans": by_query(ORPHANS),
     "single_child": by_query(quality.SINGLE_CHILD),

@@ -2,6 +2,7 @@
 
   app                the application: its pages, what templates may use, the pages of errors
   context            what a page sees of its request
+  paths              the paths of routes
   static_files       the addresses of scripts and style sheets
   office_link        passes on to the office what a process that makes pages can't do
   pages/             the pages by topic, each with its routes
@@ -20,7 +21,7 @@
   posting_keys       keys of postings that no person has given
   record_views       which records a search finds, and the concepts of one
   record_forms       the form for all concepts of a record, and the plan that it asks for
-  openings           who has which record open
+  open_records       who has which record open
   annif              concepts for a text, by another service
   proposal_forms     what the form for a proposal asks for
   merge_preview      what a merge would do

@@ -18,14 +18,14 @@ class NoService(Exception):
     """The service gives no answer in time, or none that can be understood."""
 
 
-class Proposed(NamedTuple):
+class AnnifConcept(NamedTuple):
     """A concept that the service suggests, by its URI, and how sure it is."""
 
     uri: str
     score: float
 
 
-def ask_annif(project: str, text: str) -> list[Proposed]:
+def ask_annif(project: str, text: str) -> list[AnnifConcept]:
     """Returns what a project of Annif suggests for a text. Raises NoService."""
     asked = POOL.submit(fetch, project, text[:MOST_TEXT])
     try:
@@ -37,10 +37,10 @@ def ask_annif(project: str, text: str) -> list[Proposed]:
         raise NoService(f"{type(error).__name__}: {error}") from None
 
 
-def fetch(project: str, text: str) -> list[Proposed]:
+def fetch(project: str, text: str) -> list[AnnifConcept]:
     """Sends a text to a project, and reads its answer."""
     body = urlencode({"text": text, "limit": MOST}).encode()
     request = Request(f"{project.rstrip('/')}/suggest", body, {"Accept": "application/json"})
     with urlopen(request, timeout=PATIENCE) as answer:
         found = json.loads(answer.read(MOST_BYTES))["results"]
-    return [Proposed(str(it["uri"]), float(it["score"])) for it in found[:MOST]]
+    return [AnnifConcept(str(it["uri"]), float(it["score"])) for it in found[:MOST]]

@@ -10,12 +10,12 @@ from flask import Flask, current_app, g, request
 from werkzeug.exceptions import HTTPException
 
 from thesaurus_desk.auth.authentication import Entry
-from thesaurus_desk.auth.passwords import GateFull
+from thesaurus_desk.auth.passwords import TooManyHashes
 from thesaurus_desk.auth.request_checks import install_checks, refusal, send_again
 from thesaurus_desk.auth.roles import role_named
 from thesaurus_desk.auth.route_roles import READING, DeskApp
 from thesaurus_desk.clock import distance_now, time_element
-from thesaurus_desk.importing.uploads import Shelf
+from thesaurus_desk.importing.uploads import Uploads
 from thesaurus_desk.interfaces import Changes, Source, interfaces_of
 from thesaurus_desk.interfaces.whole_thesaurus import WholeAnswers
 from thesaurus_desk.journal.rights import ACTS
@@ -28,8 +28,8 @@ from thesaurus_desk.store.program import NoAnswer
 from thesaurus_desk.store.saved_files import SavedFiles
 from thesaurus_desk.web.context import (
     acts_on,
-    begin_moment,
-    end_moment,
+    begin_transaction,
+    end_transaction,
     field_words,
     label_link,
     link,
@@ -43,15 +43,16 @@ from thesaurus_desk.web.context import (
     tags,
     term,
     the_desk,
-    the_mirror,
+    the_replica,
     the_settings,
     visitor_may_propose,
     watched_kinds,
 )
 from thesaurus_desk.web.form_keys import install_once, token_field
 from thesaurus_desk.web.help_topics import topic_of
-from thesaurus_desk.web.notices import said
-from thesaurus_desk.web.openings import Openings
+from thesaurus_desk.web.notices import notice_of_plan
+from thesaurus_desk.web.open_records import OpenRecords
+from thesaurus_desk.web.paths import concept_path, install_paths, path_to
 from thesaurus_desk.web.posting_keys import posting_name
 from thesaurus_desk.web.static_files import install_static_files
 from thesaurus_desk.words import LANGUAGES
@@ -66,27 +67,27 @@ PAGES = (
     *("replacement", "bulk_changes", "state"),
     *("about", "help", "api"),
 )
-# The pages in the navigation: path, key of its words, the lowest role that sees it, or the act that it is for.
+# The pages in the navigation: route, key of its words, the lowest role that sees it, or the act that it is for.
 NAVIGATION = (
-    ("/tree", "shell.tree", "visitor"),
-    ("/az", "shell.az", "visitor"),
-    ("/collections", "shell.collections", "visitor"),
-    ("/releases", "shell.releases", "visitor"),
-    ("/save", "files.title", "visitor"),
-    ("/record", "shell.records", "reader"),
-    ("/index", "shell.index", "indexer"),
-    ("/lists", "shell.lists", "reader"),
-    ("/bring-in", "shell.bring_in", "indexer"),
-    ("/mapping", "shell.mapping", "editor"),
-    ("/proposals", "shell.proposals", "reader"),
-    ("/for-me", "shell.for_me", "reader"),
-    ("/changes", "shell.changes", "reader"),
-    ("/new", "shell.new", "editor"),
-    ("/fields", "shell.fields", "fields"),
-    ("/users", "shell.users", "head"),
-    ("/rights", "shell.rights", "head"),
-    ("/quality", "shell.quality", "head"),
-    ("/state", "shell.state", "head"),
+    ("tree.tree", "shell.tree", "visitor"),
+    ("search.az", "shell.az", "visitor"),
+    ("tree.collections", "shell.collections", "visitor"),
+    ("releases.releases", "shell.releases", "visitor"),
+    ("downloads.start", "files.title", "visitor"),
+    ("records.record", "shell.records", "reader"),
+    ("indexing.open_record", "shell.index", "indexer"),
+    ("lists.lists", "shell.lists", "reader"),
+    ("imports.bring_in", "shell.bring_in", "indexer"),
+    ("mapping.mapping", "shell.mapping", "editor"),
+    ("proposals.proposals", "shell.proposals", "reader"),
+    ("for_me.for_me", "shell.for_me", "reader"),
+    ("changes.changes", "shell.changes", "reader"),
+    ("create.new_concept", "shell.new", "editor"),
+    ("own_fields.fields", "shell.fields", "fields"),
+    ("users.users", "shell.users", "head"),
+    ("rights.rights", "shell.rights", "head"),
+    ("lists.quality", "shell.quality", "head"),
+    ("state.state", "shell.state", "head"),
 )
 # The blueprints whose answers are for programs.
 FOR_PROGRAMS = ("interfaces", "api")
@@ -99,13 +100,15 @@ def create_app(desk: Desk, entry: Entry, settings: Settings, health: Health | No
     something and has no role."""
     app = DeskApp("thesaurus_desk.web")
     entry.keep_in(desk.journal)
-    app.extensions.update(desk=desk, entry=entry, settings=settings, shelf=Shelf(desk.journal), openings=Openings())
+    app.extensions.update(
+        desk=desk, entry=entry, settings=settings, uploads=Uploads(desk.journal), openings=OpenRecords()
+    )
     app.extensions["health"] = health
     app.extensions.update(loads=Loads(desk.db, desk.decisions))
     app.jinja_env.trim_blocks = app.jinja_env.lstrip_blocks = True
     app.json.ensure_ascii = False  # type: ignore[attr-defined]
     install_checks(app)
-    install_moments(app)
+    install_transactions(app)
     install_once(app)
     install_languages(app)
     install_words(app)
@@ -116,20 +119,21 @@ def create_app(desk: Desk, entry: Entry, settings: Settings, health: Health | No
     source = source_of(desk, settings)
     app.extensions.update(source=source, releases=WholeAnswers(source), files=SavedFiles(desk, source))
     app.register_blueprint(interfaces_of(source))
+    install_paths(app)
     return app
 
 
-def install_moments(app: Flask) -> None:
+def install_transactions(app: Flask) -> None:
     """Has each page see one moment of the store, visitors and other programs as the public sees it; a plan that it
     performs begins another one."""
 
     @app.before_request
     def begin() -> None:
-        begin_moment(not person().name or request.blueprint in FOR_PROGRAMS)
+        begin_transaction(not person().name or request.blueprint in FOR_PROGRAMS)
 
     @app.teardown_request
     def end(error: BaseException | None) -> None:
-        end_moment()
+        end_transaction()
 
 
 def source_of(desk: Desk, settings: Settings) -> Source:
@@ -147,14 +151,16 @@ def source_of(desk: Desk, settings: Settings) -> Source:
         lambda: desk.arrays.now(desk.public_view()),
         desk.releases.edition,
         desk.values.public_fields,
-        page=lambda number: f"/c/{number}",
+        page=concept_path,
         title=settings.title,
     )
 
 
 def install_words(app: Flask) -> None:
     """Gives templates what they may use."""
-    app.jinja_env.globals.update(_=say, term=term, link=link, time=time_element, language_name=language_name, said=said)
+    app.jinja_env.globals.update(
+        _=say, term=term, link=link, time=time_element, language_name=language_name, notice_of_plan=notice_of_plan
+    )
     app.jinja_env.globals.update(token_field=token_field, posting_name=posting_name, distance_now=distance_now)
     app.jinja_env.globals.update(field_words=field_words, label_link=label_link, status_mark=status_mark)
     app.jinja_env.globals.update(term_languages=tags, may_act=may_act, acts_on=acts_on, watched_kinds=watched_kinds)
@@ -163,9 +169,8 @@ def install_words(app: Flask) -> None:
 
     @app.context_processor
     def context() -> dict[str, Any]:
-        paths = {rule.rule for rule in app.url_map.iter_rules()}
-        hidden = set() if app.extensions["entry"].accounts else {"/users"}
-        seen = [(path, key) for path, key, low in NAVIGATION if path in paths - hidden and may_see(low)]
+        hidden = "" if app.extensions["entry"].accounts else "users.users"
+        seen = [(path_to(page), key) for page, key, low in NAVIGATION if page != hidden and may_see(low)]
         return {
             "_": g.words,
             "person": person(),
@@ -210,7 +215,7 @@ def site_name() -> str:
         return the_settings().title
     if not person().name and not the_settings().is_public:
         return say("shell.site")
-    return " · ".join(term(it) for it in the_mirror().numbers("scheme")[:3]) or say("shell.site")
+    return " · ".join(term(it) for it in the_replica().numbers("scheme")[:3]) or say("shell.site")
 
 
 def install_errors(app: Flask) -> None:
@@ -239,8 +244,8 @@ def install_errors(app: Flask) -> None:
             return failure("500", 500)
         return send_again("replaced" if isinstance(error, FileReplaced) else "journal", 503)
 
-    @app.errorhandler(GateFull)
-    def gate_full(error: GateFull) -> Any:
+    @app.errorhandler(TooManyHashes)
+    def gate_full(error: TooManyHashes) -> Any:
         answer = app.make_response(failure("429", 429))
         answer.headers["Retry-After"] = "1"
         return answer

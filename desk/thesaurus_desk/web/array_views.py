@@ -4,9 +4,9 @@ from __future__ import annotations
 from collections.abc import Sequence
 from dataclasses import dataclass
 
-from thesaurus_desk.store.arrays import below, parts_of
+from thesaurus_desk.store.arrays import numbers_below, parts_of
 from thesaurus_desk.store.model import View
-from thesaurus_desk.web.context import tags, the_desk, the_mirror, the_places
+from thesaurus_desk.web.context import tags, the_desk, the_replica, the_places
 from thesaurus_tools.fields import ORDER, SUPERORDINATE
 
 # An array with what is in it; or no array, with the other concepts.
@@ -31,14 +31,14 @@ def place_view(view: View) -> PlaceView | None:
     """Returns the place of a collection; nothing of another resource."""
     if view.kind != "collection":
         return None
-    mirror, places, number = the_mirror(), the_places(), view.number
+    replica, places, number = the_replica(), the_places(), view.number
     above = places.superordinate(number)
     named = the_desk().values.held(number, SUPERORDINATE)
     ended = named[0].numbers[0] if named and number not in places.named else None
     # (the public doesn't see a candidate, nor that it is named)
-    ended = ended if ended is not None and mirror.kind(ended) else None
-    parts = parts_of(mirror, places, number, tags())
-    others = [it for it in view.members if it in parts and above not in (None, it, *mirror.above([it])[it])]
+    ended = ended if ended is not None and replica.kind(ended) else None
+    parts = parts_of(replica, places, number, tags())
+    others = [it for it in view.members if it in parts and above not in (None, it, *replica.above([it])[it])]
     has_order = bool(the_desk().values.held(number, ORDER))
     return PlaceView(
         above,
@@ -47,30 +47,30 @@ def place_view(view: View) -> PlaceView | None:
         places.outer.get(number),
         parts,
         has_order,
-        mirror.ordered(others, tags()),
+        replica.ordered(others, tags()),
     )
 
 
 def arrays_of(view: View) -> list[int]:
     """Returns the arrays of a concept, in order."""
-    return the_mirror().ordered(the_places().arrays.get(view.number, ()), tags()) if view.kind == "concept" else []
+    return the_replica().ordered(the_places().arrays.get(view.number, ()), tags()) if view.kind == "concept" else []
 
 
 def groups(concept: int, narrower: Sequence[int]) -> list[Group]:
     """Returns the narrower concepts of a concept, in their order, by its arrays."""
-    mirror, places, langs = the_mirror(), the_places(), tags()
+    replica, places, langs = the_replica(), the_places(), tags()
     if concept not in places.arrays:
         return [(None, tuple(narrower))]
     found: list[Group] = []
     others = list[int]()
-    waiting = below(mirror, places, concept, langs)[::-1]
+    waiting = numbers_below(replica, places, concept, langs)[::-1]
     while waiting:
         number = waiting.pop()
-        if mirror.kind(number) != "collection":
+        if replica.kind(number) != "collection":
             others.append(number)
             continue
-        parts = parts_of(mirror, places, number, langs)
-        inner = [it for it in parts if mirror.kind(it) == "collection"]
+        parts = parts_of(replica, places, number, langs)
+        inner = [it for it in parts if replica.kind(it) == "collection"]
         # (a concept may be a member of its own array)
         found.append((number, tuple(it for it in parts if it not in inner and it != concept)))
         waiting += inner[::-1]

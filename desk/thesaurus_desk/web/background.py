@@ -10,9 +10,10 @@ from typing import Any, TypeVar
 
 from flask import Flask, current_app, g, redirect
 
-from thesaurus_desk.importing.row_trial import NotTried
+from thesaurus_desk.importing.row_trial import NoTrial
 from thesaurus_desk.store.run_threads import Progress, Stopped
-from thesaurus_desk.web.context import begin_moment, end_moment, person, say, the_desk
+from thesaurus_desk.web.context import begin_transaction, end_transaction, person, say, the_desk
+from thesaurus_desk.web.paths import path_to
 from thesaurus_tools.table_plans import NewConceptsError
 
 T = TypeVar("T")
@@ -47,7 +48,7 @@ def in_background(
     desk.threads.start(run, work)
     concurrent.futures.wait([outcome], PATIENCE)
     if not outcome.done():
-        return redirect(f"/bring-in/run/{run}", 303)
+        return redirect(path_to("runs.run_page", name=run), 303)
     desk.runs.forget(run)
     return outcome.result()
 
@@ -63,11 +64,11 @@ def as_reader(app: Flask, reader: dict[str, Any]) -> Iterator[None]:
     with app.test_request_context():
         for name, value in reader.items():
             setattr(g, name, value)
-        begin_moment(False)
+        begin_transaction(False)
         try:
             yield
         finally:
-            end_moment()
+            end_transaction()
             the_desk().replica.leave()
 
 
@@ -75,7 +76,7 @@ def reason_of(error: Exception) -> str:
     """Returns in the reader's words why something wasn't done."""
     if isinstance(error, NewConceptsError):
         return say("bring_in.new_concepts")
-    if isinstance(error, NotTried):
+    if isinstance(error, NoTrial):
         return say(f"refusals.{error.fault}.text")
     log.error("what was done beside the pages failed", exc_info=error)
     return say("errors.500.title")

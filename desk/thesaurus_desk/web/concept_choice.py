@@ -5,14 +5,14 @@ from collections.abc import Mapping, Sequence
 from dataclasses import dataclass
 
 from thesaurus_desk.store.text_keys import fold
-from thesaurus_desk.web.context import say, the_mirror
+from thesaurus_desk.web.context import say, the_replica
 from thesaurus_desk.web.forms import FormState, Problem
 
 MOST_CHOICES = 8
 
 
 @dataclass(frozen=True)
-class Chosen:
+class ConceptChoice:
     """The concept that a field names; or else what is said of it, and those among which its author may choose."""
 
     number: int | None
@@ -26,7 +26,7 @@ def choose(
     kinds: Sequence[str] = ("concept",),
     scheme: int | None = None,
     without: int | None = None,
-) -> Chosen:
+) -> ConceptChoice:
     """Returns the concept that a field names; one of a scheme, if its terms alone are to decide.
 
     `without`: the concept that the form is about, which is never among those to choose from."""
@@ -34,42 +34,42 @@ def choose(
     # (a choice was offered for a text, and holds as long as that stays)
     chosen = values.get("chosen", "") if values.get("chosen_for", "") == text else ""
     if is_number(chosen) and is_one_of(int(chosen), kinds):
-        return Chosen(int(chosen))
+        return ConceptChoice(int(chosen))
     given = values.get(f"{name}_number", "")
     if is_number(given) and is_one_of(int(given), kinds) and has_term(int(given), text):
-        return Chosen(int(given))
+        return ConceptChoice(int(given))
     if not text:
-        return Chosen(None, say("refusals.Choice.empty"))
+        return ConceptChoice(None, say("refusals.Choice.empty"))
     number = by_number_or_iri(text)
-    if number is not None and the_mirror().get(number) is not None:
-        return Chosen(number)
+    if number is not None and the_replica().get(number) is not None:
+        return ConceptChoice(number)
     found = choose_by_term(text, kinds, scheme)
     if without not in found.choices:
         return found
     others = tuple(it for it in found.choices if it != without)
-    return Chosen(None, found.problem if others else say("refusals.Choice.none", text=text), others)
+    return ConceptChoice(None, found.problem if others else say("refusals.Choice.none", text=text), others)
 
 
-def choose_by_term(text: str, kinds: Sequence[str], scheme: int | None) -> Chosen:
+def choose_by_term(text: str, kinds: Sequence[str], scheme: int | None) -> ConceptChoice:
     """Returns the live concept that has a term, or those that have it, or those whose terms are alike."""
-    hits = the_mirror().named(text, kinds, True)
+    hits = the_replica().named(text, kinds, True)
     same = [it.number for it in hits if scheme in (None, scheme_of(it.number))]
     exact = [it.number for it in hits if it.text == text and it.kind == "pref" and it.number in same]
     if len(same) == 1 or len(exact) == 1:
-        return Chosen((exact or same)[0])
+        return ConceptChoice((exact or same)[0])
     if same:
-        return Chosen(None, say("refusals.Choice.many", text=text), tuple(same[:MOST_CHOICES]))
-    near = the_mirror().search(text, kinds=kinds, scheme=scheme, live=True, most=MOST_CHOICES)
+        return ConceptChoice(None, say("refusals.Choice.many", text=text), tuple(same[:MOST_CHOICES]))
+    near = the_replica().search(text, kinds=kinds, scheme=scheme, live=True, most=MOST_CHOICES)
     if near:
-        return Chosen(None, say("refusals.Choice.near", text=text), tuple(it.number for it in near))
-    return Chosen(
+        return ConceptChoice(None, say("refusals.Choice.near", text=text), tuple(it.number for it in near))
+    return ConceptChoice(
         None, say("refusals.Choice.collection" if "collection" in kinds else "refusals.Choice.none", text=text)
     )
 
 
 def scheme_of(number: int) -> int | None:
     """Returns the scheme to which a resource belongs."""
-    view = the_mirror().view(number)
+    view = the_replica().view(number)
     return view.scheme if view is not None else None
 
 
@@ -80,12 +80,12 @@ def is_number(text: str) -> bool:
 
 def is_one_of(number: int, kinds: Sequence[str]) -> bool:
     """Whether a number is that of a resource of some kinds."""
-    return the_mirror().kind(number) in kinds
+    return the_replica().kind(number) in kinds
 
 
 def has_term(number: int, text: str) -> bool:
     """Whether a resource has a term, without regard to case and accents; any has the empty one."""
-    it = the_mirror().view(number)
+    it = the_replica().view(number)
     if it is None:
         return False
     terms = [*it.pref, *it.alt, *it.hidden]
@@ -95,10 +95,10 @@ def has_term(number: int, text: str) -> bool:
 def by_number_or_iri(text: str) -> int | None:
     """Returns the number that a text is, as `12` or `#12`, or that of the resource that has it as its IRI."""
     plain = text.removeprefix("#")
-    return int(plain) if is_number(plain) else the_mirror().by_iri(text)
+    return int(plain) if is_number(plain) else the_replica().by_iri(text)
 
 
-def undecided(form: str, values: Mapping[str, str], chosen: Chosen, name: str = "other") -> FormState:
+def needs_choice(form: str, values: Mapping[str, str], chosen: ConceptChoice, name: str = "other") -> FormState:
     """Returns the state of a form whose field names no single concept."""
     return FormState(form, values, [Problem(name, chosen.problem)], list(chosen.choices))
 
@@ -107,4 +107,4 @@ def unknown_term(state: FormState, name: str = "other") -> str:
     """Returns the term that a field of a form was sent with, if no concept has it: it can be proposed."""
     text = " ".join(state.value(state.name, name).split())
     is_wrong = bool(text and state.problem_at(state.name, name))
-    return text if is_wrong and not the_mirror().named(text, ("concept",), True) else ""
+    return text if is_wrong and not the_replica().named(text, ("concept",), True) else ""

@@ -14,9 +14,10 @@ from werkzeug.wrappers import Response
 from thesaurus_desk.auth.authentication import Entry
 from thesaurus_desk.auth.roles import VISITOR, Person
 from thesaurus_desk.auth.sessions import Session
-from thesaurus_desk.journal.past import PastReplica
+from thesaurus_desk.journal.past_replica import PastReplica
 from thesaurus_desk.settings import Settings
 from thesaurus_desk.store.model import best_of
+from thesaurus_desk.web.paths import concept_path
 from thesaurus_desk.words import Words
 from thesaurus_desk.words.field_words import field_name
 from thesaurus_tools.arrays import Places, node_label
@@ -37,33 +38,33 @@ def the_desk() -> Desk:
     return cast("Desk", current_app.extensions["desk"])
 
 
-def the_mirror() -> Replica:
+def the_replica() -> Replica:
     """Returns the replica of the store: all of it, or what the public sees."""
-    if "mirror" not in g:
+    if "replica" not in g:
         return the_desk().replica if person().name else the_desk().public_view()
-    return cast("Replica", g.mirror)
+    return cast("Replica", g.replica)
 
 
-def begin_moment(is_public: bool) -> None:
+def begin_transaction(is_public: bool) -> None:
     """Has the request see one moment of the store: as the public sees it, or all of it."""
-    end_moment()
-    enter_moment(the_desk().replica)
-    if is_public and the_mirror().hides:
-        end_moment()
-        enter_moment(the_desk().public)
+    end_transaction()
+    enter_transaction(the_desk().replica)
+    if is_public and the_replica().hides:
+        end_transaction()
+        enter_transaction(the_desk().public)
 
 
-def enter_moment(mirror: Replica) -> None:
+def enter_transaction(replica: Replica) -> None:
     """Begins a moment of a replica."""
-    g.mirror, g.moment = mirror, mirror.reading()
-    g.moment.__enter__()
+    g.replica, g.transaction = replica, replica.reading()
+    g.transaction.__enter__()
 
 
-def end_moment() -> None:
+def end_transaction() -> None:
     """Ends the moment of the request, if it has one."""
-    g.pop("mirror", None)
-    if moment := g.pop("moment", None):
-        moment.__exit__(None, None, None)
+    g.pop("replica", None)
+    if transaction := g.pop("transaction", None):
+        transaction.__exit__(None, None, None)
 
 
 def the_rights() -> Rights:
@@ -80,7 +81,7 @@ def may_act(act: str) -> bool:
 
 def acts_on(number: int) -> set[str]:
     """Returns which of merging, splitting and deprecating a concept the reader may do."""
-    rights, postings = the_rights(), [0] if the_mirror().has_records(number) else []
+    rights, postings = the_rights(), [0] if the_replica().has_records(number) else []
     asked: dict[str, dict[str, object]] = {
         "merge": {"source": number},
         "split": {"source": number, "postings": postings},
@@ -105,16 +106,16 @@ def watched_kinds(number: int) -> set[str]:
 
 
 @contextlib.contextmanager
-def shown_as(mirror: Replica) -> Iterator[None]:
+def shown_as(replica: Replica) -> Iterator[None]:
     """Has pages see what another replica has, as that of a day."""
-    kept = the_mirror()
-    g.mirror = mirror
+    kept = the_replica()
+    g.replica = replica
     g.pop("statuses", None)
     try:
-        with mirror.reading():
+        with replica.reading():
             yield
     finally:
-        g.mirror = kept
+        g.replica = kept
         g.pop("statuses", None)
 
 
@@ -155,23 +156,25 @@ def tags() -> list[str]:
 
 def term(number: int) -> str:
     """Returns the best term of a resource for the reader; its IRI or its number in brackets if it has none."""
-    return the_mirror().term(number, tags())[1]
+    return the_replica().term(number, tags())[1]
 
 
 def link(number: int) -> Markup:
     """Returns a link to the page of a resource, with its best term."""
-    tag, text = the_mirror().term(number, tags())
+    tag, text = the_replica().term(number, tags())
     is_other = bool(tag) and tag != tags()[0]
     lang = f' lang="{escape(tag)}"' if is_other else ""
-    gone = "" if the_mirror().is_live(number) else ' class="gone"'
+    gone = "" if the_replica().is_live(number) else ' class="gone"'
     small = f" <small>{escape(tag)}</small>" if is_other else ""
     # (joined by hand: a page has many, and Markup.format takes long)
-    return Markup(f'<a href="/c/{int(number)}"{lang}{gone} dir="auto">{escape(text)}</a>{small}{status_mark(number)}')
+    return Markup(
+        f'<a href="{concept_path(number)}"{lang}{gone} dir="auto">{escape(text)}</a>{small}{status_mark(number)}'
+    )
 
 
 def link_elsewhere(number: int, iri: str) -> Markup:
     """Returns a link to a concept elsewhere, by what it is called there, if that is known, and its IRI."""
-    tag, text = the_mirror().term(number, tags())
+    tag, text = the_replica().term(number, tags())
     return elsewhere_markup(iri, "" if text == iri else text, tag)
 
 
@@ -214,7 +217,7 @@ def status_words(number: int) -> str:
     if not person().name:
         return ""
     if "statuses" not in g:
-        g.statuses = the_mirror().statuses()
+        g.statuses = the_replica().statuses()
     status = cast("dict[int, str]", g.statuses).get(number)
     return say(f"status.{status}") if status else ""
 
@@ -227,14 +230,14 @@ def status_mark(number: int) -> Markup:
 
 def label_link(number: int) -> Markup:
     """Returns a link to the page of an array, with its name as a node label."""
-    tag, text = the_mirror().term(number, tags())
-    return Markup('<a href="/c/{}" lang="{}" dir="auto">{}</a>').format(number, tag, node_label(text))
+    tag, text = the_replica().term(number, tags())
+    return Markup('<a href="{}" lang="{}" dir="auto">{}</a>').format(concept_path(number), tag, node_label(text))
 
 
 def the_places() -> Places[int]:
     """Returns where collections are in the hierarchy, as the reader sees it."""
-    mirror = the_mirror()
-    return mirror.places if isinstance(mirror, PastReplica) else the_desk().arrays.now(mirror)
+    replica = the_replica()
+    return replica.places if isinstance(replica, PastReplica) else the_desk().arrays.now(replica)
 
 
 def the_fields() -> dict[str, Field]:
@@ -260,7 +263,7 @@ def ending_of(number: int) -> Ending | None:
 def returned_as(number: int) -> int | None:
     """Returns the live concept as which one has come back, when its end was taken back."""
     ending = ending_of(number)
-    return the_mirror().final(ending.returned) if ending and ending.returned else None
+    return the_replica().final(ending.returned) if ending and ending.returned else None
 
 
 def own_path(path: str | None) -> str:

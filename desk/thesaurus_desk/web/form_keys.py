@@ -19,16 +19,17 @@ from thesaurus_desk.auth.request_checks import form_token, send_again
 from thesaurus_desk.auth.route_roles import READING
 from thesaurus_desk.journal.schema import now, sent_form
 from thesaurus_desk.web.context import person, the_desk
+from thesaurus_desk.web.paths import path_to
 
 # How many seconds a second sending waits for the first one.
 PATIENCE = 10.0
 # Where a sending is led, if the first one led nowhere: it may have been cut short.
-OTHERWISE = "/changes"
+OTHERWISE = "changes.changes"
 log = logging.getLogger("desk")
 
 
 @dataclass
-class Sendings:
+class FormsUnderWay:
     """The forms that are being answered. Safe for several threads."""
 
     under_way: set[str] = field(default_factory=set)
@@ -51,7 +52,7 @@ class Sendings:
 
 def install_once(app: Flask) -> None:
     """Has each form that was sent before led to what came of it; installed after the checks of who may send it."""
-    sendings = Sendings()
+    sendings = FormsUnderWay()
 
     @app.before_request
     def lead_second() -> Any:
@@ -115,7 +116,7 @@ def led_to(form: str) -> str:
     found = journal.one("SELECT path, state FROM sent LEFT JOIN plan ON plan.id = sent.plan WHERE key = ?", form)
     if found is None or found["path"] is None and found["state"] in ("refused", "fault", "lost"):
         return ""
-    return str(found["path"] or OTHERWISE)
+    return str(found["path"] or path_to(OTHERWISE))
 
 
 def note_result(form: str, answer: Response) -> None:

@@ -79,15 +79,13 @@ TASKS = tuple(
 )
 # The topics of the pages of a blueprint, where it isn't called as its topic, and of single pages.
 OF_BLUEPRINTS = {
-    "coming_in": "account",
-    "find": "search",
-    "bring_in": "import",
+    "create": "new",
+    "imports": "import",
     "runs": "import",
     "own_fields": "fields",
     "values": "lists",
     "work": "lists",
-    "people": "users",
-    "printing": "print",
+    "print_displays": "print",
     "visitors": "proposals",
     "indexing": "index",
     "queue": "index",
@@ -96,7 +94,7 @@ OF_BLUEPRINTS = {
     "list_tables": "tables",
 }
 OF_PAGES = {
-    "find.az": "az",
+    "search.az": "az",
     "tree.schemes": "collections",
     "tree.collections": "collections",
     "lists.quality": "quality",
@@ -107,7 +105,7 @@ PARTS = ("purpose", "mistake1", "mistake2", "mistake3")
 
 
 @dataclass(frozen=True)
-class Found:
+class HelpEntry:
     """A task or a page of the help that has the words that are asked for."""
 
     name: str
@@ -127,18 +125,18 @@ def keys_of(topic: str) -> dict[str, str]:
     return {key: say(f"home.key.{KEYS[key]}") for key in (*EVERYWHERE, *FURTHER.get(topic, ()))}
 
 
-def tasks_with(query: str) -> list[Found]:
+def tasks_with(query: str) -> list[HelpEntry]:
     """Returns the tasks that have all words of a text, or all tasks."""
-    return found_in(query, [Found(it, say(f"help.task.{it}.title"), say(f"help.task.{it}.text")) for it in TASKS])
+    return found_in(query, [HelpEntry(it, say(f"help.task.{it}.title"), say(f"help.task.{it}.text")) for it in TASKS])
 
 
-def pages_with(query: str) -> list[Found]:
+def pages_with(query: str) -> list[HelpEntry]:
     """Returns the topics whose help has all words of a text, or all topics."""
     told = [(it, [say(f"help.{it}.{part}") for part in ("name", *PARTS)]) for it in TOPICS]
-    return found_in(query, [Found(it, texts[0], " ".join(texts[1:])) for it, texts in told])
+    return found_in(query, [HelpEntry(it, texts[0], " ".join(texts[1:])) for it, texts in told])
 
 
-def found_in(query: str, those: list[Found]) -> list[Found]:
+def found_in(query: str, those: list[HelpEntry]) -> list[HelpEntry]:
     """Returns those that have all words of a text, but for case and accents."""
     asked = fold(query).split()
     return [it for it in those if all(word in fold(f"{it.title} {it.text}") for word in asked)]

@@ -15,7 +15,7 @@ from thesaurus_desk.journal.recovery import RESTORED
 from thesaurus_desk.journal.references import REFERENCE
 from thesaurus_desk.store.plan_execution import Outcome
 from thesaurus_desk.web import context
-from thesaurus_desk.web.context import person, say, the_desk, the_mirror, words
+from thesaurus_desk.web.context import person, say, the_desk, the_replica, words
 from thesaurus_desk.web.refusals import explain, explain_state, label_of
 from thesaurus_desk.web.request_text import sentence_of
 from thesaurus_tools.fields import HIDDEN
@@ -52,7 +52,7 @@ class PageLinks:
 
     def candidate_above(self, number: int) -> int | None:
         """Returns a broader concept that is a candidate, if there is one."""
-        it, statuses = the_mirror().get(number), the_desk().replica.statuses()
+        it, statuses = the_replica().get(number), the_desk().replica.statuses()
         return next((one for one in sorted(it.broader) if statuses.get(one) in HIDDEN), None) if it else None
 
     def returned(self, number: int) -> int | None:
@@ -64,7 +64,7 @@ LINKS = PageLinks()
 
 
 @dataclass(frozen=True)
-class ToldPlan:
+class PlanText:
     """A plan of the journal for a page: a sentence for each step, with the reason if it was refused.
 
     `restored`: what is said of a store that was restored from a backup. `changed`: what another program changed."""
@@ -81,17 +81,17 @@ class ToldPlan:
 
 
 @dataclass(frozen=True)
-class ToldConflict:
+class ConflictText:
     """What was changed in a resource since a form was made: the differences with their signs, and the plans that made
     them, with who and when. `is_own`: the form's author made all of them."""
 
     number: int
     changes: list[tuple[str, Markup]]
-    plans: list[ToldPlan]
+    plans: list[PlanText]
     is_own: bool
 
 
-def tell_plan(plan: Plan, most: int = MOST_STEPS, number: int | None = None) -> ToldPlan:
+def tell_plan(plan: Plan, most: int = MOST_STEPS, number: int | None = None) -> PlanText:
     """Returns a plan in the reader's words: of each step its sentence, its state, and why it was refused. In the
     history of a resource these are the steps that concern it."""
     steps = [it for it in plan.steps if number is None or number in it.numbers] or plan.steps
@@ -101,7 +101,7 @@ def tell_plan(plan: Plan, most: int = MOST_STEPS, number: int | None = None) -> 
     changed = () if plan.steps else the_desk().history.resources_changed_by(plan.id)
     whole, others = tell_whole(plan) if number is None and plan.first is None else ("", 0)
     restored, has_refused = tell_restored(plan.note or ""), bool(whole) and the_desk().batches.has_refused(plan.id)
-    return ToldPlan(plan, lines, len(steps) - len(lines) + others, restored, changed, whole, has_refused)
+    return PlanText(plan, lines, len(steps) - len(lines) + others, restored, changed, whole, has_refused)
 
 
 def tell_whole(plan: Plan) -> tuple[str, int]:
@@ -134,17 +134,17 @@ def tell_restored(note: str) -> str | Markup:
 
 def tell_step(step: Step) -> Markup:
     """Returns a step as a sentence."""
-    return sentence_of(step.request, step.answer, the_mirror(), words(), LINKS, step.kept)
+    return sentence_of(step.request, step.answer, the_replica(), words(), LINKS, step.kept)
 
 
 def why_refused(step: Step) -> Markup:
     """Returns why a step was refused; nothing for any other."""
     if step.state not in ("refused", "fault") or not step.answer:
         return Markup("")
-    return explain(step.answer, step.request, the_mirror(), words(), LINKS)
+    return explain(step.answer, step.request, the_replica(), words(), LINKS)
 
 
-def tell_plans(plans: Iterable[Plan], number: int | None = None) -> list[ToldPlan]:
+def tell_plans(plans: Iterable[Plan], number: int | None = None) -> list[PlanText]:
     """Returns plans in the reader's words; in the history of a resource, what of them concerns it."""
     return [tell_plan(it, number=number) for it in plans]
 
@@ -154,7 +154,7 @@ def tell_outcome(outcome: Outcome) -> Markup:
     step = outcome.failed
     if outcome.state in ("unknown", "lost") or step is None or outcome.answer is None:
         return explain_state(outcome.state, words())
-    why = explain(outcome.answer, with_scheme(step.request, outcome), the_mirror(), words(), LINKS)
+    why = explain(outcome.answer, with_scheme(step.request, outcome), the_replica(), words(), LINKS)
     if len(outcome.steps) < 2:
         return why
     return escape(say("refusals.Step.text", why=why, step=tell_step(step)))
@@ -166,14 +166,14 @@ def with_scheme(request: Request, outcome: Outcome) -> Request:
     if not REFERENCE.fullmatch(owner) or int(owner[1:]) > len(outcome.steps):
         return request
     maker = outcome.steps[int(owner[1:]) - 1].request
-    source = the_mirror().view(maker["source"]) if maker["do"] == "split" else None
+    source = the_replica().view(maker["source"]) if maker["do"] == "split" else None
     return {**request, "scheme": source.scheme if source is not None else maker.get("scheme")}
 
 
-def tell_conflict(conflict: Conflict) -> ToldConflict:
+def tell_conflict(conflict: Conflict) -> ConflictText:
     """Returns a conflict in the reader's words."""
     is_own = {it.user for it in conflict.plans} == {person().name}
-    return ToldConflict(conflict.number, tell_changes(conflict.changes), tell_plans(conflict.plans), is_own)
+    return ConflictText(conflict.number, tell_changes(conflict.changes), tell_plans(conflict.plans), is_own)
 
 
 def tell_change(change: Change) -> Markup:

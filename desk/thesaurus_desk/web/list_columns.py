@@ -6,11 +6,11 @@ from typing import NamedTuple
 
 from thesaurus_desk.journal.edit_conflicts import mark_of_row
 from thesaurus_desk.store.model import View
-from thesaurus_desk.web.context import field_words, person, say, status_words, tags, the_desk, the_fields, the_mirror
+from thesaurus_desk.web.context import field_words, person, say, status_words, tags, the_desk, the_fields, the_replica
 from thesaurus_tools.fields import OFFERED, Field, table_fields
 from thesaurus_tools.headings import OF_FIELD, TAG, WORDS, find_column
 from thesaurus_tools.kinds import BROADER, LABEL_KINDS, MAPPINGS
-from thesaurus_tools.table_writing import JOINT, is_plain
+from thesaurus_tools.table_writer import JOINT, is_plain
 from thesaurus_tools.values import cell_of
 
 # Of how many languages a table has terms, and of how many languages or codes the values of a field: those of the reader
@@ -136,16 +136,16 @@ def several(texts: Iterable[str]) -> str:
     return f" {JOINT} ".join(it for it in texts if JOINT not in it)
 
 
-def named(number: int) -> str:
+def name_in_cell(number: int) -> str:
     """Returns how a cell names a resource: a concept by its term if no other one has that; else by its number."""
-    text = the_mirror().term(number, tags())[1]
-    hits = the_mirror().named(text, live=True)
+    text = the_replica().term(number, tags())[1]
+    hits = the_replica().named(text, live=True)
     return text if [it.number for it in hits] == [number] and is_plain(text) else str(number)
 
 
-def matched(number: int) -> str:
+def target_in_cell(number: int) -> str:
     """Returns how a cell names what a concept is mapped to: an external concept by its address."""
-    return the_mirror().iri(number) if the_mirror().kind(number) == "outside" else str(number)
+    return the_replica().iri(number) if the_replica().kind(number) == "outside" else str(number)
 
 
 def cell_of_column(view: View, column: ListColumn, last: int, has_below: bool) -> object:
@@ -155,9 +155,9 @@ def cell_of_column(view: View, column: ListColumn, last: int, has_below: bool) -
         texts = [text for its, text in view.terms(name) if its == tag]
         return "".join(texts[:1]) if name == "scope" else several(texts)
     if name in MAPPINGS:
-        return several(matched(number) for kind, number in view.mappings if kind == name)
+        return several(target_in_cell(number) for kind, number in view.mappings if kind == name)
     if name in LINKS:
-        return several(map(named, ends_of(view, name)))
+        return several(map(name_in_cell, ends_of(view, name)))
     if name == "status":
         return status_words(view.number)
     if name in the_fields():
@@ -172,7 +172,7 @@ def cell_of_column(view: View, column: ListColumn, last: int, has_below: bool) -
 def ends_of(view: View, name: str) -> Sequence[int]:
     """Returns the other ends of the links of a column."""
     if name == "members":
-        return the_mirror().ordered(view.members, tags())
+        return the_replica().ordered(view.members, tags())
     if name in BROADER[1:]:
         return [number for kind, number in view.above if kind == name]
     found: Sequence[int] = view.collections if name == "member" else getattr(view, name)
@@ -182,9 +182,9 @@ def ends_of(view: View, name: str) -> Sequence[int]:
 def shown_of(view: View, name: str) -> object:
     """Returns what a list shows of a resource."""
     if name == "records":
-        return the_mirror().postings.count_records_at(view.number)
+        return the_replica().postings.count_records_at(view.number)
     if name in ("term", "language"):
-        return the_mirror().term(view.number, tags())[name == "term"]
+        return the_replica().term(view.number, tags())[name == "term"]
     return {
         "number": view.number,
         "address": view.iri,

@@ -6,7 +6,7 @@ from typing import Any
 
 from flask import render_template, request
 
-from thesaurus_desk.web.context import field_words, person, say, tags, the_fields, the_mirror
+from thesaurus_desk.web.context import field_words, person, say, tags, the_fields, the_replica
 from thesaurus_desk.web.forms import FormState
 from thesaurus_desk.web.list_columns import ListColumn
 from thesaurus_desk.web.spreadsheets import is_table_asked, sheet
@@ -35,13 +35,13 @@ def in_other_form(
 
 def ticks_page(numbers: Iterable[int], state: FormState, status: int) -> Any:
     """Returns the concepts in use of a list with ticks, and what can be done with those that are ticked."""
-    mirror = the_mirror()
-    concepts = set(mirror.numbers("concept", None, True)).intersection(numbers)
+    replica = the_replica()
+    concepts = set(replica.numbers("concept", None, True)).intersection(numbers)
     page = render_template(
         "bulk.html",
         form=FORM,
         state=state,
-        ticks=ticks_of_concepts(mirror.ordered(concepts, tags())),
+        ticks=ticks_of_concepts(replica.ordered(concepts, tags())),
         listed=ranges_of(concepts),
         statuses=[(it, say(f"status.{it}")) for it in (APPROVED, *STATUSES)],
         texts=[("scope", say("kinds.label.scope")), *((it, field_words(it)) for it in fields_to_set())],

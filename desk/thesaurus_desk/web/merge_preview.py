@@ -6,11 +6,11 @@ from dataclasses import dataclass
 
 from thesaurus_desk.store.model import Link, OwnLabel, Term
 from thesaurus_desk.store.replica import Replica
-from thesaurus_desk.web.rule_conflicts import Broken, rule_broken_by_merge
+from thesaurus_desk.web.rule_conflicts import RuleConflict, rule_broken_by_merge
 
 
 @dataclass(frozen=True, slots=True)
-class Merge:
+class MergePreview:
     """What a merge would do."""
 
     source: int
@@ -28,33 +28,33 @@ class Merge:
     # The number of records that move, each counted once, and of those among them that the target has already.
     records: int
     doubles: int
-    broken: Broken | None
+    broken: RuleConflict | None
 
 
-def foresee_merge(mirror: Replica, source: int, target: int) -> Merge:
+def foresee_merge(replica: Replica, source: int, target: int) -> MergePreview:
     """Returns what a merge of two live concepts of one scheme would do."""
-    with mirror.reading():
-        one = mirror.resource(source)
+    with replica.reading():
+        one = replica.resource(source)
         links: list[Link] = []
         there: list[Link] = []
         between: list[Link] = []
         for it in sorted(one.links()):
             sent = Link(it.kind, *(target if end == source else end for end in it[1:]))
-            (between if sent.a == sent.b else there if mirror.has_link(sent) else links).append(it)
-        records = mirror.postings.records_at(source)
-        has = {it[1:] for it in mirror.resource(target).labels if it[0] != "scope"}
-        return Merge(
+            (between if sent.a == sent.b else there if replica.has_link(sent) else links).append(it)
+        records = replica.postings.records_at(source)
+        has = {it[1:] for it in replica.resource(target).labels if it[0] != "scope"}
+        return MergePreview(
             source,
             target,
-            labels=tuple(labels_to_copy(one.labels, mirror.resource(target).labels)),
+            labels=tuple(labels_to_copy(one.labels, replica.resource(target).labels)),
             dropped_labels=tuple(sorted(it for it in one.labels if it[0] != "scope" and it[1:] in has)),
             notes=tuple(one.terms("scope")),
             links=tuple(links),
             there=tuple(there),
             between=tuple(between),
             records=len(records),
-            doubles=len(records & mirror.postings.records_at(target)),
-            broken=rule_broken_by_merge(mirror, source, target),
+            doubles=len(records & replica.postings.records_at(target)),
+            broken=rule_broken_by_merge(replica, source, target),
         )
 
 

@@ -9,8 +9,8 @@ from markupsafe import Markup, escape
 from thesaurus_desk.journal import Step
 from thesaurus_desk.store.model import View
 from thesaurus_desk.store.text_keys import fold
-from thesaurus_desk.web.context import link, person, say, tags, the_desk, the_entry, the_mirror, words
-from thesaurus_desk.web.journal_text import ToldPlan, tell_plan
+from thesaurus_desk.web.context import link, person, say, tags, the_desk, the_entry, the_replica, words
+from thesaurus_desk.web.journal_text import PlanText, tell_plan
 from thesaurus_desk.web.pages.changes import has_take_back
 from thesaurus_desk.web.refusals import label_of
 
@@ -21,10 +21,10 @@ GIVE_TERMS = ("concept", "split", "addLabel", "relabel")
 
 
 @dataclass(frozen=True)
-class Said:
+class Notice:
     """A plan that was just done: its first steps in words, how many more there are, and where it is taken back."""
 
-    told: ToldPlan
+    told: PlanText
     more: int
     take_back: str
     # Whether what takes it back is shown first: a concept comes back under another number.
@@ -33,7 +33,7 @@ class Said:
     elsewhere: list[Markup]
 
 
-def said() -> Said | None:
+def notice_of_plan() -> Notice | None:
     """Returns the plan that the address names, if the reader sent it or proposed it."""
     text = request.args.get("done", "")
     if not text.isascii() or not text.isdigit() or len(text) > 12 or not person().name:
@@ -46,27 +46,27 @@ def said() -> Said | None:
     more = max(0, len(plan.steps) - MOST_STEPS)
     plan.steps = plan.steps[:MOST_STEPS]
     found = [terms_elsewhere(it) for it in plan.steps if it.state == "done"]
-    return Said(tell_plan(plan), more, path, is_shown_first, [it for it in found if it])
+    return Notice(tell_plan(plan), more, path, is_shown_first, [it for it in found if it])
 
 
 def terms_elsewhere(step: Step) -> Markup:
     """Returns which other concepts of its thesaurus have the term that a step gave to a concept, or nothing."""
-    asked, mirror = step.request, the_mirror()
+    asked, replica = step.request, the_replica()
     owner = asked.get("owner") or (step.answer or {}).get("ok")
-    view = mirror.view(owner) if isinstance(owner, int) and asked["do"] in GIVE_TERMS else None
+    view = replica.view(owner) if isinstance(owner, int) and asked["do"] in GIVE_TERMS else None
     if view is None or view.kind != "concept" or asked.get("kind", "pref") not in ("pref", "alt"):
         return Markup()
     tag, text = str(asked["tag"]).lower(), asked["text"]
     others = [it for it in having_term(tag, text) if it.scheme == view.scheme and it.number != owner]
     if not others:
         return Markup()
-    concepts = Markup(", ").join(link(it) for it in mirror.ordered([it.number for it in others], tags()))
+    concepts = Markup(", ").join(link(it) for it in replica.ordered([it.number for it in others], tags()))
     return escape(say("home.elsewhere", label=label_of(words(), text, tag), concepts=concepts))
 
 
 def having_term(tag: str, text: str) -> list[View]:
     """Returns the live concepts with a preferred or alternative term in a language but for case and accents."""
-    views = (the_mirror().view(it.number) for it in the_mirror().named(text, ("concept",), True))
+    views = (the_replica().view(it.number) for it in the_replica().named(text, ("concept",), True))
     return [
         it
         for it in views

@@ -66,7 +66,7 @@ def pieces_of(connection: http.client.HTTPConnection, answer: http.client.HTTPRe
         connection.close()
 
 
-class Passing:
+class Forwarder:
     """A WSGI application that reads: what changes something, and what only the office has, is passed on."""
 
     def __init__(self, app: WSGIApplication, folder: Path) -> None:
@@ -99,7 +99,7 @@ class Passing:
         return pieces_of(connection, answer)
 
 
-class FromPages:
+class PageConnections:
     """A WSGI application of the office: each request has the address of who has sent it to a process that makes
     pages."""
 

@@ -12,7 +12,8 @@ from markupsafe import Markup
 from thesaurus_desk.journal.entries import Request
 from thesaurus_desk.journal.queue import KEY, read_indexing
 from thesaurus_desk.web.concept_choice import is_number
-from thesaurus_desk.web.context import link, say, the_desk, the_mirror
+from thesaurus_desk.web.context import link, say, the_desk, the_replica
+from thesaurus_desk.web.paths import path_to
 from thesaurus_desk.web.posting_keys import new_key
 
 SEEN = re.compile(r"([0-9]{1,10})-([0-9]{1,10})")
@@ -53,7 +54,7 @@ class RecordForm:
 
 def standing_of(record: str) -> Standing:
     """Returns the standing postings of a record."""
-    return {it.number: it.place for it in the_mirror().postings.of_record(record) if not it.is_withdrawn}
+    return {it.number: it.place for it in the_replica().postings.of_record(record) if not it.is_withdrawn}
 
 
 def opened_record(record: str) -> RecordForm:
@@ -67,8 +68,8 @@ def sent_record(record: str, chosen: Iterable[int] = ()) -> RecordForm:
     since it was made is so here, too."""
     seen, now = seen_of(request.form.get("was", "")), standing_of(record)
     numbers = {int(it) for it in request.form.getlist("concept") if is_number(it)}
-    ticked = {the_mirror().final(it) or it for it in numbers.union(chosen)}
-    before = {the_mirror().final(it) or it for it in seen.values()}
+    ticked = {the_replica().final(it) or it for it in numbers.union(chosen)}
+    before = {the_replica().final(it) or it for it in seen.values()}
     added, gone = frozenset(now.values()) - before, before.difference(now.values())
     return RecordForm(record, now, frozenset(ticked | added) - gone, added, frozenset(gone))
 
@@ -85,7 +86,7 @@ def text_of(seen: Standing) -> str:
 
 def page_to_index(name: str) -> str:
     """Returns the path of the page on which a record is indexed."""
-    return f"/index?{urlencode({'record': name})}"
+    return f"{path_to('indexing.open_record')}?{urlencode({'record': name})}"
 
 
 def catalogue_link(record: str) -> str:

@@ -20,12 +20,12 @@ MOST_NAMED = 12
 
 
 @dataclass(frozen=True)
-class Telling:
+class RequestText:
     """A request and its answer, with what is needed to put them into words. `kept`: what it destroyed."""
 
     request: Row
     answer: Row
-    mirror: Replica
+    replica: Replica
     words: Words
     links: Links
     kept: Row
@@ -39,7 +39,7 @@ class Telling:
 
     def named(self, number: Any) -> Markup:
         """Returns a link to a resource; the new concept of the plan by these words."""
-        if isinstance(number, int) and self.mirror.get(number) is not None:
+        if isinstance(number, int) and self.replica.get(number) is not None:
             return self.links.link(number)
         if isinstance(number, str):
             return self.links.new(number) or self.say("new_one")
@@ -61,31 +61,31 @@ class Telling:
     def made(self) -> Markup:
         """Returns a link to what the request made, or its label."""
         number = self.answer.get("ok")
-        if isinstance(number, int) and self.mirror.get(number) is not None:
+        if isinstance(number, int) and self.replica.get(number) is not None:
             return self.links.link(number)
         return self.label()
 
     def records(self, postings: Iterable[int]) -> int:
         """Returns the number of records of some postings, each counted once."""
-        return len({it.record for it in self.mirror.postings.several(postings)})
+        return len({it.record for it in self.replica.postings.several(postings)})
 
 
 def sentence_of(
-    request: Row, answer: Row | None, mirror: Replica, words: Words, links: Links, kept: Row | None = None
+    request: Row, answer: Row | None, replica: Replica, words: Words, links: Links, kept: Row | None = None
 ) -> Markup:
     """Returns a request, with its answer if it has one, as a sentence without a stop. `kept`: what it destroyed, as
     the term that a rename has replaced, if that is known."""
-    it = Telling(request, answer or {}, mirror, words, links, kept or {})
+    it = RequestText(request, answer or {}, replica, words, links, kept or {})
     write = WRITERS.get(str(request.get("do")))
     return write(it) if write else it.say("other", name=str(request.get("do")))
 
 
-def write_label(it: Telling) -> Markup:
+def write_label(it: RequestText) -> Markup:
     kind = it.words(f"kinds.label.{it.request['kind']}")
     return it.say(it.request["do"], owner=it.link("owner"), kind=kind, label=it.label())
 
 
-def write_relabel(it: Telling) -> Markup:
+def write_relabel(it: RequestText) -> Markup:
     key = "relabel_keep" if it.request.get("keep") else "relabel"
     old = it.kept.get("old")
     if old is None:
@@ -93,22 +93,22 @@ def write_relabel(it: Telling) -> Markup:
     return it.say(f"{key}_from", owner=it.link("owner"), old=it.quoted(old), label=it.label())
 
 
-def write_link(it: Telling) -> Markup:
+def write_link(it: RequestText) -> Markup:
     do, kind = it.request["do"], it.request["kind"]
     if kind == "member":
         return it.say(f"{do}_member", a=it.link("a"), b=it.link("b"))
     return it.say(do, a=it.link("a"), b=it.link("b"), kind=it.words(f"kinds.link.{kind}"))
 
 
-def write_made(it: Telling) -> Markup:
+def write_new(it: RequestText) -> Markup:
     return it.say(it.request["do"], made=it.made())
 
 
-def write_outside(it: Telling) -> Markup:
+def write_outside(it: RequestText) -> Markup:
     return it.say("outside", iri=it.links.elsewhere(it.request["iri"]))
 
 
-def write_merge(it: Telling) -> Markup:
+def write_merge(it: RequestText) -> Markup:
     ends = {"source": it.link("source"), "target": it.link("target")}
     if "moved" not in it.answer:
         return it.say("merge", **ends)
@@ -117,30 +117,30 @@ def write_merge(it: Telling) -> Markup:
     return it.say("merge_moved", n=count, **ends)
 
 
-def write_split(it: Telling) -> Markup:
+def write_split(it: RequestText) -> Markup:
     postings = it.request.get("postings", ())
     return it.say("split", n=it.records(postings) or len(postings), source=it.link("source"), made=it.made())
 
 
-def write_deprecate(it: Telling) -> Markup:
+def write_deprecate(it: RequestText) -> Markup:
     return it.say("deprecate", concept=it.link("concept"))
 
 
-def write_post(it: Telling) -> Markup:
+def write_post(it: RequestText) -> Markup:
     key = "post_again" if "again" in it.answer else "post"
     return it.say(key, record=record_link(it.request["record"]), concept=it.link("concept"))
 
 
-def write_withdraw(it: Telling) -> Markup:
+def write_withdraw(it: RequestText) -> Markup:
     number = it.request["posting"]
-    posting = it.mirror.postings.get(number) if isinstance(number, int) else None
+    posting = it.replica.postings.get(number) if isinstance(number, int) else None
     if posting is None:
         return it.say("withdraw", posting=str(number))
     concept = it.links.link(posting.place)
     return it.say("withdraw_of", record=record_link(posting.record), concept=concept)
 
 
-def write_import(it: Telling) -> Markup:
+def write_import(it: RequestText) -> Markup:
     outcomes = it.answer.get("outcomes", {})
     # (of an import that was cut short only the numbers of its postings are known)
     made = it.answer["last"] - it.answer["first"] + 1 if "last" in it.answer else 0
@@ -151,7 +151,7 @@ def write_import(it: Telling) -> Markup:
     return it.say("import", file=it.request.get("name", ""), outcomes=Markup(", ").join(parts) if parts else rows)
 
 
-def write_set(it: Telling) -> Markup:
+def write_set(it: RequestText) -> Markup:
     """Returns which value of a field was added, changed or removed; of a long one its beginning."""
     name, tag = it.request["field"], it.request["tag"]
     if name == "status":
@@ -163,15 +163,15 @@ def write_set(it: Telling) -> Markup:
     return it.say(key, owner=it.link("owner"), kind=f"{kind} ({tag})" if tag else kind, old=old, new=new)
 
 
-WRITERS: dict[str, Callable[[Telling], Markup]] = {
+WRITERS: dict[str, Callable[[RequestText], Markup]] = {
     "addLabel": write_label,
     "dropLabel": write_label,
     "relabel": write_relabel,
     "link": write_link,
     "unlink": write_link,
-    "scheme": write_made,
-    "concept": write_made,
-    "collection": write_made,
+    "scheme": write_new,
+    "concept": write_new,
+    "collection": write_new,
     "outside": write_outside,
     "merge": write_merge,
     "split": write_split,

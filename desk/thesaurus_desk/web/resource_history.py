@@ -2,11 +2,11 @@
 from __future__ import annotations
 
 from thesaurus_desk.web.context import the_desk
-from thesaurus_desk.web.journal_text import ToldPlan, tell_plans
+from thesaurus_desk.web.journal_text import PlanText, tell_plans
 
 MOST_SHOWN = 12
 
 
-def history_of(number: int) -> list[ToldPlan]:
+def history_of(number: int) -> list[PlanText]:
     """Returns the last plans that concern a resource, in the reader's words."""
     return tell_plans(the_desk().journal.plans_about(number, MOST_SHOWN), number)

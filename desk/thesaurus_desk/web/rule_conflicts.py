@@ -21,7 +21,7 @@ MATCHES = {
 
 
 @dataclass(frozen=True, slots=True)
-class Broken:
+class RuleConflict:
     """A rule that a request would break, and the resources that break it.
 
     Of Cycle, `way` is the ring: its first is its last. Of S27, `way` is the chain up from one of two related concepts
@@ -32,17 +32,17 @@ class Broken:
     way: tuple[int, ...]
 
 
-def rule_broken_by_merge(mirror: Replica, source: int, target: int) -> Broken | None:
+def rule_broken_by_merge(replica: Replica, source: int, target: int) -> RuleConflict | None:
     """Returns the first of Cycle, S27 and S46 that a merge of two concepts would break."""
-    with mirror.reading():
-        graph = Graph(mirror, merged=(source, target))
+    with replica.reading():
+        graph = Graph(replica, merged=(source, target))
         return graph.cycle(target) or graph.related_in_chain(target, target) or graph.apart_but_exact(target)
 
 
-def rule_broken_by_link(mirror: Replica, link: Link) -> Broken | None:
+def rule_broken_by_link(replica: Replica, link: Link) -> RuleConflict | None:
     """Returns the first of Cycle, S27 and S46 that a link would break. Its ends must be such as the kind joins."""
-    with mirror.reading():
-        graph = Graph(mirror, added=mirror.normal(link))
+    with replica.reading():
+        graph = Graph(replica, added=replica.normal(link))
         kind, a, b = link
         if kind in BROADER or kind in ("broad", "narrow"):
             low, high = (b, a) if kind == "narrow" else (a, b)
@@ -57,8 +57,8 @@ def rule_broken_by_link(mirror: Replica, link: Link) -> Broken | None:
 class Graph:
     """The links as they would be after a merge, or with another link."""
 
-    def __init__(self, mirror: Replica, merged: tuple[int, int] | None = None, added: Link | None = None) -> None:
-        self.mirror, self.added = mirror, added
+    def __init__(self, replica: Replica, merged: tuple[int, int] | None = None, added: Link | None = None) -> None:
+        self.replica, self.added = replica, added
         self.source, self.target = merged or (0, 0)
 
     def next_to(self, number: int, which: str) -> set[int]:
@@ -66,7 +66,7 @@ class Graph:
         exact one)."""
         found: set[int] = set()
         for node in (number, self.source) if self.source and number == self.target else (number,):
-            it = self.mirror.resource(node)
+            it = self.replica.resource(node)
             found.update(it.broader if which == UP else it.narrower if which == DOWN else ())
             found.update(it.related if which == RELATED else ())
             if it.matches:
@@ -95,7 +95,7 @@ class Graph:
             waiting += news
         return found
 
-    def chained(self, low: int, high: int, rule: str = "S27") -> Broken | None:
+    def chained(self, low: int, high: int, rule: str = "S27") -> RuleConflict | None:
         """Returns the shortest chain of one or more links up from one to another as what breaks a rule."""
         came: dict[int, int] = {}
         waiting = [low]
@@ -105,17 +105,17 @@ class Graph:
                     way = [high, at]
                     while way[-1] != low:
                         way.append(came[way[-1]])
-                    return Broken(rule, tuple(way[::-1]))
+                    return RuleConflict(rule, tuple(way[::-1]))
                 if above not in came and above != low:
                     came[above] = at
                     waiting.append(above)
         return None
 
-    def cycle(self, number: int) -> Broken | None:
+    def cycle(self, number: int) -> RuleConflict | None:
         """Returns the ring on which a resource is."""
         return self.chained(number, number, "Cycle")
 
-    def related_in_chain(self, low: int, high: int) -> Broken | None:
+    def related_in_chain(self, low: int, high: int) -> RuleConflict | None:
         """Returns two related ones, where one is `low` or below it, and the other one `high` or above it."""
         above = self.reach(high, UP)
         for one in sorted(self.reach(low, DOWN)):
@@ -123,10 +123,10 @@ class Graph:
                 return self.chained(one, other)
         return None
 
-    def apart_but_exact(self, number: int) -> Broken | None:
+    def apart_but_exact(self, number: int) -> RuleConflict | None:
         """Returns two of those that are exact matches by a chain with a resource, and that have another match, too."""
         alike = self.reach(number, EXACT)
         for one in sorted(alike):
             for other in sorted(self.next_to(one, APART) & alike):
-                return Broken("S46", (one, other))
+                return RuleConflict("S46", (one, other))
         return None

@@ -8,7 +8,7 @@ from flask import Response, abort, make_response, render_template, request, stre
 
 from thesaurus_desk.journal.history import to_csv
 from thesaurus_desk.store.model import Posting
-from thesaurus_desk.web.context import say, tags, the_desk, the_mirror
+from thesaurus_desk.web.context import say, tags, the_desk, the_replica
 from thesaurus_desk.web.list_columns import (
     ListColumn,
     cell_of_column,
@@ -37,7 +37,7 @@ class Sheet:
         """Yields the rows of a table of resources, the headings first; external concepts have nothing to be changed."""
         yield tuple(map(heading_of, self.columns))
         for number in numbers:
-            view = the_mirror().view(number)
+            view = the_replica().view(number)
             if view is not None and view.kind != "outside":
                 yield tuple(cell_of_column(view, it, self.last, self.has_below) for it in self.columns)
 
@@ -46,7 +46,7 @@ def rows_of_postings(postings: Iterable[Posting]) -> Iterator[Row]:
     """Yields the rows of a table of postings, the headings first."""
     yield (say("edit.key"), *(say(f"lists.column.{it}") for it in ("record", "number", "term")))
     for it in postings:
-        yield it.key, it.record, it.place, the_mirror().term(it.place, tags())[1]
+        yield it.key, it.record, it.place, the_replica().term(it.place, tags())[1]
 
 
 def is_table_asked() -> bool:
@@ -69,10 +69,10 @@ def sheet_of_rows(name: str, rows: Iterable[Row]) -> Response:
     if form in ("", "csv") or form not in writable_forms():
         lines = stream_with_context(chain(("\ufeff",), map(to_csv, rows)))
         return Response(lines, content_type=MEDIA["csv"], headers=headers)
-    return Response(workbook(form, bounded(rows)), content_type=MEDIA[form], headers=headers)
+    return Response(workbook(form, bound_rows(rows)), content_type=MEDIA[form], headers=headers)
 
 
-def bounded(rows: Iterable[Row]) -> list[list[str]]:
+def bound_rows(rows: Iterable[Row]) -> list[list[str]]:
     """Returns rows as texts, if they are few enough for a file that is no CSV."""
     found: list[list[str]] = []
     for row in rows:

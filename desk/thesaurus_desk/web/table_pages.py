@@ -8,45 +8,46 @@ from flask import current_app, redirect, render_template, request
 from markupsafe import Markup
 from werkzeug.wrappers import Response
 
-from thesaurus_desk.importing.posting_files import Brought
+from thesaurus_desk.importing.posting_files import PostingImport
 from thesaurus_desk.importing.table_runs import run_table
-from thesaurus_desk.importing.tables import Bringer, TableRun, preview_rows
-from thesaurus_desk.importing.uploads import Shelf
+from thesaurus_desk.importing.tables import Importer, TableRun, preview_rows
+from thesaurus_desk.importing.uploads import Uploads
 from thesaurus_desk.importing.vocabularies import SkosRun
 from thesaurus_desk.journal.entries import Answer, Request
 from thesaurus_desk.store.run_threads import Report
 from thesaurus_desk.web.background import in_background
-from thesaurus_desk.web.context import link, person, tags, the_desk, the_mirror, the_rights, words
+from thesaurus_desk.web.context import link, person, tags, the_desk, the_replica, the_rights, words
 from thesaurus_desk.web.journal_text import PageLinks, tell_outcome
+from thesaurus_desk.web.paths import path_to
 from thesaurus_desk.web.request_text import sentence_of
 from thesaurus_desk.web.table_columns import MOST_CHOICES, choices_of, column_words, role_groups
 from thesaurus_desk.web.tick_lists import numbers_of, page_of, ranges_of, ticked_numbers
-from thesaurus_tools.row_running import RowPlan
+from thesaurus_tools.row_runner import RowPlan
 
 # How many rows a page shows.
 SHOWN = 500
 
 
-def the_shelf() -> Shelf:
+def the_uploads() -> Uploads:
     """Returns what is kept for users until they go on."""
-    return cast(Shelf, current_app.extensions["shelf"])
+    return cast(Uploads, current_app.extensions["uploads"])
 
 
-def keep(what: TableRun | SkosRun | Brought) -> str:
+def keep(what: TableRun | SkosRun | PostingImport) -> str:
     """Keeps something for the reader, and returns its name."""
     rows = len(what.requests) + what.table.count("\n") if isinstance(what, SkosRun) else len(what.rows)
-    return the_shelf().keep(person().name, what, rows)
+    return the_uploads().keep(person().name, what, rows)
 
 
-def the_bringer() -> Bringer:
+def the_importer() -> Importer:
     """Returns the reader as one who brings a table in."""
-    return Bringer(person().name, person().role, the_rights(), words(), tell_outcome)
+    return Importer(person().name, person().role, the_rights(), words(), tell_outcome)
 
 
 def show_preview(run: TableRun) -> Any:
     """Tries the rows of a table, and returns its preview; or leads to where it will be. Raises NewConceptsError and
-    NotTried."""
-    desk, bringer = the_desk(), the_bringer()
+    NoTrial."""
+    desk, bringer = the_desk(), the_importer()
 
     def do(report: Report) -> TableRun:
         preview_rows(desk, run, bringer, report)
@@ -58,14 +59,14 @@ def show_preview(run: TableRun) -> Any:
 
 def show_performance(run: TableRun) -> Response:
     """Performs the rows of a table that was shown, and leads to what comes of them."""
-    desk, bringer = the_desk(), the_bringer()
+    desk, bringer = the_desk(), the_importer()
 
     def do(report: Report) -> TableRun:
         run_table(desk, run, bringer, report)
         return run
 
     found = in_background(run.name, False, len(run.rows), do, keep)
-    return redirect(f"/bring-in/result/{found[0]}", 303) if isinstance(found, tuple) else found
+    return redirect(path_to("imports.result", name=found[0]), 303) if isinstance(found, tuple) else found
 
 
 def lines_left(run: TableRun) -> set[int]:
@@ -117,7 +118,7 @@ def sentences_of(run: TableRun, rows: Sequence[RowPlan]) -> dict[int, list[Marku
     """Returns what rows do, by their lines."""
     links = PageLinks(run.made)
     return {
-        it.line: [sentence_of(one, answer_to(run, one), the_mirror(), words(), links) for one in it.changes]
+        it.line: [sentence_of(one, answer_to(run, one), the_replica(), words(), links) for one in it.changes]
         for it in rows
         if not it.reason
     }
@@ -133,7 +134,7 @@ def moving_records(run: TableRun) -> dict[int, int]:
     merges = {
         it.line: [one["source"] for one in it.changes if one["do"] == "merge"] for it in run.plans if not it.reason
     }
-    count = the_mirror().postings.count_records_at
+    count = the_replica().postings.count_records_at
     return {line: sum(map(count, sources)) for line, sources in merges.items() if sources and not run.is_done}
 
 
@@ -148,7 +149,7 @@ def meant_by(row: RowPlan) -> Markup:
     if row.error is None or row.error.key != "not_called":
         return Markup()
     kind, text = (str(row.error.values[it]) for it in ("kind", "text"))
-    hits = the_mirror().search(text, kinds=(kind,), live=True, prefer=tags()[0], most=1)
+    hits = the_replica().search(text, kinds=(kind,), live=True, prefer=tags()[0], most=1)
     return link(hits[0].number) if hits else Markup()
 
 

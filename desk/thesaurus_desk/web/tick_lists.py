@@ -11,7 +11,7 @@ from markupsafe import Markup
 from thesaurus_desk.store.model import Posting
 from thesaurus_desk.store.text_keys import fold
 from thesaurus_desk.web.concept_choice import is_number
-from thesaurus_desk.web.context import record_name, record_title, tags, term, the_mirror
+from thesaurus_desk.web.context import record_name, record_title, tags, term, the_replica
 from thesaurus_desk.web.posting_keys import posting_name
 
 PAGE = 100
@@ -101,7 +101,7 @@ def tick_list(source: TickSource) -> TickList:
 
 def ticks_of(concept: int) -> TickList:
     """Returns the list of a concept's postings."""
-    postings = the_mirror().postings
+    postings = the_replica().postings
 
     def rows(numbers: Sequence[int]) -> list[TickRow]:
         return [TickRow(it.number, record_name(it.record), posting_name(it)) for it in postings.several(list(numbers))]
@@ -112,7 +112,7 @@ def ticks_of(concept: int) -> TickList:
 
 def filtered_postings(numbers: Sequence[int], folded: str) -> list[int]:
     """Returns the postings that have a folded text in their keys, or in the names or titles of their records."""
-    found = the_mirror().postings.several(list(numbers))
+    found = the_replica().postings.several(list(numbers))
     return [it.number for it in found if any(folded in fold(one) for one in texts_of(it))]
 
 
@@ -131,22 +131,22 @@ def ticks_of_concepts(numbers: Sequence[int]) -> TickList:
 
 def most_number() -> int:
     """Returns the highest number that a concept may have."""
-    return the_mirror().counts()["resources"]
+    return the_replica().counts()["resources"]
 
 
 def filtered_concepts(numbers: Sequence[int], folded: str) -> list[int]:
     """Returns the concepts that have a folded text in a term."""
     query = "SELECT DISTINCT owner FROM label WHERE kind < 4 AND instr(fold, ?)"
-    having = {owner for owner, in the_mirror().all(query, folded)}
+    having = {owner for owner, in the_replica().all(query, folded)}
     return [it for it in numbers if it in having]
 
 
 def concept_rows(numbers: Sequence[int]) -> list[TickRow]:
     """Returns the rows of concepts, each with the terms of those above it."""
-    mirror = the_mirror()
-    mirror.look_at(numbers)
-    above = mirror.above(numbers)
-    return [TickRow(it, term(it), ", ".join(map(term, mirror.ordered(above[it], tags())))) for it in numbers]
+    replica = the_replica()
+    replica.look_at(numbers)
+    above = replica.above(numbers)
+    return [TickRow(it, term(it), ", ".join(map(term, replica.ordered(above[it], tags())))) for it in numbers]
 
 
 # --- numbers in forms ---

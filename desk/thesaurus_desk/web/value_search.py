@@ -4,7 +4,7 @@ from __future__ import annotations
 from collections.abc import Iterator
 
 from thesaurus_desk.journal.values import Value
-from thesaurus_desk.web.context import person, the_desk, the_fields, the_mirror
+from thesaurus_desk.web.context import person, the_desk, the_fields, the_replica
 
 # How many values a search shows, of each sort.
 MOST = 50
@@ -20,7 +20,7 @@ def found_values(query: str) -> list[Value]:
     values = the_desk().values
     notations = values.beginning("notation", query, MOST)
     others = values.search(query, [it for it in seen if it != "notation"], MOST)
-    return [it for it in (*notations, *others) if the_mirror().kind(it.owner)]
+    return [it for it in (*notations, *others) if the_replica().kind(it.owner)]
 
 
 def has_notation(query: str) -> int | None:
@@ -32,4 +32,4 @@ def has_notation(query: str) -> int | None:
 def live_holders(notation: str) -> Iterator[int]:
     """Yields the resources in use that have a notation, of whatever code."""
     found = the_desk().values.select("field = 'notation' AND text = ?", notation)
-    return (it.owner for it in found if the_mirror().is_live(it.owner))
+    return (it.owner for it in found if the_replica().is_live(it.owner))

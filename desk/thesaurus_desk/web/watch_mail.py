@@ -13,8 +13,9 @@ from email.message import EmailMessage
 from typing import TYPE_CHECKING
 
 from thesaurus_desk.auth.accounts import Accounts
-from thesaurus_desk.journal.schema import written
+from thesaurus_desk.journal.schema import time_text
 from thesaurus_desk.journal.watches import News, Watcher
+from thesaurus_desk.web.paths import path_to
 from thesaurus_desk.words import Words
 
 if TYPE_CHECKING:
@@ -82,7 +83,7 @@ class WatchMail:
         nothing.
 
         What is sent is noted before, so that nothing is sent twice; not what surely wasn't taken."""
-        watches, until = self.desk.watches, written(datetime.now(UTC) - SETTLED)
+        watches, until = self.desk.watches, time_text(datetime.now(UTC) - SETTLED)
         if self.accounts.find(watcher.user) is None:
             return ""
         with self.desk.replica.reading():
@@ -108,7 +109,8 @@ class WatchMail:
         message = EmailMessage()
         message["To"], message["Subject"] = watcher.mail, words("for_me.mail_subject")
         message["Auto-Submitted"] = "auto-generated"
-        text = "\n".join([*self.lines(news, words), "", f"{words('for_me.mail_why')} {self.root}/for-me"])
+        why = f"{words('for_me.mail_why')} {self.root}{path_to('for_me.for_me')}"
+        text = "\n".join([*self.lines(news, words), "", why])
         message.set_content(f"{text}\n")
         return message
 

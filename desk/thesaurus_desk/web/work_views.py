@@ -6,7 +6,7 @@ from datetime import UTC, datetime
 from typing import Any
 
 from thesaurus_desk.store.model import View
-from thesaurus_desk.web.context import person, say, tags, the_desk, the_entry, the_mirror, the_rights
+from thesaurus_desk.web.context import person, say, tags, the_desk, the_entry, the_replica, the_rights
 from thesaurus_desk.web.field_views import mark_of
 from thesaurus_tools.fields import HIDDEN, OF_WORK, STATUSES
 
@@ -45,7 +45,7 @@ def work_of(number: int) -> Work:
     return Work(**{name: held[name][0].text for name in OF_WORK if name in held})
 
 
-def work_shown(view: View) -> Work | None:
+def work_of_view(view: View) -> Work | None:
     """Returns what the page of a concept shows of it; nothing to a visitor."""
     return work_of(view.number) if view.kind == "concept" and person().name else None
 
@@ -89,13 +89,13 @@ def found_in(which: str) -> dict[int, str]:
     """Returns the concepts in use of a list, with the values that bring them there."""
     query = "SELECT owner, text FROM value CROSS JOIN resource ON num = owner AND live = 1"
     asked = person().name if which == "mine" else today()
-    return {owner: text for owner, text in the_mirror().all(f"{query} WHERE {OF_LISTS[which]}", asked)}
+    return {owner: text for owner, text in the_replica().all(f"{query} WHERE {OF_LISTS[which]}", asked)}
 
 
-def listed(which: str) -> list[int]:
+def concepts_of_list(which: str) -> list[int]:
     """Returns the concepts of a list in their order: those that are due by their days, all others by their terms."""
     found = found_in(which)
-    numbers = the_mirror().ordered(found, tags())
+    numbers = the_replica().ordered(found, tags())
     return sorted(numbers, key=lambda it: found[it]) if which == "due" else numbers
 
 

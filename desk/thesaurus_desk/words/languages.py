@@ -3,7 +3,7 @@ from __future__ import annotations
 
 from flask import Flask, g, request
 
-from thesaurus_desk.web.context import the_mirror
+from thesaurus_desk.web.context import the_replica
 
 # Names of languages in themselves.
 NAMES = dict(
@@ -29,7 +29,7 @@ def install_languages(app: Flask) -> None:
 
     @app.before_request
     def choose() -> None:
-        there = the_mirror().languages()
+        there = the_replica().languages()
         chosen = request.cookies.get("terms", "")
         first = next((it for it in (chosen, g.words.language) if it in there), there[0] if there else "en")
         g.tags = [first, *(it for it in there if it != first)]

@@ -9,21 +9,26 @@ from flask import Blueprint, render_template
 
 from thesaurus_desk.auth.route_roles import public
 from thesaurus_desk.store.verdict import PATH, Verdict, read_verdict
-from thesaurus_desk.web.context import person, say, the_desk, the_mirror
+from thesaurus_desk.web.context import person, say, the_desk, the_replica
 from thesaurus_desk.web.pages.state import the_health
+from thesaurus_desk.web.paths import path_to
 
 pages = Blueprint("about", __name__)
 # What is proved, tested and trusted, line by line: the words are `about.GROUP.NAME`; and the page that shows it, for
 # whom it is.
 LINES = {
     "proved": (
-        ("place", "/record", "reader"),
-        ("counts", "/lists", "reader"),
-        ("rules", "/tree", "visitor"),
-        ("whole", "/changes", "reader"),
+        ("place", "records.record", "reader"),
+        ("counts", "lists.lists", "reader"),
+        ("rules", "tree.tree", "visitor"),
+        ("whole", "changes.changes", "reader"),
     ),
-    "tested": (("pages", "/help", "visitor"), ("journal", "/changes", "reader"), ("copy", "/state", "head")),
-    "trusted": (("prover", "", ""), ("machine", "", ""), ("people", "/releases", "visitor")),
+    "tested": (
+        ("pages", "help.tasks", "visitor"),
+        ("journal", "changes.changes", "reader"),
+        ("copy", "state.state", "head"),
+    ),
+    "trusted": (("prover", "", ""), ("machine", "", ""), ("people", "releases.releases", "visitor")),
 }
 
 
@@ -31,7 +36,7 @@ LINES = {
 @public
 def about() -> Any:
     """Shows what is proved, tested and trusted, and the numbers."""
-    totals = the_mirror().postings.totals()
+    totals = the_replica().postings.totals()
     return render_template(
         "about.html",
         groups={name: [line_of(name, *it) for it in lines] for name, lines in LINES.items()},
@@ -44,9 +49,10 @@ def about() -> Any:
     )
 
 
-def line_of(group: str, name: str, path: str, lowest: str) -> tuple[str, str]:
+def line_of(group: str, name: str, page: str, lowest: str) -> tuple[str, str]:
     """Returns a line, and the page that shows it if the reader may see that."""
-    return say(f"about.{group}.{name}"), path if lowest == "visitor" or lowest and person().may(lowest) else ""
+    is_seen = lowest == "visitor" or lowest and person().may(lowest)
+    return say(f"about.{group}.{name}"), path_to(page) if is_seen else ""
 
 
 def verdict() -> Verdict | None:

@@ -7,15 +7,16 @@ from flask import Blueprint, abort, g, make_response, redirect, render_template,
 from markupsafe import Markup
 
 from thesaurus_desk.auth.accounts import Account, Accounts
-from thesaurus_desk.auth.authentication import Alone
+from thesaurus_desk.auth.authentication import SingleUserEntry
 from thesaurus_desk.auth.devices import KNOWN
-from thesaurus_desk.auth.passwords import LONGEST, GateFull, fault_of
+from thesaurus_desk.auth.passwords import LONGEST, TooManyHashes, fault_of
 from thesaurus_desk.auth.request_checks import RELOAD, keep_cookie, start_session
 from thesaurus_desk.auth.route_roles import role
 from thesaurus_desk.web.context import go, own_path, person, say, session, the_entry, the_settings
 from thesaurus_desk.web.forms import FormState, Problem
+from thesaurus_desk.web.paths import path_to
 
-pages = Blueprint("coming_in", __name__)
+pages = Blueprint("account", __name__)
 ONWARDS = Markup(RELOAD).format("/")
 # The seconds after which one tries again when too many passwords are compared at once.
 MOMENT = 1
@@ -45,11 +46,11 @@ def login() -> Any:
 def enter() -> Any:
     """Lets the one person in who has the key of the address, once."""
     entry, key = the_entry(), request.args.get("key", "")
-    if not isinstance(entry, Alone):
+    if not isinstance(entry, SingleUserEntry):
         abort(404)
     if not entry.use_key(key):
         # (who is in already may have loaded the page again)
-        return redirect("/" if person().name else "/login", 303) if key in entry.used else abort(404)
+        return redirect("/" if person().name else path_to("account.login"), 303) if key in entry.used else abort(404)
     start_session(entry.name, "")
     # (a redirection after a click on another page wouldn't send the new cookie, which is SameSite=Strict)
     return make_response(ONWARDS)
@@ -82,7 +83,7 @@ def compare_password(name: str, password: str, place: str) -> tuple[Account | No
         return None, wait
     try:
         account = accounts_here().check(name, password)
-    except GateFull:
+    except TooManyHashes:
         limits.take_back(place, name)
         return None, MOMENT
     if account is not None:
@@ -125,7 +126,7 @@ def log_out() -> Any:
         if entry.accounts is not None and entry.kind == "password":
             entry.accounts.note_ended(ended)
         note_entry(person().name, entry.address(request), "out")
-    answer = redirect("/login", 303)
+    answer = redirect(path_to("account.login"), 303)
     answer.delete_cookie(
         the_settings().cookie, path="/", secure=the_settings().is_secure, httponly=True, samesite="Strict"
     )
@@ -159,7 +160,7 @@ def change_password() -> Any:
     account = accounts_here().find(name)
     assert isinstance(account, Account)
     start_session(name, account.mark)
-    return go("/me?changed=1")
+    return go(f"{path_to('account.me')}?changed=1")
 
 
 def problems_of_password(name: str, address: str) -> list[Problem]:

@@ -12,7 +12,7 @@ from thesaurus_desk.journal import Request
 from thesaurus_desk.store.model import Hit
 from thesaurus_desk.store.plan_outcome import Outcome
 from thesaurus_desk.store.program import LONGEST_PLAN
-from thesaurus_desk.web.context import person, the_desk, the_mirror, the_rights
+from thesaurus_desk.web.context import person, the_desk, the_replica, the_rights
 
 pages = Blueprint("api", __name__)
 # The action of its plans in the journal.
@@ -26,9 +26,9 @@ WAIT = {"Retry-After": "5"}
 @takes_token
 def schemes() -> Any:
     """Lists the schemes, each with its number, its address and its names."""
-    mirror = the_mirror()
-    found = [it for it in map(mirror.get, mirror.numbers("scheme")) if it]
-    return [{"number": it.number, "uri": mirror.iri(it.number), "names": dict(it.terms("pref"))} for it in found]
+    replica = the_replica()
+    found = [it for it in map(replica.get, replica.numbers("scheme")) if it]
+    return [{"number": it.number, "uri": replica.iri(it.number), "names": dict(it.terms("pref"))} for it in found]
 
 
 @pages.get("/api/find")
@@ -40,7 +40,7 @@ def find() -> Any:
     if not text.strip() or scheme and not (scheme.isascii() and scheme.isdigit()):
         abort(400, "text=.. is needed; scheme, if it is given, is a number")
     lang = request.args.get("lang")
-    found = the_mirror().search(
+    found = the_replica().search(
         text, most=MOST_FOUND, lang=lang, prefer=lang, live=True, scheme=int(scheme) if scheme else None
     )
     return [found_one(it, lang) for it in found]
@@ -48,9 +48,9 @@ def find() -> Any:
 
 def found_one(hit: Hit, lang: str | None) -> dict[str, Any]:
     """Returns what is said of a concept that was found; `is_same` if no typing error was forgiven."""
-    tag, term = the_mirror().term(hit.number, [lang or hit.tag])
+    tag, term = the_replica().term(hit.number, [lang or hit.tag])
     label = {"kind": hit.kind, "lang": hit.tag, "text": hit.text}
-    address = the_mirror().iri(hit.number)
+    address = the_replica().iri(hit.number)
     return {
         "number": hit.number,
         "uri": address,

@@ -10,12 +10,12 @@ from flask import Blueprint, abort, request
 
 from thesaurus_desk.auth.route_roles import role
 from thesaurus_desk.importing.tables import TableRun
-from thesaurus_desk.web.concept_choice import choose, undecided
-from thesaurus_desk.web.context import field_words, own_path, say, tags, term, the_mirror
+from thesaurus_desk.web.concept_choice import choose, needs_choice
+from thesaurus_desk.web.context import field_words, own_path, say, tags, term, the_replica
 from thesaurus_desk.web.form_submission import problem_in
 from thesaurus_desk.web.forms import FormState
 from thesaurus_desk.web.list_forms import FORM, TERMS, fields_to_set, ticks_page
-from thesaurus_desk.web.pages.edit import given, given_text
+from thesaurus_desk.web.pages.edit import form_text, given_text
 from thesaurus_desk.web.pages.search import number_of
 from thesaurus_desk.web.pages.tree import whole_tree
 from thesaurus_desk.web.spreadsheets import sheet
@@ -49,7 +49,7 @@ class Act:
 def list_with_ticks() -> Any:
     """Shows what is below a concept, or in a collection, with ticks."""
     below, members = number_of("below"), number_of("members")
-    view = the_mirror().view(below or members or 0)
+    view = the_replica().view(below or members or 0)
     if view is None or view.kind != ("concept" if below else "collection"):
         abort(404)
     return ticks_page(whole_tree([view.number])[1:] if below else view.members, FormState(), 200)
@@ -62,8 +62,8 @@ def preview_bulk() -> Any:
     numbers = sorted(numbers_of(request.form.get("list", ""), most_number()))
     if is_looking():
         return ticks_page(numbers, FormState(FORM, request.form), 200)
-    ticked = the_mirror().ordered(ticks_of_concepts(numbers).ticked, tags())
-    do = given("act", (*ACTS, "table"))
+    ticked = the_replica().ordered(ticks_of_concepts(numbers).ticked, tags())
+    do = form_text("act", (*ACTS, "table"))
     if not ticked:
         return ticks_page(numbers, problem_in(FORM, "", say("bulk.none_ticked")), 409)
     if do == "table":
@@ -88,24 +88,24 @@ def run_of(act: Act, numbers: Sequence[int]) -> TableRun:
 # --- what can be done ---
 
 
-def linked(name: str, role_of: str, key: str, kind: str = "concept", deed: str = "change") -> Act:
+def link_act(name: str, role_of: str, key: str, kind: str = "concept", deed: str = "change") -> Act:
     """Returns what names another concept, or a collection."""
     chosen = choose(request.form, name, (kind,))
     if chosen.number is None:
-        return Act(wrong=undecided(FORM, request.form, chosen, name))
+        return Act(wrong=needs_choice(FORM, request.form, chosen, name))
     column = Column("collection" if role_of == "member" else role_of, role_of)
     text = say(f"bulk.{key}", term=term(chosen.number))
     return Act(column, str(chosen.number), text, TableOptions(deed), chosen.number)
 
 
-def deprecated() -> Act:
+def deprecation_act() -> Act:
     """Returns that concepts are deprecated."""
     return Act(Column("do", "do"), "deprecate", say("bulk.deprecate"))
 
 
 def with_status() -> Act:
     """Returns that concepts get a status."""
-    status = given("status", (APPROVED, *STATUSES))
+    status = form_text("status", (APPROVED, *STATUSES))
     return Act(
         Column("status", f"{OF_FIELD}status"),
         status,
@@ -116,15 +116,17 @@ def with_status() -> Act:
 
 def with_term() -> Act:
     """Returns that concepts get a further term."""
-    return labelled(given("kind", TERMS), given("term_tag").lower(), given_text("term"), "term", TableOptions("change"))
+    return label_act(
+        form_text("kind", TERMS), form_text("term_tag").lower(), given_text("term"), "term", TableOptions("change")
+    )
 
 
 def with_text(is_added: bool) -> Act:
     """Returns that concepts get a note or a value of a field, beside what they have or in its place."""
-    name, tag = given("field"), given("text_tag").lower()
+    name, tag = form_text("field"), form_text("text_tag").lower()
     options = TableOptions("translate" if is_added else "change", replace=not is_added)
     if name == "scope":
-        return labelled(name, tag, given_text("text"), "text", options)
+        return label_act(name, tag, given_text("text"), "text", options)
     its = fields_to_set().get(name)
     if its is None:
         abort(400)
@@ -136,7 +138,7 @@ def with_text(is_added: bool) -> Act:
     return Act(column, cell_of(its, [text]), say("bulk.text", field=field_words(name), text=text), options)
 
 
-def labelled(kind: str, tag: str, text: str, name: str, options: TableOptions) -> Act:
+def label_act(kind: str, tag: str, text: str, name: str, options: TableOptions) -> Act:
     """Returns that concepts get a term or a note of a kind, typed in a field of the form."""
     if not text or not tag:
         return Act(wrong=problem_in(FORM, name, say("bulk.no_text")))
@@ -145,10 +147,10 @@ def labelled(kind: str, tag: str, text: str, name: str, options: TableOptions) -
 
 
 ACTS: dict[str, Callable[[], Act]] = {
-    "move": lambda: linked("above", "broader", "move", deed="move"),
-    "merge": lambda: linked("into", "into", "merge", deed="merge"),
-    "collect": lambda: linked("collection", "member", "collect", "collection"),
-    "deprecate": deprecated,
+    "move": lambda: link_act("above", "broader", "move", deed="move"),
+    "merge": lambda: link_act("into", "into", "merge", deed="merge"),
+    "collect": lambda: link_act("collection", "member", "collect", "collection"),
+    "deprecate": deprecation_act,
     "status": with_status,
     "term": with_term,
     "add": lambda: with_text(True),

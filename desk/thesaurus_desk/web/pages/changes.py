@@ -14,9 +14,10 @@ from thesaurus_desk.auth.route_roles import role
 from thesaurus_desk.clock import span_of
 from thesaurus_desk.journal import Filter, Plan, Step
 from thesaurus_desk.journal.undo import Remark, TakeBack
-from thesaurus_desk.web.context import go, own_path, page_number, person, say, the_desk, the_mirror, the_rights, words
+from thesaurus_desk.web.context import go, own_path, page_number, person, say, the_desk, the_replica, the_rights, words
 from thesaurus_desk.web.forms import FormState, Problem
 from thesaurus_desk.web.journal_text import LINKS, tell_outcome, tell_plan, tell_plans
+from thesaurus_desk.web.paths import concept_path, path_to
 from thesaurus_desk.web.request_text import sentence_of
 from thesaurus_desk.web.spreadsheets import is_table_asked, sheet, sheet_of_rows
 
@@ -63,10 +64,12 @@ def changes() -> Any:
     return render_template(
         "changes/page.html",
         plans=tell_plans(found[:PAGE], number),
-        further=f"/changes?{urlencode({**asked, 'before': found[PAGE - 1].id})}" if len(found) > PAGE else "",
-        number=number if number and the_mirror().kind(number) else None,
+        further=f"{path_to('changes.changes')}?{urlencode({**asked, 'before': found[PAGE - 1].id})}"
+        if len(found) > PAGE
+        else "",
+        number=number if number and the_replica().kind(number) else None,
         asked=asked,
-        table=f"/changes.csv?{urlencode(asked)}" if asked else "/changes.csv",
+        table=f"{path_to('changes.as_csv')}?{urlencode(asked)}" if asked else path_to("changes.as_csv"),
         users=the_desk().history.users(),
         others=OTHERS,
         kinds=KINDS,
@@ -128,7 +131,7 @@ def changed_since() -> Any:
     since = request.args.get("since", "")
     span = span_of(since.strip())
     found = the_desk().history.changed_since(span[0]) if span else []
-    known = [it for it, _ in found if the_mirror().kind(it)]
+    known = [it for it, _ in found if the_replica().kind(it)]
     if is_table_asked():
         return sheet("changed", known)
     page, begin = page_number(), span[0] if span else ""
@@ -140,7 +143,7 @@ def changed_since() -> Any:
         since=since,
         begin=begin,
         found={number: tell_plans(its, number) for number, its in plans.items()},
-        path=f"/changed-since?{urlencode({'since': since})}",
+        path=f"{path_to('changes.changed_since')}?{urlencode({'since': since})}",
         page=page,
         size=CHANGED_PAGE,
         most=MOST_OF_ONE,
@@ -153,7 +156,7 @@ def changed_since() -> Any:
 def close(number: int) -> Any:
     """Closes a plan of which nobody knows what came of it: somebody has looked at the pages concerned."""
     the_desk().journal.close_plan(plan_or_404(number).id, person().name)
-    return go("/changes")
+    return go(path_to("changes.changes"))
 
 
 # --- taking back ---
@@ -203,7 +206,7 @@ def look_at_taking_back(number: int) -> Any:
 
 def back_page(plan: Plan, back: TakeBack, state: FormState, status: int) -> Any:
     """Returns the page on which a plan is taken back. Its form carries the last plan that its author sees."""
-    lines = [sentence_of(it, None, the_mirror(), words(), LINKS) for it in back.requests[:MOST_LINES]]
+    lines = [sentence_of(it, None, the_replica(), words(), LINKS) for it in back.requests[:MOST_LINES]]
     return (
         render_template(
             "changes/back.html",
@@ -225,7 +228,7 @@ def back_page(plan: Plan, back: TakeBack, state: FormState, status: int) -> Any:
 
 def tell_remark(remark: Remark) -> Markup:
     """Returns what isn't taken back as a sentence."""
-    is_resource = remark.name not in ("withdrawn", "moved on") and the_mirror().kind(remark.number or 0)
+    is_resource = remark.name not in ("withdrawn", "moved on") and the_replica().kind(remark.number or 0)
     about = LINKS.link(remark.number or 0) if is_resource else Markup("{}").format(remark.number or "")
     return Markup("{}").format(say(f"changes.remark.{remark.name.replace(' ', '_')}", about=about, text=remark.text))
 
@@ -265,7 +268,7 @@ def take_back_now(plan: Plan, is_free: bool) -> Any:
     outcome = the_desk().perform_take_back(person().name, back)
     if not outcome.is_done:
         return again("", tell_outcome(outcome))
-    return go(f"/c/{outcome.made}" if makes_concept(back) else next_path(), outcome.plan)
+    return go(concept_path(outcome.made) if makes_concept(back) else next_path(), outcome.plan)
 
 
 def last_seen(plan: Plan) -> int:
@@ -280,7 +283,7 @@ def refusal_page(plan: Plan, back: TakeBack, field: str, text: str) -> Any:
 
 def next_path() -> str:
     """Returns the page to which taking back leads: the one from which it was asked for, with its filters."""
-    return own_path(request.values.get("next") or "/changes")
+    return own_path(request.values.get("next") or path_to("changes.changes"))
 
 
 def makes_concept(back: TakeBack) -> bool:

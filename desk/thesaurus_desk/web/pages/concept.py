@@ -22,14 +22,15 @@ from thesaurus_desk.web.context import (
     say,
     tags,
     the_desk,
-    the_mirror,
+    the_replica,
 )
 from thesaurus_desk.web.forms import FormState
 from thesaurus_desk.web.journal_text import tell_plans
+from thesaurus_desk.web.paths import concept_path
 from thesaurus_desk.web.posting_keys import new_key
 from thesaurus_desk.web.resource_history import history_of
 from thesaurus_desk.web.spreadsheets import rows_of_postings, sheet, sheet_of_rows
-from thesaurus_desk.web.work_views import work_form, work_shown
+from thesaurus_desk.web.work_views import work_form, work_of_view
 from thesaurus_tools.fields import OFFERED
 from thesaurus_tools.kinds import LABEL_KINDS, MAPPINGS
 
@@ -59,7 +60,7 @@ class LinkRow:
 
 
 @dataclass(frozen=True)
-class Near:
+class Neighbourhood:
     """The tree around a concept: the way down to it, those beside it and those below it, by arrays."""
 
     path: tuple[int, ...]
@@ -71,7 +72,7 @@ class Near:
 @public
 def show(number: int) -> Any:
     """Shows a resource."""
-    return resource_page(number, FormState()) if the_mirror().kind(number) else missing_page(number)
+    return resource_page(number, FormState()) if the_replica().kind(number) else missing_page(number)
 
 
 def missing_page(number: int) -> Any:
@@ -85,7 +86,7 @@ def missing_page(number: int) -> Any:
         render_template(
             "resource/missing.html",
             n=number,
-            last=the_mirror().counts()["resources"],
+            last=the_replica().counts()["resources"],
             plans=tell_plans(plans, number),
             was_made=was_made,
         ),
@@ -95,7 +96,7 @@ def missing_page(number: int) -> Any:
 
 def resource_page(number: int, state: FormState, status: int = 200) -> Any:
     """Returns the page of a resource, with the forms as they were sent."""
-    view = the_mirror().view(number)
+    view = the_replica().view(number)
     if view is None:
         abort(404)
     all_terms = terms_by_tag(view)
@@ -111,15 +112,15 @@ def resource_page(number: int, state: FormState, status: int = 200) -> Any:
             more_languages=len(all_terms) - len(shown_terms),
             hierarchy_links=hierarchy_rows(view),
             links=link_rows(view),
-            tops=the_mirror().ordered(the_mirror().tops(number), tags()) if view.kind == "scheme" else [],
+            tops=the_replica().ordered(the_replica().tops(number), tags()) if view.kind == "scheme" else [],
             its_collections=collections_of(view),
             dates=the_desk().history.dates(number) if person().name else None,
             label_kinds=[(it, say(f"kinds.label.{it}")) for it in ("alt", "pref", "hidden", "scope")],
             new_key=new_key,
-            final=the_mirror().final(number),
+            final=the_replica().final(number),
             returned=None if view.is_live else returned_as(number),
             ending=ending_of(number) if person().name and not view.is_live else None,
-            merged=the_mirror().merged_into(number),
+            merged=the_replica().merged_into(number),
             free_collections=free_collections(view),
             records=records_of(view),
             history=history_of(number) if person().name else [],
@@ -131,7 +132,7 @@ def resource_page(number: int, state: FormState, status: int = 200) -> Any:
             field_mark=field_views.mark_of,
             choices_of=field_views.choices_of,
             offered=OFFERED,
-            work=work_shown(view),
+            work=work_of_view(view),
             work_form=work_form,
             seen={part: the_desk().seen.mark(number, part) for part in OF_FORMS},
             most=MOST_MEMBERS if view.kind == "collection" else MOST_NEIGHBOURS,
@@ -147,24 +148,24 @@ def resource_page(number: int, state: FormState, status: int = 200) -> Any:
 
 def address_elsewhere(number: int) -> str:
     """Returns the address of a concept elsewhere, if a browser can open it."""
-    view = the_mirror().view(number)
+    view = the_replica().view(number)
     is_page = view is not None and view.kind == "outside" and view.iri.startswith(("http://", "https://"))
     return view.iri if view is not None and is_page else ""
 
 
-def near_tree(view: View) -> Near:
+def near_tree(view: View) -> Neighbourhood:
     """Returns the tree around a concept."""
-    path = the_mirror().path_up(view.number, tags())[:-1]
+    path = the_replica().path_up(view.number, tags())[:-1]
     siblings = groups(path[-1], narrower_in_order(path[-1])) if path else []
-    return Near(tuple(path), siblings, groups(view.number, narrower_in_order(view.number)))
+    return Neighbourhood(tuple(path), siblings, groups(view.number, narrower_in_order(view.number)))
 
 
 def narrower_in_order(number: int) -> tuple[int, ...]:
     """Returns the narrower concepts of a concept in the order of their terms; kept, as there may be thousands."""
-    mirror, langs = the_mirror(), tuple(tags())
+    replica, langs = the_replica(), tuple(tags())
     parts = ("labels", "links")
-    return mirror.once(
-        ("narrower in order", number, langs), lambda: tuple(mirror.ordered(mirror.branch(number), langs)), parts
+    return replica.once(
+        ("narrower in order", number, langs), lambda: tuple(replica.ordered(replica.branch(number), langs)), parts
     )
 
 
@@ -192,13 +193,13 @@ def first_terms(terms: list[tuple[str, list[tuple[str, str]]]]) -> list[tuple[st
 
 def hierarchy_rows(view: View) -> dict[str, list[tuple[int, list[LinkRow]]]]:
     """Returns the broader and the first narrower concepts in order, each with the links to it, one for each type."""
-    mirror, me = the_mirror(), view.number
+    replica, me = the_replica(), view.number
     up = [
-        (other, [LinkRow(it, other, it, me, other) for it in mirror.link_types(me, other)])
-        for other in mirror.ordered(view.broader, tags())[:MOST_NEIGHBOURS]
+        (other, [LinkRow(it, other, it, me, other) for it in replica.link_types(me, other)])
+        for other in replica.ordered(view.broader, tags())[:MOST_NEIGHBOURS]
     ]
     down = [
-        (other, [LinkRow(narrower_kind(it), other, it, other, me) for it in mirror.link_types(other, me)])
+        (other, [LinkRow(narrower_kind(it), other, it, other, me) for it in replica.link_types(other, me)])
         for other in narrower_in_order(me)[:MOST_NEIGHBOURS]
     ]
     return {"broader": up, "narrower": down}
@@ -211,21 +212,21 @@ def narrower_kind(kind: str) -> str:
 
 def link_rows(view: View) -> dict[str, list[LinkRow]]:
     """Returns the related concepts, matches, collections and members of a resource, in order."""
-    mirror, me, langs = the_mirror(), view.number, tags()
+    replica, me, langs = the_replica(), view.number, tags()
     matches = sorted(view.mappings, key=lambda it: (MAPPINGS.index(it[0]), it[1]))
     return {
-        "related": [LinkRow("related", other, "related", me, other) for other in mirror.ordered(view.related, langs)],
+        "related": [LinkRow("related", other, "related", me, other) for other in replica.ordered(view.related, langs)],
         "matches": [match_row(me, kind, other) for kind, other in matches],
         "collections": [
-            LinkRow("member", other, "member", other, me) for other in mirror.ordered(view.collections, langs)
+            LinkRow("member", other, "member", other, me) for other in replica.ordered(view.collections, langs)
         ],
-        "members": [LinkRow("member", other, "member", me, other) for other in mirror.ordered(view.members, langs)],
+        "members": [LinkRow("member", other, "member", me, other) for other in replica.ordered(view.members, langs)],
     }
 
 
 def match_row(me: int, seen_as: str, other: int) -> LinkRow:
     """Returns a match as the store has it: as seen from here, or as seen from its other end."""
-    for link in the_mirror().links_between(me, other):
+    for link in the_replica().links_between(me, other):
         turned = {"broad": "narrow", "narrow": "broad"}.get(link.kind, link.kind)
         if (link.a, link.kind) == (me, seen_as) or (link.b, turned) == (me, seen_as):
             return LinkRow(seen_as, other, link.kind, link.a, link.b)
@@ -236,13 +237,13 @@ def free_collections(view: View) -> list[int]:
     """Returns the collections of the concept's scheme of which it isn't a member."""
     if view.kind != "concept":
         return []
-    return [it for it in the_mirror().numbers("collection", view.scheme) if it not in view.collections]
+    return [it for it in the_replica().numbers("collection", view.scheme) if it not in view.collections]
 
 
 def collections_of(view: View) -> list[int]:
     """Returns the collections of a scheme, in order."""
-    mirror = the_mirror()
-    return mirror.ordered(mirror.numbers("collection", view.number), tags()) if view.kind == "scheme" else []
+    replica = the_replica()
+    return replica.ordered(replica.numbers("collection", view.number), tags()) if view.kind == "scheme" else []
 
 
 @dataclass(frozen=True)
@@ -268,16 +269,16 @@ def records_of(view: View) -> Records | None:
     """Returns the page of records that is asked for; nothing to a visitor, and of no other resource."""
     if view.kind != "concept" or not person().name:
         return None
-    mirror, page = the_mirror(), page_number()
+    replica, page = the_replica(), page_number()
     with_below = request.args.get("with") == "below" and bool(view.narrower)
-    postings, number = mirror.postings, view.number
+    postings, number = replica.postings, view.number
     if with_below:
         count, rows = postings.count_below(number), postings.page_below(number, page + 1, PAGE)
     else:
         count, rows = postings.count_at(number), postings.page_at(number, page + 1, PAGE)
     repeated = postings.repeated_at(number)
     return Records(
-        mirror.count_records(view.number),
+        replica.count_records(view.number),
         the_desk().below.get(view.number) if view.narrower else BelowCount(0),
         repeated,
         with_below,
@@ -291,18 +292,18 @@ def records_of(view: View) -> Records | None:
 @pages.get("/c/<int:number>/records-below")
 def count_below(number: int) -> BaseResponse:
     """Counts the records of a concept with those of the concepts below it, and leads back to its page."""
-    if the_mirror().kind(number) != "concept":
+    if the_replica().kind(number) != "concept":
         abort(404)
     the_desk().below.count(number)
-    return redirect(f"/c/{number}#records", 303)
+    return redirect(f"{concept_path(number)}#records", 303)
 
 
 @pages.get("/c/<int:number>/records.csv")
 def records_csv(number: int) -> Response:
     """Returns the records of a concept as a table, alone or with those of the concepts below it."""
-    if the_mirror().kind(number) != "concept":
+    if the_replica().kind(number) != "concept":
         abort(404)
-    postings = the_mirror().postings
+    postings = the_replica().postings
     with_below = request.args.get("with") == "below"
     return sheet_of_rows("records", rows_of_postings(postings.each_at(number, with_below)))
 
@@ -311,7 +312,7 @@ def records_csv(number: int) -> Response:
 @public
 def members_csv(number: int) -> Response:
     """Returns the members of a collection as a table."""
-    view = the_mirror().view(number)
+    view = the_replica().view(number)
     if view is None or view.kind != "collection":
         abort(404)
-    return sheet("members", the_mirror().ordered(view.members, tags()))
+    return sheet("members", the_replica().ordered(view.members, tags()))

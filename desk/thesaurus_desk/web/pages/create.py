@@ -12,16 +12,17 @@ from thesaurus_desk.journal.rights import as_candidates
 from thesaurus_desk.journal.values import set_request
 from thesaurus_desk.store.plan_execution import Outcome
 from thesaurus_desk.store.text_keys import fold
-from thesaurus_desk.web.concept_choice import choose, is_number, scheme_of, undecided
-from thesaurus_desk.web.context import person, say, tags, the_mirror, the_rights
+from thesaurus_desk.web.concept_choice import choose, is_number, scheme_of, needs_choice
+from thesaurus_desk.web.context import person, say, tags, the_replica, the_rights
 from thesaurus_desk.web.form_submission import problem_in, submit
 from thesaurus_desk.web.forms import FormState, Problem
-from thesaurus_desk.web.pages.edit import given, given_tag, given_text, is_slip
+from thesaurus_desk.web.pages.edit import form_text, given_tag, given_text, is_slip
+from thesaurus_desk.web.paths import concept_path, path_to
 from thesaurus_desk.web.work_views import work_of
 from thesaurus_tools.fields import tidy
 from thesaurus_tools.kinds import BROADER
 
-pages = Blueprint("new", __name__)
+pages = Blueprint("create", __name__)
 
 FORM = "new"
 # How many further languages the form has fields for.
@@ -32,15 +33,15 @@ def number_in(name: str, kind: str) -> int | None:
     """Returns the resource of a kind that a field of the form, or of the address, names."""
     text = request.values.get(name, "")
     number = int(text) if is_number(text) else 0
-    return number if the_mirror().kind(number) == kind else None
+    return number if the_replica().kind(number) == kind else None
 
 
 def scheme_of_form(parent: int | None = None) -> int | None:
     """Returns the scheme of what is made: that of its broader concept, the one named, or the first."""
-    above = the_mirror().view(parent) if parent else None
+    above = the_replica().view(parent) if parent else None
     if above is not None:
         return above.scheme
-    return number_in("scheme", "scheme") or next(iter(the_mirror().numbers("scheme")), None)
+    return number_in("scheme", "scheme") or next(iter(the_replica().numbers("scheme")), None)
 
 
 @pages.route("/new", methods=["GET", "POST"])
@@ -58,10 +59,10 @@ def new_concept() -> Any:
         problem = Problem("tag", say("refusals.BadTag.text", tag=given_tag()))
         return again(FormState(FORM, request.form, [problem]), 409)
     above = None
-    if given("other"):
+    if form_text("other"):
         chosen = choose(request.form, scheme=scheme)
         if chosen.number is None:
-            return again(undecided(FORM, request.form, chosen), 409)
+            return again(needs_choice(FORM, request.form, chosen), 409)
         above = chosen.number
     alike = concepts_alike(scheme, given_text())
     if alike and "sure" not in request.form:
@@ -74,14 +75,14 @@ def new_concept() -> Any:
 
 def concept_page(scheme: int, parent: int | None, state: FormState, status: int, alike: list[int] | None = None) -> Any:
     """Returns the form of a new concept."""
-    mirror = the_mirror()
+    replica = the_replica()
     page = render_template(
         "new/concept.html",
         form=FORM,
         state=state,
         parent=parent,
         scheme=scheme,
-        schemes=mirror.ordered(mirror.numbers("scheme"), tags()),
+        schemes=replica.ordered(replica.numbers("scheme"), tags()),
         alike=alike or [],
         has_more=has_more(),
         text=request.args.get("text", ""),
@@ -96,15 +97,15 @@ def concept_page(scheme: int, parent: int | None, state: FormState, status: int,
 
 def concepts_alike(scheme: int, text: str) -> list[int]:
     """Returns the live concepts of a scheme that have the term but for case and accents, or as an alternative one."""
-    mirror = the_mirror()
+    replica = the_replica()
     found = []
-    for number in {it.number for it in mirror.named(text, ("concept",), True)}:
-        view = mirror.view(number)
+    for number in {it.number for it in replica.named(text, ("concept",), True)}:
+        view = replica.view(number)
         if view is None or view.scheme != scheme or (given_tag(), text) in view.pref:
             continue
         if any(fold(its) == fold(text) for _, its in (*view.pref, *view.alt)):
             found.append(number)
-    return mirror.ordered(found, tags())
+    return replica.ordered(found, tags())
 
 
 def concept_requests(scheme: int, above: int | None) -> list[Request]:
@@ -112,7 +113,7 @@ def concept_requests(scheme: int, above: int | None) -> list[Request]:
     tag = given_tag()
     requests: list[Request] = [{"do": "concept", "scheme": scheme, "tag": tag, "text": given_text()}]
     if above is not None:
-        requests.append({"do": "link", "kind": given("kind", BROADER), "a": "$1", "b": above})
+        requests.append({"do": "link", "kind": form_text("kind", BROADER), "a": "$1", "b": above})
     labels = [("pref", it, given_text(f"text-{it}")) for it in tags() if it != tag]
     labels += [("alt", tag, " ".join(it.split())) for it in request.form.get("alt", "").splitlines()]
     labels.append(("scope", tag, given_text("scope")))
@@ -121,7 +122,7 @@ def concept_requests(scheme: int, above: int | None) -> list[Request]:
     ]
     values = [
         ("definition", tag, tidy(request.form.get("definition", ""), "text")),
-        ("notation", "", given("notation")),
+        ("notation", "", form_text("notation")),
     ]
     return [*requests, *(set_request("$1", field, its, new=text) for field, its, text in values if text)]
 
@@ -139,10 +140,12 @@ def page_after(above: int | None, scheme: int) -> Any:
     """Returns what gives the page after a concept is made: its own, or the form for another one beside it."""
 
     def path(outcome: Outcome) -> str:
-        if given("then") != "another":
-            return f"/c/{outcome.made}"
+        if form_text("then") != "another":
+            return concept_path(outcome.made)
         more = "&more=1" if has_more() else ""
-        return f"/new?scheme={scheme}&kind={given('kind', BROADER)}{more}" + (f"&parent={above}" if above else "")
+        return f"{path_to('create.new_concept')}?scheme={scheme}&kind={form_text('kind', BROADER)}{more}" + (
+            f"&parent={above}" if above else ""
+        )
 
     return path
 
@@ -150,7 +153,7 @@ def page_after(above: int | None, scheme: int) -> Any:
 def has_more() -> bool:
     """Whether the form has more than a preferred term and a place: the one after it then opens these fields, too."""
     names = ("alt", "scope", "definition", "notation", *(f"text-{it}" for it in tags()))
-    return "more" in request.args or any(given(it) for it in names)
+    return "more" in request.args or any(form_text(it) for it in names)
 
 
 # --- collections and schemes ---
@@ -167,7 +170,7 @@ def new_collection() -> Any:
         return collection_page(FormState(), 200)
     made = {"do": "collection", "scheme": scheme, "tag": given_tag(), "text": given_text()}
     check = partial(known_name, "collection", scheme)
-    return submit("new_collection", [made], then=page_of_made, show=collection_page, check=check)
+    return submit("new_collection", [made], then=page_of_new, show=collection_page, check=check)
 
 
 def known_name(kind: str, scheme: int | None = None) -> FormState | None:
@@ -179,7 +182,7 @@ def of_same_name(kind: str, scheme: int | None = None) -> list[int]:
     """Returns what has the name that a form gives to a new one, unless its author is sure: a form may be sent twice."""
     if "sure" in request.form:
         return []
-    hits = the_mirror().named(given_text(), (kind,))
+    hits = the_replica().named(given_text(), (kind,))
     found = {it.number for it in hits if it.kind == "pref" and it.tag == given_tag()}
     return sorted(it for it in found if scheme is None or scheme_of(it) == scheme)
 
@@ -187,7 +190,7 @@ def of_same_name(kind: str, scheme: int | None = None) -> list[int]:
 def collection_page(state: FormState, status: int) -> Any:
     """Returns the form of a new collection."""
     same = of_same_name("collection", scheme_of_form()) if state.problem_at(FORM, "text") else []
-    schemes = the_mirror().ordered(the_mirror().numbers("scheme"), tags())
+    schemes = the_replica().ordered(the_replica().numbers("scheme"), tags())
     return (
         render_template(
             "new/other.html",
@@ -209,7 +212,7 @@ def new_scheme() -> Any:
     if request.method == "GET":
         return scheme_page(FormState(), 200)
     made = {"do": "scheme", "tag": given_tag(), "text": given_text()}
-    return submit("new_scheme", [made], then=page_of_made, show=scheme_page, check=partial(known_name, "scheme"))
+    return submit("new_scheme", [made], then=page_of_new, show=scheme_page, check=partial(known_name, "scheme"))
 
 
 def scheme_page(state: FormState, status: int) -> Any:
@@ -219,6 +222,6 @@ def scheme_page(state: FormState, status: int) -> Any:
     return page, status
 
 
-def page_of_made(outcome: Outcome) -> str:
+def page_of_new(outcome: Outcome) -> str:
     """Returns the page of what was made."""
-    return f"/c/{outcome.made}"
+    return concept_path(outcome.made)

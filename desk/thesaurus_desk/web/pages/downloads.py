@@ -13,8 +13,9 @@ from thesaurus_desk.interfaces import Source
 from thesaurus_desk.interfaces.linked_data import file_name
 from thesaurus_desk.interfaces.whole_thesaurus import response_of
 from thesaurus_desk.journal.releases import Release
-from thesaurus_desk.store.saved_files import Busy, SavedFile, SavedFiles, Wish
+from thesaurus_desk.store.saved_files import Busy, SavedFile, SavedFiles, FileOrder
 from thesaurus_desk.web.context import tags, the_desk
+from thesaurus_desk.web.paths import path_to
 from thesaurus_tools.file_forms import FORMS, Choice
 
 pages = Blueprint("downloads", __name__)
@@ -43,7 +44,7 @@ def the_files() -> SavedFiles:
 
 
 @dataclass(frozen=True)
-class Asked:
+class FileChoice:
     """What an address asks for: a form (or none yet), a release, the number of a scheme or a concept, a language."""
 
     form: str
@@ -58,7 +59,7 @@ class Asked:
 
     def is_branch(self) -> bool:
         """Whether the part is a concept with all below it."""
-        return self.part is not None and the_source().mirror().kind(self.part) == "concept"
+        return self.part is not None and the_source().replica().kind(self.part) == "concept"
 
     def file_name(self) -> str:
         """Returns the name of the file."""
@@ -68,32 +69,34 @@ class Asked:
         return f"{file_name(the_source(), self.part, self.lang)}{version}{tag}.{form.ending}"
 
 
-def asked() -> Asked:
+def choice_of_request() -> FileChoice:
     """Returns what the address asks for. Ends with 404 for what isn't there, and 400 for an unknown form."""
     form, name, part = (request.args.get(it, "") for it in ("form", "release", "part"))
     if form and form not in FORMS:
         abort(400)
     number = int(part) if re.fullmatch("[1-9][0-9]{0,9}", part) else None
-    if part and number is None or number and the_source().mirror().kind(number) not in ("scheme", "concept"):
+    if part and number is None or number and the_source().replica().kind(number) not in ("scheme", "concept"):
         abort(404)
     lang = request.args.get("lang", "")
-    known = the_source().mirror().tags
+    known = the_source().replica().tags
     release = (the_desk().releases.find(name) or abort(404)) if name else None
-    return Asked(form, release, number, lang if lang in known else next((it for it in tags() if it in known), "en"))
+    return FileChoice(
+        form, release, number, lang if lang in known else next((it for it in tags() if it in known), "en")
+    )
 
 
 @pages.get("/save")
 @public
 def start() -> str:
     """Shows the choice of what is saved, and as what."""
-    it = asked()
+    it = choice_of_request()
     return render_template(
         "downloads/start.html",
         asked=it,
         groups=GROUPS,
         forms=FORMS,
-        schemes=the_source().mirror().numbers("scheme"),
-        languages=sorted(the_source().mirror().tags),
+        schemes=the_source().replica().numbers("scheme"),
+        languages=sorted(the_source().replica().tags),
         releases=the_desk().releases.all(),
     )
 
@@ -102,13 +105,17 @@ def start() -> str:
 @public
 def make() -> Any:
     """Returns a file, or leads to where it will be."""
-    it = asked()
-    wish = Wish(it.form or abort(400), it.choice(), it.release)
+    it = choice_of_request()
+    wish = FileOrder(it.form or abort(400), it.choice(), it.release)
     try:
         found = the_files().ask(wish, it.file_name())
     except Busy:
         return later(render_template("downloads/state.html", file=None), 503)
-    return given(found) if found.is_there(PATIENCE) else redirect(f"/save/file/{found.ticket}", 303)
+    return (
+        file_answer(found)
+        if found.is_there(PATIENCE)
+        else redirect(path_to("downloads.wait", ticket=found.ticket), 303)
+    )
 
 
 @pages.get("/save/file/<ticket>")
@@ -117,10 +124,10 @@ def wait(ticket: str) -> Any:
     """Returns a file that was asked for, or says that it is being made."""
     found = the_files().find(ticket)
     if found is None:
-        return redirect("/save", 303)
+        return redirect(path_to("downloads.start"), 303)
     if found.is_there(PATIENCE):
-        return given(found)
-    return later(render_template("downloads/state.html", file=found), 202, f"/save/file/{ticket}")
+        return file_answer(found)
+    return later(render_template("downloads/state.html", file=found), 202, path_to("downloads.wait", ticket=ticket))
 
 
 def later(page: str, status: int, path: str = "") -> Response:
@@ -132,7 +139,7 @@ def later(page: str, status: int, path: str = "") -> Response:
     return answer
 
 
-def given(it: SavedFile) -> AnyResponse:
+def file_answer(it: SavedFile) -> AnyResponse:
     """Returns a file that is made, or says why there is none."""
     if it.needs or it.fault:
         return make_response(render_template("downloads/state.html", file=it), 409)

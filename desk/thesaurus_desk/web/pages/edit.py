@@ -10,11 +10,12 @@ from thesaurus_desk.auth.route_roles import role
 from thesaurus_desk.journal.entries import Request
 from thesaurus_desk.store.model import View
 from thesaurus_desk.store.plan_execution import LONGEST_PLAN
-from thesaurus_desk.web.concept_choice import Chosen, choose, is_number, undecided
-from thesaurus_desk.web.context import own_path, say, the_mirror
+from thesaurus_desk.web.concept_choice import ConceptChoice, choose, is_number, needs_choice
+from thesaurus_desk.web.context import own_path, say, the_replica
 from thesaurus_desk.web.form_submission import problem_in, submit
 from thesaurus_desk.web.forms import FormState
 from thesaurus_desk.web.pages.concept import resource_page
+from thesaurus_desk.web.paths import concept_path
 from thesaurus_tools.entities import entity_address
 from thesaurus_tools.kinds import BROADER, LABEL_KINDS, MAPPINGS
 
@@ -26,13 +27,13 @@ LINK_KINDS = (*BROADER, *NARROWER, "related", *MAPPINGS, "member")
 
 def resource(number: int) -> View:
     """Returns the resource that a page is about."""
-    view = the_mirror().view(number)
+    view = the_replica().view(number)
     if view is None:
         abort(404)
     return view
 
 
-def given(name: str, among: tuple[str, ...] = ()) -> str:
+def form_text(name: str, among: tuple[str, ...] = ()) -> str:
     """Returns a field of the form, without spaces around; one of some values, if these are named."""
     value = request.form.get(name, "").strip()
     if among and value not in among:
@@ -47,19 +48,19 @@ def given_text(name: str = "text") -> str:
 
 def given_tag() -> str:
     """Returns a language tag as the store has it."""
-    return given("tag").lower()
+    return form_text("tag").lower()
 
 
 def is_slip(tag: str) -> bool:
     """Whether a language tag has the form of one, and is rather the name of a language, as `english`.
 
     All that are registered have two or three letters first. Those that are in use stay."""
-    return len(tag.partition("-")[0]) > 3 and tag not in the_mirror().tags
+    return len(tag.partition("-")[0]) > 3 and tag not in the_replica().tags
 
 
 def given_number(name: str) -> int:
     """Returns a number that a page put into its form."""
-    value = given(name)
+    value = form_text(name)
     if not is_number(value):
         abort(400)
     return int(value)
@@ -83,11 +84,11 @@ def show_again(number: int, state: FormState, status: int) -> Any:
 def add_term(number: int) -> Any:
     """Adds a term or a note."""
     resource(number)
-    kind, tag = given("kind", LABEL_KINDS), given_tag()
+    kind, tag = form_text("kind", LABEL_KINDS), given_tag()
     if is_slip(tag):
-        return show_again(number, problem_in(given("form"), "tag", say("refusals.BadTag.text", tag=tag)), 409)
+        return show_again(number, problem_in(form_text("form"), "tag", say("refusals.BadTag.text", tag=tag)), 409)
     label = {"do": "addLabel", "owner": number, "kind": kind, "tag": tag, "text": given_text()}
-    then = next_or(f"/c/{number}#at-add-term")
+    then = next_or(f"{concept_path(number)}#at-add-term")
     return submit("add_term", [label], then=then, show=partial(show_again, number))
 
 
@@ -96,9 +97,9 @@ def add_term(number: int) -> Any:
 def change_term(number: int) -> Any:
     """Renames the preferred term, or changes another term or a note."""
     resource(number)
-    kind, tag, old, text = given("kind", LABEL_KINDS), given_tag(), request.form.get("old", ""), given_text()
+    kind, tag, old, text = form_text("kind", LABEL_KINDS), given_tag(), request.form.get("old", ""), given_text()
     if old == text:
-        return redirect(f"/c/{number}#terms", 303)
+        return redirect(f"{concept_path(number)}#terms", 303)
     requests: list[Request]
     if kind == "pref":
         requests = [{"do": "relabel", "owner": number, "tag": tag, "text": text, "keep": "keep" in request.form}]
@@ -106,7 +107,7 @@ def change_term(number: int) -> Any:
         label = {"owner": number, "kind": kind, "tag": tag}
         requests = [{"do": "addLabel", **label, "text": text}, {"do": "dropLabel", **label, "text": old}]
     action = "rename" if kind == "pref" else "change_term"
-    return submit(action, requests, then=f"/c/{number}#terms", show=partial(show_again, number))
+    return submit(action, requests, then=f"{concept_path(number)}#terms", show=partial(show_again, number))
 
 
 @pages.post("/c/<int:number>/terms/prefer")
@@ -114,14 +115,14 @@ def change_term(number: int) -> Any:
 def prefer_term(number: int) -> Any:
     """Makes an alternative or hidden term the preferred one; the preferred one becomes an alternative term."""
     view = resource(number)
-    kind, tag, text = given("kind", LABEL_KINDS), given_tag(), request.form.get("text", "")
+    kind, tag, text = form_text("kind", LABEL_KINDS), given_tag(), request.form.get("text", "")
     requests: list[Request] = [{"do": "dropLabel", "owner": number, "kind": kind, "tag": tag, "text": text}]
     if any(its == tag for its, _ in view.pref):
         requests.append({"do": "relabel", "owner": number, "tag": tag, "text": text, "keep": True})
     else:
         requests.append({"do": "addLabel", "owner": number, "kind": "pref", "tag": tag, "text": text})
     again = partial(show_again, number)
-    return submit("prefer_term", requests, then=f"/c/{number}#terms", show=again, hidden=("text",))
+    return submit("prefer_term", requests, then=f"{concept_path(number)}#terms", show=again, hidden=("text",))
 
 
 @pages.post("/c/<int:number>/terms/remove")
@@ -129,10 +130,10 @@ def prefer_term(number: int) -> Any:
 def remove_term(number: int) -> Any:
     """Removes a term or a note."""
     resource(number)
-    kind, tag = given("kind", LABEL_KINDS), given_tag()
+    kind, tag = form_text("kind", LABEL_KINDS), given_tag()
     label = {"do": "dropLabel", "owner": number, "kind": kind, "tag": tag, "text": request.form.get("text", "")}
     again = partial(show_again, number)
-    return submit("remove_term", [label], then=f"/c/{number}#terms", show=again, hidden=("text",))
+    return submit("remove_term", [label], then=f"{concept_path(number)}#terms", show=again, hidden=("text",))
 
 
 # --- links ---
@@ -142,22 +143,27 @@ def remove_term(number: int) -> Any:
 @role("editor")
 def add_link(number: int) -> Any:
     """Adds a link to the concept that a field names, or a match to an address elsewhere."""
-    view, form, kind = resource(number), given("form"), given("kind", LINK_KINDS)
+    view, form, kind = resource(number), form_text("form"), form_text("kind", LINK_KINDS)
     again = partial(show_again, number)
-    iri = match_address(given("other")) if kind in MAPPINGS else ""
+    iri = match_address(form_text("other")) if kind in MAPPINGS else ""
     if kind in MAPPINGS and is_outside_iri(iri):
-        return submit("add_link", match_requests(number, kind, iri), then=f"/c/{number}#at-{form}", show=again)
+        return submit(
+            "add_link", match_requests(number, kind, iri), then=f"{concept_path(number)}#at-{form}", show=again
+        )
     chosen = choose_end(view, kind)
     if chosen.number is None:
         if kind in MAPPINGS and iri and not chosen.choices:
-            chosen = Chosen(None, say("refusals.Choice.match", text=iri))
-        return again(undecided(form, request.form, chosen), 409)
+            chosen = ConceptChoice(None, say("refusals.Choice.match", text=iri))
+        return again(needs_choice(form, request.form, chosen), 409)
     return submit(
-        "add_link", [link_request("link", number, kind, chosen.number)], then=f"/c/{number}#at-{form}", show=again
+        "add_link",
+        [link_request("link", number, kind, chosen.number)],
+        then=f"{concept_path(number)}#at-{form}",
+        show=again,
     )
 
 
-def choose_end(view: View, kind: str) -> Chosen:
+def choose_end(view: View, kind: str) -> ConceptChoice:
     """Returns the other end of a link: a collection of a concept, a member of a collection, or a concept."""
     is_of_concept = kind == "member" and view.kind == "concept"
     return choose(
@@ -170,7 +176,7 @@ def choose_end(view: View, kind: str) -> Chosen:
 
 def match_address(text: str) -> str:
     """Returns the address that a text means, unless a concept here is called so."""
-    return text if the_mirror().named(text) else entity_address(text)
+    return text if the_replica().named(text) else entity_address(text)
 
 
 def is_outside_iri(text: str) -> bool:
@@ -178,7 +184,7 @@ def is_outside_iri(text: str) -> bool:
     scheme, colon, rest = text.partition(":")
     if not colon or not rest or not scheme.isascii() or not scheme.replace("+", "").isalnum() or " " in text:
         return False
-    return the_mirror().by_iri(text) is None and not the_mirror().named(text)
+    return the_replica().by_iri(text) is None and not the_replica().named(text)
 
 
 def match_requests(number: int, kind: str, iri: str) -> list[Request]:
@@ -190,7 +196,7 @@ def link_request(do: str, number: int, kind: str, other: int | str) -> Request:
     """Returns the request for a link as seen from a resource: some kinds lead from the other end."""
     if kind in NARROWER:
         return {"do": do, "kind": kind.replace("narrower", "broader"), "a": other, "b": number}
-    if kind == "member" and the_mirror().kind(number) == "concept":
+    if kind == "member" and the_replica().kind(number) == "concept":
         return {"do": do, "kind": kind, "a": other, "b": number}
     return {"do": do, "kind": kind, "a": number, "b": other}
 
@@ -200,8 +206,10 @@ def link_request(do: str, number: int, kind: str, other: int | str) -> Request:
 def remove_link(number: int) -> Any:
     """Removes a link."""
     resource(number)
-    link = {"do": "unlink", "kind": given("kind", LINK_KINDS), "a": given_number("a"), "b": given_number("b")}
-    return submit("remove_link", [link], then=next_or(f"/c/{number}#links"), show=partial(show_again, number))
+    link = {"do": "unlink", "kind": form_text("kind", LINK_KINDS), "a": given_number("a"), "b": given_number("b")}
+    return submit(
+        "remove_link", [link], then=next_or(f"{concept_path(number)}#links"), show=partial(show_again, number)
+    )
 
 
 @pages.post("/c/<int:number>/members/remove")
@@ -212,7 +220,7 @@ def remove_members(number: int) -> Any:
     requests: list[Request] = [{"do": "unlink", "kind": "member", "a": number, "b": it} for it in view.members]
     if not requests:
         return again(problem_in("remove-members", "", say("edit.collection_stays")), 409)
-    then, is_long = f"/c/{number}#members", len(requests) > LONGEST_PLAN
+    then, is_long = f"{concept_path(number)}#members", len(requests) > LONGEST_PLAN
     return submit("remove_members", requests, then=then, show=again, may_cut=is_long)
 
 
@@ -221,11 +229,15 @@ def remove_members(number: int) -> Any:
 def retype_link(number: int) -> Any:
     """Gives a broader link another type: the new link first, so that the concept keeps its place."""
     resource(number)
-    old, kind, ends = given("old", BROADER), given("kind", BROADER), {"a": given_number("a"), "b": given_number("b")}
+    old, kind, ends = (
+        form_text("old", BROADER),
+        form_text("kind", BROADER),
+        {"a": given_number("a"), "b": given_number("b")},
+    )
     if old == kind:
-        return redirect(f"/c/{number}#links", 303)
+        return redirect(f"{concept_path(number)}#links", 303)
     requests: list[Request] = [{"do": "link", "kind": kind, **ends}, {"do": "unlink", "kind": old, **ends}]
-    return submit("retype_link", requests, then=f"/c/{number}#links", show=partial(show_again, number))
+    return submit("retype_link", requests, then=f"{concept_path(number)}#links", show=partial(show_again, number))
 
 
 @pages.post("/c/<int:number>/deprecate")
@@ -233,8 +245,11 @@ def retype_link(number: int) -> Any:
 def deprecate(number: int) -> Any:
     """Takes a concept out of use."""
     resource(number)
-    if not the_mirror().is_live(number):
+    if not the_replica().is_live(number):
         return show_again(number, problem_in("deprecate", "", say("edit.is_dead")), 409)
     return submit(
-        "deprecate", [{"do": "deprecate", "concept": number}], then=f"/c/{number}", show=partial(show_again, number)
+        "deprecate",
+        [{"do": "deprecate", "concept": number}],
+        then=concept_path(number),
+        show=partial(show_again, number),
     )

@@ -9,11 +9,12 @@ from flask import Blueprint, abort, g, redirect, render_template, request
 from markupsafe import Markup
 
 from thesaurus_desk.auth.route_roles import public, role
-from thesaurus_desk.journal.schema import now, written
+from thesaurus_desk.journal.schema import now, time_text
 from thesaurus_desk.journal.watches import KINDS, News, Watch, Watcher
-from thesaurus_desk.web.context import go, own_path, person, say, the_desk, the_entry, the_mirror, words
+from thesaurus_desk.web.context import go, own_path, person, say, the_desk, the_entry, the_replica, words
 from thesaurus_desk.web.journal_text import tell_plans
-from thesaurus_desk.web.pages.edit import given, given_number
+from thesaurus_desk.web.pages.edit import form_text, given_number
+from thesaurus_desk.web.paths import concept_path, path_to
 from thesaurus_desk.words import Words
 
 pages = Blueprint("for_me", __name__)
@@ -37,7 +38,7 @@ def for_me() -> Any:
     """Shows what others have done since the reader has looked, and what the reader watches."""
     watches, user = the_desk().watches, person().name
     watcher, at = watches.watcher(user), now()
-    news = watches.news(user, watcher.seen, the_mirror(), at) if watcher else None
+    news = watches.news(user, watcher.seen, the_replica(), at) if watcher else None
     return render_template(
         "for_me.html",
         watcher=watcher,
@@ -59,11 +60,11 @@ def feed_address(watcher: Watcher) -> str:
 def watch() -> Any:
     """Has the reader watch something, or no more."""
     watches, user = the_desk().watches, person().name
-    chosen = Watch(given("kind", KINDS), given_number("number"))
-    there = the_desk().proposals.get(chosen.number) if chosen.kind == "proposal" else the_mirror().get(chosen.number)
+    chosen = Watch(form_text("kind", KINDS), given_number("number"))
+    there = the_desk().proposals.get(chosen.number) if chosen.kind == "proposal" else the_replica().get(chosen.number)
     if there is None:
         abort(404)
-    if given("do", ("watch", "leave")) == "watch":
+    if form_text("do", ("watch", "leave")) == "watch":
         watches.watch(user, chosen, words().language)
     else:
         watches.leave(user, chosen)
@@ -75,10 +76,10 @@ def watch() -> Any:
 def note_read() -> Any:
     """Notes until when the reader has read what has happened: until the page was made."""
     watches = the_desk().watches
-    watcher, at = watches.watcher(person().name), given("at")
+    watcher, at = watches.watcher(person().name), form_text("at")
     if watcher is not None and watcher.seen < at <= now():
         watches.note_seen(watcher.user, at)
-    return go("/for-me")
+    return go(path_to("for_me.for_me"))
 
 
 @pages.post("/for-me/address")
@@ -88,7 +89,7 @@ def renew_address() -> Any:
     watches = the_desk().watches
     if watcher := watches.watcher(person().name):
         watches.renew_secret(watcher.user)
-    return go("/for-me")
+    return go(path_to("for_me.for_me"))
 
 
 # --- feeds ---
@@ -98,10 +99,10 @@ def renew_address() -> Any:
 @public
 def public_feed() -> Any:
     """Returns what has changed of what everybody sees."""
-    since = written(datetime.now(UTC) - FEED_SINCE)
-    mirror = the_desk().public_view()
-    shown = [(it, at) for it, at in the_desk().history.changed_since(since) if mirror.get(it)][:MOST_ENTRIES]
-    return feed([Entry(f"/c/{it}", at, mirror.term(it, [words().language])[1]) for it, at in shown], "feed.xml")
+    since = time_text(datetime.now(UTC) - FEED_SINCE)
+    replica = the_desk().public_view()
+    shown = [(it, at) for it, at in the_desk().history.changed_since(since) if replica.get(it)][:MOST_ENTRIES]
+    return feed([Entry(concept_path(it), at, replica.term(it, [words().language])[1]) for it, at in shown], "feed.xml")
 
 
 @pages.get("/feed/<secret>.xml")
@@ -112,7 +113,7 @@ def own_feed(secret: str) -> Any:
     if watcher is None or accounts is not None and accounts.find(watcher.user) is None:
         abort(404)
     g.words = Words(watcher.language)
-    since = written(datetime.now(UTC) - FEED_SINCE)
+    since = time_text(datetime.now(UTC) - FEED_SINCE)
     news = the_desk().watches.news(watcher.user, since, the_desk().replica)
     return feed(entries_of(news)[:MOST_ENTRIES], f"feed/{secret}.xml")
 
@@ -122,20 +123,20 @@ def entries_of(news: News) -> list[Entry]:
     store = the_desk().replica
     name = {it: store.term(it, [words().language])[1] for it in (*news.changes, *(it.number for it in news.comments))}
     found = [
-        Entry(f"/c/{it}", plan.at, name[it], Markup("{}").format(plan.user))
+        Entry(concept_path(it), plan.at, name[it], Markup("{}").format(plan.user))
         for it, plans in news.changes.items()
         for plan in plans
     ]
     found += [
         Entry(
-            f"/proposals/{it.id}",
+            path_to("proposals.show_proposal", number=it.id),
             it.decided_at or "",
             f"{say('for_me.proposal', n=it.id)} {say(f'proposals.state.{it.state}')}",
         )
         for it in news.proposals
     ]
     found += [
-        Entry(f"/c/{it.number}", it.at, name[it.number], Markup("{}: {}").format(it.user, it.text))
+        Entry(concept_path(it.number), it.at, name[it.number], Markup("{}: {}").format(it.user, it.text))
         for it in news.comments
     ]
     return sorted(found, key=lambda it: it.at, reverse=True)

@@ -8,7 +8,7 @@ from werkzeug.wrappers import Response
 
 from thesaurus_desk.auth.route_roles import public, role
 from thesaurus_desk.journal.daily_counts import Counts
-from thesaurus_desk.web.context import go, own_path, person, tags, the_desk, the_mirror, the_settings
+from thesaurus_desk.web.context import go, own_path, person, tags, the_desk, the_replica, the_settings
 from thesaurus_desk.web.help_topics import KEYS
 from thesaurus_desk.web.journal_text import tell_plans
 from thesaurus_desk.web.notices import warnings
@@ -24,8 +24,7 @@ MOST_RECENT = 8
 FLAWS = ("undefined", "orphans", "alike", "homographs", "plurals", "redundant", "related_siblings", "mapped_twice")
 MOST_FLAWS = 5
 # How whoever runs the desk looks at the sample.
-SAMPLE = """./thesaurus --db sample.db --base https://museum.example/id/ script < examples/instruments.jsonl
-tools/desk --db sample.db --alone anna"""
+SAMPLE = "tools/desk --sample"
 YEAR = 31_536_000
 
 
@@ -34,14 +33,14 @@ YEAR = 31_536_000
 def home() -> str:
     """Shows a search, what waits for the reader, what is new, and the schemes with their top terms; or how a thesaurus
     begins."""
-    mirror, may_edit = the_mirror(), person().may("editor")
+    replica, may_edit = the_replica(), person().may("editor")
     notes = {"warnings": warnings(), "cut": the_desk().batches.cut() if may_edit else []}
-    numbers = mirror.ordered(mirror.numbers("scheme"), tags())
+    numbers = replica.ordered(replica.numbers("scheme"), tags())
     if not numbers:
         return render_template("first.html", sample=SAMPLE, **notes)
-    schemes = [(it, mirror.ordered(mirror.tops(it), tags())) for it in numbers]
+    schemes = [(it, replica.ordered(replica.tops(it), tags())) for it in numbers]
     below = {
-        top: mirror.ordered(mirror.branch(top), tags()) for _, tops in schemes if len(tops) < FEW_TOPS for top in tops
+        top: replica.ordered(replica.branch(top), tags()) for _, tops in schemes if len(tops) < FEW_TOPS for top in tops
     }
     return render_template(
         "home.html",
@@ -49,8 +48,8 @@ def home() -> str:
         below=below,
         most=MOST_TOPS,
         most_below=MOST_BELOW,
-        concepts=mirror.count_concepts(),
-        totals=mirror.postings.totals(),
+        concepts=replica.count_concepts(),
+        totals=replica.postings.totals(),
         **notes,
         **last_release(),
         **(own_parts() if person().name else {}),
@@ -98,7 +97,7 @@ def languages() -> str:
 def choose_language() -> Response:
     """Keeps the language of the pages or of the terms in a cookie, and leads back."""
     answer = go(own_path(request.args.get("next")))
-    kept = {"pages": set(LANGUAGES), "terms": set(the_mirror().languages())}
+    kept = {"pages": set(LANGUAGES), "terms": set(the_replica().languages())}
     for name, allowed in kept.items():
         tag = request.args.get(name, "")
         if tag in allowed:

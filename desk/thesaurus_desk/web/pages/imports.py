@@ -8,9 +8,9 @@ from flask import Blueprint, Response, abort, redirect, render_template, request
 from markupsafe import Markup
 
 from thesaurus_desk.auth.route_roles import role
-from thesaurus_desk.importing.exported_values import read_exported_values
-from thesaurus_desk.importing.posting_files import MOST_BYTES, Brought, Row
-from thesaurus_desk.importing.row_trial import NotTried
+from thesaurus_desk.importing.export_rows import read_export_rows
+from thesaurus_desk.importing.posting_files import MOST_BYTES, PostingImport, Row
+from thesaurus_desk.importing.row_trial import NoTrial
 from thesaurus_desk.importing.skos_reports import Findings
 from thesaurus_desk.importing.tables import (
     TableRun,
@@ -42,12 +42,13 @@ from thesaurus_desk.web.context import (
     tags,
     the_desk,
     the_fields,
-    the_mirror,
+    the_replica,
     the_rights,
     words,
 )
 from thesaurus_desk.web.forms import FormState, Problem
 from thesaurus_desk.web.journal_text import LINKS, PageLinks, tell_outcome
+from thesaurus_desk.web.paths import concept_path, path_to
 from thesaurus_desk.web.refusals import explain
 from thesaurus_desk.web.request_text import sentence_of
 from thesaurus_desk.web.spreadsheets import sheet_of_rows
@@ -60,14 +61,14 @@ from thesaurus_desk.web.table_pages import (
     show_performance,
     show_preview,
     table_page,
-    the_shelf,
+    the_uploads,
 )
 from thesaurus_tools.fields import table_fields
 from thesaurus_tools.files import TableError
 from thesaurus_tools.headings import ColumnsError
 from thesaurus_tools.table_plans import KINDS, NewConceptsError, TableOptions
 
-pages = Blueprint("bring_in", __name__)
+pages = Blueprint("imports", __name__)
 # A form with a file: the file, and some room for the rest.
 LARGEST = MOST_BYTES + (1 << 16)
 # The encodings of CSV that a form may name, beside those that a file shows itself.
@@ -78,10 +79,10 @@ KEPT_FIELDS = ("kind", "tag", "scheme", "columns", "forget", "cells")
 EXACT = {"": None, "exact": True, "add": False}
 
 
-@pages.app_errorhandler(NotTried)
-def not_tried(error: NotTried) -> Any:
+@pages.app_errorhandler(NoTrial)
+def not_tried(error: NoTrial) -> Any:
     """Returns the forms with why the program can't say now what rows would do."""
-    return refused("table", say(f"refusals.{error.fault}.text"), "")
+    return refusal_answer("table", say(f"refusals.{error.fault}.text"), "")
 
 
 def has_two() -> bool:
@@ -107,7 +108,7 @@ def bring_in() -> Any:
 
 def start_page(state: FormState, status: int) -> Any:
     """Returns the page with the forms for files."""
-    schemes = [(it, LINKS.term(it)) for it in the_mirror().ordered(the_mirror().numbers("scheme"), tags())]
+    schemes = [(it, LINKS.term(it)) for it in the_replica().ordered(the_replica().numbers("scheme"), tags())]
     kinds = [("", say("bring_in.kind.guess"))] + [(it, say(f"bring_in.kind.{it}")) for it in KINDS]
     encodings = [("", say("bring_in.encoding_guess")), (ENCODINGS[0], say("bring_in.encoding_windows"))]
     most = MOST_BYTES >> 20
@@ -126,7 +127,7 @@ def start_page(state: FormState, status: int) -> Any:
     return page, status
 
 
-def refused(form: str, text: str, field: str | None = None) -> Any:
+def refusal_answer(form: str, text: str, field: str | None = None) -> Any:
     """Returns the forms with what is wrong with a file, or with the text typed in its place."""
     if field is None:
         sent = request.files.get("file")
@@ -143,22 +144,24 @@ def refused(form: str, text: str, field: str | None = None) -> Any:
 def bring_postings() -> Any:
     """Imports a posting file, and shows what came of its rows."""
     if has_two():
-        return refused("postings", say("bring_in.two"), "typed")
+        return refusal_answer("postings", say("bring_in.two"), "typed")
     name, data = file_of_form()
     data = data.removeprefix(b"\xef\xbb\xbf")
     heading = data.partition(b"\n")[0].strip().replace(b'"', b"")
     if heading != b"key,record,concept":
-        return refused("postings", say("bring_in.heading"))
+        return refusal_answer("postings", say("bring_in.heading"))
     brought = the_desk().bring_in(person().name, data, name)
     if brought.state in ("lost", "unknown"):
-        return refused("postings", say(f"bring_in.state.{brought.state}"))
+        return refusal_answer("postings", say(f"bring_in.state.{brought.state}"))
     if brought.state == "refused" or brought.answer and not brought.rows:
-        return refused("postings", explain(brought.answer or {}, {"do": "import"}, the_mirror(), words(), LINKS))
+        return refusal_answer(
+            "postings", explain(brought.answer or {}, {"do": "import"}, the_replica(), words(), LINKS)
+        )
     brought.name = name
-    return redirect(f"/bring-in/result/{keep(brought)}", 303)
+    return redirect(path_to("imports.result", name=keep(brought)), 303)
 
 
-def postings_page(brought: Brought, kept: str) -> Any:
+def postings_page(brought: PostingImport, kept: str) -> Any:
     """Returns what came of a posting file."""
     failed = kept if brought.failed else ""
     rows = [(it, why_refused(it)) for it in brought.failed[:SHOWN]]
@@ -171,18 +174,18 @@ def why_refused(row: Row) -> Any:
     number = int(concept) if concept.isascii() and concept.isdigit() and len(concept) < 11 else 0
     asked = {"do": "post", "key": key, "record": record, "concept": number}
     answer = {"bad" if row.outcome.startswith("Bad") else "no": row.outcome}
-    return explain(answer, asked, the_mirror(), words(), LINKS)
+    return explain(answer, asked, the_replica(), words(), LINKS)
 
 
 @pages.get("/bring-in/failed/<name>.csv")
 @role("indexer")
 def failed_rows(name: str) -> Response:
     """Returns the rows that were refused as a table again, with a column of reasons."""
-    shelf, user = the_shelf(), person().name
-    what = shelf.find(user, name, Brought) or shelf.find(user, name, TableRun)
+    uploads, user = the_uploads(), person().name
+    what = uploads.find(user, name, PostingImport) or uploads.find(user, name, TableRun)
     if what is None:
         abort(404)
-    if isinstance(what, Brought):
+    if isinstance(what, PostingImport):
         rows = [("key", "record", "concept", "reason"), *((*it.cells, plain(why_refused(it))) for it in what.failed)]
         return sheet_of_rows("refused", rows)
     return sheet_of_rows("refused", map(tuple, refused_rows(what)))
@@ -196,10 +199,10 @@ def failed_rows(name: str) -> Response:
 def preview_table() -> Any:
     """Shows row by row what a table would do."""
     if has_two():
-        return refused("table", say("bring_in.two"), "typed")
+        return refusal_answer("table", say("bring_in.two"), "typed")
     name, data = file_of_form()
-    if not the_mirror().numbers("scheme"):
-        return refused("table", say("bring_in.no_scheme"))
+    if not the_replica().numbers("scheme"):
+        return refusal_answer("table", say("bring_in.no_scheme"))
     scheme = request.form.get("scheme", "")
     kind = request.form.get("kind", "")
     options = TableOptions(
@@ -225,25 +228,25 @@ def preview_table() -> Any:
         return show_preview(run)
     except ColumnsError as error:
         key = "columns_wrong" if error.roles else "columns_unknown"
-        return refused("table", say(f"bring_in.{key}", roles=error.roles, names=error.names), "columns")
+        return refusal_answer("table", say(f"bring_in.{key}", roles=error.roles, names=error.names), "columns")
     except TableError as error:
-        return refused("table", table_error_in_words(error, name, words()))
+        return refusal_answer("table", table_error_in_words(error, name, words()))
     except NewConceptsError:
-        return refused("table", say("bring_in.new_concepts"), "tag")
+        return refusal_answer("table", say("bring_in.new_concepts"), "tag")
 
 
 @pages.post("/bring-in/table/columns")
 @role("editor")
 def choose_columns() -> Any:
     """Shows what a table would do if its columns held what its reader has chosen."""
-    run = the_shelf().find(person().name, request.form.get("name", ""), TableRun)
+    run = the_uploads().find(person().name, request.form.get("name", ""), TableRun)
     if run is None or run.is_done:
-        return refused("table", say("bring_in.not_kept"), "")
+        return refusal_answer("table", say("bring_in.not_kept"), "")
     run = replace(run, columns=chosen_columns(run.columns, request.form), plans=[])
     try:
         return show_preview(run)
     except NewConceptsError:
-        return refused("table", say("bring_in.new_concepts"), "tag")
+        return refusal_answer("table", say("bring_in.new_concepts"), "tag")
 
 
 @pages.post("/bring-in/table/perform")
@@ -252,11 +255,11 @@ def perform_table() -> Any:
     """Performs a table that was looked at, once: each row is done whole or not at all. Leads to what came of it. Or
     shows another part of a long table, with the ticks."""
     name = request.form.get("name", "")
-    if "go" in request.form and (shown := the_shelf().find(person().name, name, TableRun)):
+    if "go" in request.form and (shown := the_uploads().find(person().name, name, TableRun)):
         return table_page(shown, name, 200, lines_left(shown))
-    run = the_shelf().take(person().name, name, TableRun)
+    run = the_uploads().take(person().name, name, TableRun)
     if run is None:
-        return refused("table", say("bring_in.not_kept"), "")
+        return refusal_answer("table", say("bring_in.not_kept"), "")
     leave_out(run, lines_left(run))
     return show_performance(run)
 
@@ -265,11 +268,11 @@ def perform_table() -> Any:
 @role("indexer")
 def result(name: str) -> Any:
     """Shows what came of a file."""
-    run = the_shelf().find(person().name, name, TableRun)
-    brought = the_shelf().find(person().name, name, Brought)
+    run = the_uploads().find(person().name, name, TableRun)
+    brought = the_uploads().find(person().name, name, PostingImport)
     if brought is not None:
         return postings_page(brought, name)
-    return table_page(run, name, 200) if run is not None else go("/changes")
+    return table_page(run, name, 200) if run is not None else go(path_to("changes.changes"))
 
 
 # --- SKOS ---
@@ -281,7 +284,7 @@ def preview_skos() -> Any:
     """Converts a vocabulary, tries it on a copy of the store, and shows what is lost."""
     name, data = file_of_form()
     if "values" in request.form:
-        return preview_exported_values(name, data)
+        return preview_export_rows(name, data)
     options = SkosOptions(
         lang=request.form.get("tag", "").strip().lower(),
         scheme=request.form.get("title", "").strip(),
@@ -293,14 +296,14 @@ def preview_skos() -> Any:
     )
     onto = request.form.get("onto", "")
     scheme = int(onto) if onto.isascii() and onto.isdigit() and len(onto) < 11 else 0
-    if scheme and the_mirror().kind(scheme) != "scheme":
+    if scheme and the_replica().kind(scheme) != "scheme":
         abort(404)
     try:
         if scheme:
             return preview_update(name, data, options, scheme)
         run = read_skos(the_desk(), name, data, options)
     except StoreBusy:
-        return refused("skos", say("refusals.Busy.text"), "")
+        return refusal_answer("skos", say("refusals.Busy.text"), "")
     except SkosError as error:
         return refused_skos(error)
     run.refused = refused_sentences(run)
@@ -311,13 +314,13 @@ def refused_skos(error: SkosError) -> Any:
     """Returns the forms with why a file isn't read as a vocabulary."""
     # (what the converter says is in English)
     said = Markup(' <span lang="en" dir="ltr">{}</span>').format(error.said) if error.said else ""
-    return refused("skos", Markup("{}{}").format(say(f"bring_in.skos_error.{error.key}", **error.values), said))
+    return refusal_answer("skos", Markup("{}{}").format(say(f"bring_in.skos_error.{error.key}", **error.values), said))
 
 
-def preview_exported_values(name: str, data: bytes) -> Any:
+def preview_export_rows(name: str, data: bytes) -> Any:
     """Shows which values of fields an export of this thesaurus has that are lacking, as a table."""
     try:
-        run = read_exported_values(name, data, the_mirror().base, the_fields())
+        run = read_export_rows(name, data, the_replica().base, the_fields())
     except SkosError as error:
         return refused_skos(error)
     return show_preview(run)
@@ -325,7 +328,7 @@ def preview_exported_values(name: str, data: bytes) -> Any:
 
 def preview_update(name: str, data: bytes, options: SkosOptions, scheme: int) -> Any:
     """Shows row by row how a vocabulary would bring a thesaurus up to date. Raises SkosError."""
-    tag, term = the_mirror().term(scheme, tags())
+    tag, term = the_replica().term(scheme, tags())
     options = replace(options, lang=options.lang or tag, scheme=options.scheme or term, has_old_addresses=False)
     run = update_of(convert_skos(the_desk(), name, data, options), scheme, "gone" in request.form)
     return show_preview(run)
@@ -344,8 +347,8 @@ def skos_page(run: SkosRun, status: int) -> Any:
 @role("editor", act="import")
 def skos_report(name: str) -> Response:
     """Returns all that is left out of a vocabulary as a table."""
-    shelf, user = the_shelf(), person().name
-    run = shelf.find(user, name, SkosRun) or shelf.find(user, name, TableRun)
+    uploads, user = the_uploads(), person().name
+    run = uploads.find(user, name, SkosRun) or uploads.find(user, name, TableRun)
     if run is None:
         abort(404)
     headers = {"Content-Disposition": 'attachment; filename="left-out.csv"'}
@@ -360,7 +363,7 @@ def refused_sentences(run: SkosRun) -> list[Findings]:
         number = line.partition(":")[0]
         if not (number.isdecimal() and 1 <= int(number) <= len(run.requests)):
             return line
-        return sentence_of(run.requests[int(number) - 1], None, the_mirror(), words(), links)
+        return sentence_of(run.requests[int(number) - 1], None, the_replica(), words(), links)
 
     return [Findings(it.rule, [sentence(line) for line in it.lines], it.more) for it in run.refused]
 
@@ -369,9 +372,9 @@ def refused_sentences(run: SkosRun) -> list[Findings]:
 @role("editor", act="import")
 def perform_skos() -> Any:
     """Brings in a vocabulary that was looked at, once."""
-    run = the_shelf().take(person().name, request.form.get("name", ""), SkosRun)
+    run = the_uploads().take(person().name, request.form.get("name", ""), SkosRun)
     if run is None:
-        return refused("skos", say("bring_in.not_kept"), "")
+        return refusal_answer("skos", say("bring_in.not_kept"), "")
     if the_desk().batches.same(run.digest) and "again" not in request.form:
         return skos_page(run, 409)
     return bring_vocabulary(run)
@@ -380,10 +383,10 @@ def perform_skos() -> Any:
 def bring_vocabulary(run: SkosRun) -> Any:
     """Brings in a vocabulary, or the rest of one, and leads to its scheme; or shows that it was cut by a refusal."""
     if why := the_rights().refusal(run.requests, person().role):
-        return refused("skos", say(why), "")
+        return refusal_answer("skos", say(why), "")
     outcome = perform_script(the_desk(), person().name, run)
     if outcome.is_done:
-        return go(f"/c/{run.scheme}" if run.scheme else "/", run.batch.plan if run.batch else outcome.plan)
+        return go(concept_path(run.scheme) if run.scheme else "/", run.batch.plan if run.batch else outcome.plan)
     run.is_cut = True
     return render_template("bring_in/skos.html", run=run, name="", outcome=outcome, before=None), 409
 
@@ -400,7 +403,7 @@ def go_on(plan: int) -> Any:
     batch = next((it for it in batches.cut() if it.plan == plan), None)
     rest = batches.rest(batch) if batch else None
     if batch is None or rest is None:
-        return refused("table", say("bring_in.no_rest"), "")
+        return refusal_answer("table", say("bring_in.no_rest"), "")
     if batch.action != "table" and not may_act("import"):
         abort(403)
     if batch.action == TAKE_BACK:
@@ -415,4 +418,8 @@ def go_on(plan: int) -> Any:
 def go_on_taking_back(batch: Batch, requests: list[Request]) -> Any:
     """Takes the rest of a long change back, and leads to the changes; or shows why that isn't done."""
     outcome = the_desk().go_on_taking_back(person().name, batch, requests)
-    return go("/changes", batch.plan) if outcome.is_done else refused("table", tell_outcome(outcome), "")
+    return (
+        go(path_to("changes.changes"), batch.plan)
+        if outcome.is_done
+        else refusal_answer("table", tell_outcome(outcome), "")
+    )

@@ -14,14 +14,13 @@ from thesaurus_desk.journal.schema import sent_form
 from thesaurus_desk.store.plan_execution import LONGEST_PLAN
 from thesaurus_desk.store.record_suggestions import Suggestion
 from thesaurus_desk.web.annif import NoService, ask_annif
-from thesaurus_desk.web.concept_choice import choose, undecided, unknown_term
-from thesaurus_desk.web.context import person, say, term, the_desk, the_mirror
+from thesaurus_desk.web.concept_choice import choose, needs_choice, unknown_term
+from thesaurus_desk.web.context import person, say, term, the_desk, the_replica
 from thesaurus_desk.web.form_submission import problem_in, submit
 from thesaurus_desk.web.forms import FormState
-from thesaurus_desk.web.openings import the_openings
-from thesaurus_desk.web.pages.edit import given
+from thesaurus_desk.web.open_records import the_open_records
+from thesaurus_desk.web.pages.edit import form_text
 from thesaurus_desk.web.pages.queue import path_of_next, queue_page
-from thesaurus_desk.web.refusals.postings import record_link
 from thesaurus_desk.web.record_forms import (
     RecordForm,
     catalogue_link,
@@ -30,6 +29,7 @@ from thesaurus_desk.web.record_forms import (
     standing_of,
     text_of,
 )
+from thesaurus_desk.web.refusals.postings import record_link
 
 pages = Blueprint("indexing", __name__)
 
@@ -67,7 +67,7 @@ def record_page(form: RecordForm, state: FormState, status: int, is_adding: bool
         ticked=form.ticked,
         concepts=[*first, *(it.concept for it in suggested if it.concept not in first)],
         why={it.concept: reasons(it) for it in suggested},
-        others=the_openings().open(form.record, person().name),
+        others=the_open_records().open(form.record, person().name),
         is_adding=is_adding,
         unknown=unknown_term(state),
         text=text if text != RecordText(form.record) else None,
@@ -94,15 +94,15 @@ def reasons(it: Suggestion) -> list[Markup | str]:
 def index_record() -> Any:
     """Ticks the concept that the form names, and shows the page again; or makes the record's postings those that are
     ticked; or leaves it out."""
-    name, do = given("record"), given("do", DEEDS)
+    name, do = form_text("record"), form_text("do", DEEDS)
     if not name:
         abort(400)
     if do == "skip":
         return redirect(leave(name, "skipped"), 303)
     keep_text(name, do == "forget")
-    chosen = choose(request.form) if given("other") else None
+    chosen = choose(request.form) if form_text("other") else None
     if chosen is not None and chosen.number is None:
-        return record_page(sent_record(name), undecided(FORM, request.form, chosen), 409)
+        return record_page(sent_record(name), needs_choice(FORM, request.form, chosen), 409)
     form = sent_record(name, [chosen.number] if chosen and chosen.number else ())
     if wrong := stale_form(form):
         return record_page(form, wrong, 409)
@@ -117,11 +117,11 @@ def suggest_more() -> Any:
     if not project:
         abort(404)
     try:
-        proposed = ask_annif(project, "\n".join((given("title"), given("text"))))
+        proposed = ask_annif(project, "\n".join((form_text("title"), form_text("text"))))
     except NoService as error:
         LOG.warning("%s gives no suggestions: %s", project, error)
         return {"found": [], "said": say("indexing.no_service")}, 502
-    known = [(it, the_mirror().final(the_mirror().by_iri(it.uri) or 0)) for it in proposed]
+    known = [(it, the_replica().final(the_replica().by_iri(it.uri) or 0)) for it in proposed]
     found = [
         {"number": number, "term": term(number), "why": say("indexing.by_service", n=round(100 * it.score))}
         for it, number in known
@@ -174,5 +174,5 @@ def save(form: RecordForm) -> Any:
 def leave(name: str, state: str) -> str:
     """Notes what has become of a record, and returns the path of the next one."""
     the_desk().queue.settle(name, state, person().name)
-    the_openings().close(name, person().name)
+    the_open_records().close(name, person().name)
     return path_of_next()

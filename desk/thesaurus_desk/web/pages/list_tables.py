@@ -10,12 +10,13 @@ from thesaurus_desk.auth.route_roles import public
 from thesaurus_desk.web.context import own_path
 from thesaurus_desk.web.list_columns import column_groups, heading_of, usual_columns
 from thesaurus_desk.web.pages.work import WORK_COLUMNS
+from thesaurus_desk.web.paths import path_to
+from thesaurus_desk.web.work_views import LISTS
 from thesaurus_tools.workbooks import writable_forms
 
 pages = Blueprint("list_tables", __name__)
 # What the form itself says of a table.
 OWN_FIELDS = ("format", "column", "language")
-WORK_LISTS, COLLECTIONS = "/lists/work/", "/collections"
 
 
 @pages.get("/as-table")
@@ -25,8 +26,9 @@ def choose_columns() -> Any:
     parts = urlsplit(own_path(request.args.get("of")))
     if parts.path == "/":
         abort(404)
-    more = ("members",) if parts.path == COLLECTIONS else ()
-    usual = WORK_COLUMNS if parts.path.startswith(WORK_LISTS) else usual_columns(more)
+    more = ("members",) if parts.path == path_to("tree.collections") else ()
+    is_of_work = parts.path in [path_to("work.work_list", which=it) for it in LISTS]
+    usual = WORK_COLUMNS if is_of_work else usual_columns(more)
     return render_template(
         "columns.html",
         path=parts.path,

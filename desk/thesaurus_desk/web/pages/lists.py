@@ -9,6 +9,7 @@ from flask import Blueprint, abort, render_template, request
 
 from thesaurus_desk.auth.route_roles import role
 from thesaurus_desk.journal.daily_counts import Counts
+from thesaurus_desk.journal.rights import ACTS
 from thesaurus_desk.store.quality import MOST_LEVELS, MOST_NARROWER
 from thesaurus_desk.store.worklists import (
     GROUPS,
@@ -19,11 +20,11 @@ from thesaurus_desk.store.worklists import (
     count_untranslated,
     make_list,
 )
-from thesaurus_desk.journal.rights import ACTS
-from thesaurus_desk.web.context import may_act, page_number, person, say, tags, the_desk, the_mirror
+from thesaurus_desk.web.context import may_act, page_number, person, say, tags, the_desk, the_replica
+from thesaurus_desk.web.list_forms import in_other_form
 from thesaurus_desk.web.pages.search import number_of
 from thesaurus_desk.web.pages.values import counts_without
-from thesaurus_desk.web.list_forms import in_other_form
+from thesaurus_desk.web.paths import path_to
 from thesaurus_desk.web.spreadsheets import is_table_asked, sheet_of_rows
 from thesaurus_desk.web.work_views import list_counts, today
 from thesaurus_desk.words.languages import language_name
@@ -32,14 +33,14 @@ pages = Blueprint("lists", __name__)
 LIST_PAGE, GROUP_PAGE, MOST_LANGUAGES = 500, 200, 40
 # Where the concept of a list is mended, and the lowest role that does it, or the act; the words are `lists.cure.NAME`.
 CURES = {
-    "undefined": ("/c/{}?add=definition#at-add-definition", "editor"),
-    "orphans": ("/c/{}/move", "editor"),
-    "single_child": ("/new?parent={}", "editor"),
-    "deep": ("/c/{}/move", "editor"),
-    "wide": ("/new/array?concept={}", "editor"),
-    "unmapped": ("/c/{}?open=add-match#at-add-match", "editor"),
-    "busiest": ("/c/{}/split", "split"),
-    "dead_ends": ("/c/{}#history", "reader"),
+    "undefined": ("concept.show", "?add=definition#at-add-definition", "editor"),
+    "orphans": ("move.move", "", "editor"),
+    "single_child": ("create.new_concept", "?parent={}", "editor"),
+    "deep": ("move.move", "", "editor"),
+    "wide": ("arrays.new_array", "?concept={}", "editor"),
+    "unmapped": ("concept.show", "?open=add-match#at-add-match", "editor"),
+    "busiest": ("split.split", "", "split"),
+    "dead_ends": ("concept.show", "#history", "reader"),
 }
 # What the sentence about a list names.
 BOUNDS = {"deep": MOST_LEVELS, "wide": MOST_NARROWER}
@@ -50,16 +51,16 @@ DAYS_AGO = (1, 7, 30, 90, 365)
 @pages.get("/lists")
 def lists() -> Any:
     """Shows which lists there are, and how long each is."""
-    mirror = the_mirror()
-    counts = {it: count_list(mirror, it) for it in KINDS if it != "untranslated"}
+    replica = the_replica()
+    counts = {it: count_list(replica, it) for it in KINDS if it != "untranslated"}
     shown = tags() if "languages" in request.args else tags()[:MOST_LANGUAGES]
-    lacking = count_untranslated(mirror, sorted(shown))
+    lacking = count_untranslated(replica, sorted(shown))
     more = len(tags()) - len(shown)
     return render_template(
         "lists.html",
         counts=counts,
         lacking=lacking,
-        percent={tag: percent_of(mirror.count_concepts() - n, mirror.count_concepts()) for tag, n in lacking.items()},
+        percent={tag: percent_of(replica.count_concepts() - n, replica.count_concepts()) for tag, n in lacking.items()},
         more=more,
         without=counts_without(),
         work=list_counts(),
@@ -77,11 +78,11 @@ def work_list(kind: str) -> Any:
     """Shows one list."""
     if kind not in KINDS:
         abort(404)
-    mirror, asked = the_mirror(), request.args.get("in", "")
+    replica, asked = the_replica(), request.args.get("in", "")
     lang = asked if asked in tags() else tags()[0]
-    schemes = mirror.ordered(mirror.numbers("scheme"), tags())
+    schemes = replica.ordered(replica.numbers("scheme"), tags())
     scheme = number_of("scheme") if number_of("scheme") in schemes else None
-    found = make_list(mirror, kind, scheme, lang, tags())
+    found = make_list(replica, kind, scheme, lang, tags())
     if (other := in_other_form(kind, lambda: found.numbers)) is not None:
         return other
     page = page_number()
@@ -90,7 +91,7 @@ def work_list(kind: str) -> Any:
     chosen: dict[str, object] = {"in": lang} if kind == "untranslated" else {}
     if scheme:
         chosen["scheme"] = scheme
-    mirror.look_at(found.numbers[part])
+    replica.look_at(found.numbers[part])
     return render_template(
         "list.html",
         kind=kind,
@@ -104,15 +105,20 @@ def work_list(kind: str) -> Any:
         size=size,
         cure=cure_of(kind),
         bound=BOUNDS.get(kind),
-        counts=mirror.count_records,
-        path=f"/lists/{kind}?{urlencode(chosen)}" if chosen else f"/lists/{kind}",
+        counts=replica.count_records,
+        path=f"{path_to('lists.work_list', kind=kind)}?{urlencode(chosen)}"
+        if chosen
+        else path_to("lists.work_list", kind=kind),
     )
 
 
 def cure_of(kind: str) -> str:
-    """Returns where the reader mends a concept of a list, if there is such a page."""
-    path, lowest = CURES.get(kind, ("", "reader"))
-    return path if (may_act(lowest) if lowest in ACTS else person().may(lowest)) else ""
+    """Returns where the reader mends a concept of a list, with braces for its number, if there is such a page."""
+    if kind not in CURES:
+        return ""
+    page, rest, lowest = CURES[kind]
+    path = path_to(page) if "{}" in rest else path_to(page, number="{}")
+    return path + rest if (may_act(lowest) if lowest in ACTS else person().may(lowest)) else ""
 
 
 # --- over time ---
@@ -122,7 +128,7 @@ def cure_of(kind: str) -> str:
 @role("head")
 def quality() -> Any:
     """Shows how long each list is, and was on earlier days."""
-    daily, now = the_desk().daily_counts, count_quality(the_mirror())
+    daily, now = the_desk().daily_counts, count_quality(the_replica())
     if is_table_asked():
         return sheet_of_rows("quality", rows_of_days({**daily.all(), today(): now}))
     days = daily.before(today(), DAYS_AGO)

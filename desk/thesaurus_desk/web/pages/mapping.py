@@ -21,11 +21,12 @@ from thesaurus_desk.mapping.pairs import Pair, find_pairs
 from thesaurus_desk.mapping.progress import LEFT, MAPPED, STATES, ChangedTarget, Progress
 from thesaurus_desk.mapping.vocabularies import Vocabulary
 from thesaurus_desk.store.model import View, best_of
-from thesaurus_desk.web.context import go, link_elsewhere, page_number, person, say, tags, the_desk, the_mirror
+from thesaurus_desk.web.context import go, link_elsewhere, page_number, person, say, tags, the_desk, the_replica
 from thesaurus_desk.web.form_submission import problem_in, submit
 from thesaurus_desk.web.forms import FormState
-from thesaurus_desk.web.pages.edit import given, given_number, link_request, resource
+from thesaurus_desk.web.pages.edit import form_text, given_number, link_request, resource
 from thesaurus_desk.web.pages.imports import LARGEST
+from thesaurus_desk.web.paths import path_to
 from thesaurus_desk.web.table_pages import show_preview
 from thesaurus_tools.headings import find_columns
 from thesaurus_tools.kinds import MAPPINGS
@@ -43,7 +44,7 @@ KEYS = dict(zip(("exact", "close", "broad", "narrow", "relMatch"), "ecbnr"))
 
 
 @dataclass(frozen=True)
-class Shown:
+class CandidateView:
     """A candidate as a page shows it: its label in the reader's language, and why it is one."""
 
     candidate: Candidate
@@ -73,14 +74,14 @@ def concept_of(number: int) -> View:
 
 def progress_of(vocabulary: Vocabulary) -> Progress:
     """Returns how far a vocabulary is mapped."""
-    return Progress(the_mirror(), the_desk().decisions, vocabulary)
+    return Progress(the_replica(), the_desk().decisions, vocabulary)
 
 
 def scheme_asked() -> int | None:
     """Returns the scheme of a page, in its address or its form."""
     text = request.values.get("scheme", "")
     number = int(text) if re.fullmatch("[0-9]{1,10}", text) else 0
-    return number if the_mirror().kind(number) == "scheme" else None
+    return number if the_replica().kind(number) == "scheme" else None
 
 
 def best_name(terms: list[tuple[str, str]], otherwise: str = "") -> tuple[str, str]:
@@ -100,8 +101,8 @@ def mapping() -> Any:
 
 def start_page(state: FormState, status: int) -> Any:
     """Returns the page of the vocabularies."""
-    mirror, vocabularies = the_mirror(), the_desk().vocabularies
-    schemes = mirror.ordered(mirror.numbers("scheme"), tags())
+    replica, vocabularies = the_replica(), the_desk().vocabularies
+    schemes = replica.ordered(replica.numbers("scheme"), tags())
     with vocabularies.reading():
         them = vocabularies.each()
         progress = {it.id: progress_of(it) for it in them}
@@ -130,14 +131,14 @@ def start_page(state: FormState, status: int) -> Any:
 @role("head", LARGEST)
 def load() -> Any:
     """Begins to load a dump that was sent."""
-    name, sent = " ".join(given("name").split()), request.files.get("file")
+    name, sent = " ".join(form_text("name").split()), request.files.get("file")
     if not 0 < len(name) <= LONGEST_NAME:
         return start_page(problem_in("load", "name", say("mapping.no_name", most=LONGEST_NAME)), 409)
     if not sent or not sent.filename or not sent.filename.lower().endswith(ENDS):
         return start_page(problem_in("load", "file", say("mapping.no_dump", ends=", ".join(ENDS))), 409)
     if not the_loads().start(name, sent.filename[:200], sent.read()):
         return start_page(problem_in("load", "", say("mapping.loading_another")), 409)
-    return go("/mapping#load")
+    return go(f"{path_to('mapping.mapping')}#load")
 
 
 @pages.post("/mapping/<int:number>/remove")
@@ -149,7 +150,7 @@ def remove(number: int) -> Any:
         return start_page(problem_in(form, "sure", say("mapping.remove_sure")), 409)
     if not the_loads().remove(vocabulary.name):
         return start_page(problem_in(form, "", say("mapping.loading_another")), 409)
-    return go("/mapping#load")
+    return go(f"{path_to('mapping.mapping')}#load")
 
 
 # --- concepts of a vocabulary ---
@@ -167,7 +168,7 @@ def concepts(number: int) -> Any:
         state = asked if asked in STATES else LEFT
         page = page_number()
         numbers = found[state][page * PAGE : (page + 1) * PAGE]
-        the_mirror().look_at(numbers)
+        the_replica().look_at(numbers)
         return render_template(
             "mapping/list.html",
             vocabulary=vocabulary,
@@ -179,16 +180,16 @@ def concepts(number: int) -> Any:
             matches=progress.mapped(),
             link_elsewhere=link_elsewhere,
             size=PAGE,
-            path=f"/mapping/{number}?state={state}&scheme={scheme or ''}",
+            path=f"{path_to('mapping.concepts', number=number)}?state={state}&scheme={scheme or ''}",
         )
 
 
-def shown_candidates(vocabulary: Vocabulary, progress: Progress, concept: int, most: int) -> list[Shown]:
+def shown_candidates(vocabulary: Vocabulary, progress: Progress, concept: int, most: int) -> list[CandidateView]:
     """Returns the best candidates for a concept, with their labels."""
     vocabularies = the_desk().vocabularies
-    finder = Finder(the_mirror(), vocabularies, vocabulary.id)
+    finder = Finder(the_replica(), vocabularies, vocabulary.id)
     found = finder.find(concept, progress.rejected(concept), most)
-    return [Shown(it, best_name(vocabularies.names(it.iri), it.iri)) for it in found]
+    return [CandidateView(it, best_name(vocabularies.names(it.iri), it.iri)) for it in found]
 
 
 @pages.get("/mapping/<int:number>/c/<int:concept>")
@@ -223,7 +224,7 @@ def side_by_side(vocabulary: Vocabulary, view: View, state: FormState, status: i
             scheme=scheme_asked(),
             asked=asked,
             seen=the_desk().seen.mark(view.number, "links"),
-            count_records=the_mirror().count_records,
+            count_records=the_replica().count_records,
         )
     return page, status
 
@@ -232,9 +233,9 @@ def side_by_side(vocabulary: Vocabulary, view: View, state: FormState, status: i
 @role("editor")
 def decide(number: int, concept: int) -> Any:
     """Maps a concept to a candidate; or notes that one is none, that there is none, or that it waits."""
-    vocabulary, view, do, iri = vocabulary_of(number), concept_of(concept), given("do"), given("iri")
+    vocabulary, view, do, iri = vocabulary_of(number), concept_of(concept), form_text("do"), form_text("iri")
     again, desk = partial(side_by_side, vocabulary, view), the_desk()
-    here = f"/mapping/{number}/c/{concept}?scheme={scheme_asked() or ''}"
+    here = f"{path_to('mapping.candidates', number=number, concept=concept)}?scheme={scheme_asked() or ''}"
     if do in MAPPINGS:
         if not iri:
             return again(problem_in(FORM, "", say("mapping.choose")), 409)
@@ -254,7 +255,7 @@ def decide(number: int, concept: int) -> Any:
 
 def mapping_requests(kind: str, concept: int, iri: str) -> list[Request]:
     """Returns the requests for a mapping to a concept elsewhere, which may be known here."""
-    known = the_mirror().by_iri(iri)
+    known = the_replica().by_iri(iri)
     if known is not None:
         return [link_request("link", concept, kind, known)]
     return [{"do": "outside", "iri": iri}, link_request("link", concept, kind, "$1")]
@@ -266,8 +267,12 @@ def next_page(vocabulary: Vocabulary, concept: int) -> str:
     with the_desk().vocabularies.reading():
         left = [it for it in progress_of(vocabulary).by_state(scheme)[LEFT] if it != concept]
     following = next((it for it in left if it > concept), left[0] if left else None)
-    part = f"/c/{following}" if following else ""
-    return f"/mapping/{vocabulary.id}{part}?scheme={scheme or ''}"
+    number = vocabulary.id
+    if following:
+        path = path_to("mapping.candidates", number=number, concept=following)
+    else:
+        path = path_to("mapping.concepts", number=number)
+    return f"{path}?scheme={scheme or ''}"
 
 
 # --- all that have the same label ---
@@ -277,8 +282,8 @@ def pairs_of(vocabulary: Vocabulary) -> list[Pair]:
     """Returns the concepts that are left, each with the one entry of the same label below a common broader term."""
     progress, scheme = progress_of(vocabulary), scheme_asked()
     left = progress.by_state(scheme)[LEFT]
-    finder = Finder(the_mirror(), the_desk().vocabularies, vocabulary.id)
-    found = find_pairs(finder, left, the_mirror().numbers("concept", scheme, True))
+    finder = Finder(the_replica(), the_desk().vocabularies, vocabulary.id)
+    found = find_pairs(finder, left, the_replica().numbers("concept", scheme, True))
     return [it for it in found if it.iri not in progress.rejected(it.concept)]
 
 
@@ -328,7 +333,7 @@ def same_table(number: int) -> Any:
 
 @pages.get("/mapping/<int:number>/changed")
 @role("editor")
-def changed(number: int) -> Any:
+def changed_targets(number: int) -> Any:
     """Lists the mappings whose targets are gone, deprecated, replaced or renamed in the newest dump."""
     return changed_page(vocabulary_of(number), FormState(), 200)
 
@@ -352,12 +357,12 @@ def changed_page(vocabulary: Vocabulary, state: FormState, status: int) -> Any:
 @role("editor")
 def mend(number: int) -> Any:
     """Takes the new name of a target; or maps a concept to what replaces its target, or to nothing."""
-    vocabulary, do, iri = vocabulary_of(number), given("do", ("rename", "follow", "remove")), given("iri")
-    here = f"/mapping/{number}/changed"
+    vocabulary, do, iri = vocabulary_of(number), form_text("do", ("rename", "follow", "remove")), form_text("iri")
+    here = path_to("mapping.changed_targets", number=number)
     if do == "rename":
         the_desk().decisions.accept_names([iri])
         return go(here)
-    kind, concept = given("kind", MAPPINGS), given_number("concept")
+    kind, concept = form_text("kind", MAPPINGS), given_number("concept")
     target = target_of(vocabulary, iri)
     removal = link_request("unlink", concept, kind, target.number)
     if do == "remove":

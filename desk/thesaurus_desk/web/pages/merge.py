@@ -13,13 +13,14 @@ from thesaurus_desk.auth.route_roles import role
 from thesaurus_desk.journal.entries import Request
 from thesaurus_desk.journal.undo import fits
 from thesaurus_desk.store.model import Link, View
-from thesaurus_desk.web.concept_choice import choose, undecided
-from thesaurus_desk.web.context import acts_on, say, tags, the_desk, the_mirror, words
+from thesaurus_desk.web.concept_choice import choose, needs_choice
+from thesaurus_desk.web.context import acts_on, say, tags, the_desk, the_replica, words
 from thesaurus_desk.web.form_submission import problem_in, submit
 from thesaurus_desk.web.forms import FormState, Problem
 from thesaurus_desk.web.journal_text import LINKS
-from thesaurus_desk.web.merge_preview import Merge, foresee_merge
+from thesaurus_desk.web.merge_preview import MergePreview, foresee_merge
 from thesaurus_desk.web.pages.move import live_concept
+from thesaurus_desk.web.paths import concept_path
 from thesaurus_desk.web.refusals import explain, label_of
 from thesaurus_desk.web.value_copies import copies_to, copy_requests
 from thesaurus_desk.web.work_views import work_of
@@ -42,8 +43,8 @@ def merge(number: int) -> Any:
         return merge_page(source, None, FormState(), 200)
     chosen = choose(request.values, scheme=source.scheme, without=number)
     if chosen.number is None:
-        return merge_page(source, None, undecided(CHOICE, request.values, chosen), 409)
-    target = the_mirror().view(chosen.number)
+        return merge_page(source, None, needs_choice(CHOICE, request.values, chosen), 409)
+    target = the_replica().view(chosen.number)
     problem = wrong_target(source, target)
     if target is None or problem:
         return merge_page(source, None, FormState(CHOICE, request.values, [Problem("other", problem)]), 409)
@@ -52,7 +53,7 @@ def merge(number: int) -> Any:
         return again(FormState(), 200)
     if "sure" not in request.form:
         return again(problem_in(FORM, "sure", say("merge.tick")), 409)
-    return submit("merge", merge_requests(source, target), then=f"/c/{target.number}", show=again)
+    return submit("merge", merge_requests(source, target), then=concept_path(target.number), show=again)
 
 
 def wrong_target(source: View, target: View | None) -> str:
@@ -69,7 +70,7 @@ def wrong_target(source: View, target: View | None) -> str:
     elif target.scheme != source.scheme:
         name = "OtherScheme"
     asked = {"do": "merge", "source": source.number, "target": target.number if target else 0}
-    return explain({"no": name}, asked, the_mirror(), words(), LINKS) if name else ""
+    return explain({"no": name}, asked, the_replica(), words(), LINKS) if name else ""
 
 
 def merge_requests(source: View, target: View) -> list[Request]:
@@ -87,7 +88,7 @@ def merge_requests(source: View, target: View) -> list[Request]:
 
 def merge_page(source: View, target: View | None, state: FormState, status: int) -> Any:
     """Returns the page of a merge: the question into which concept, and if there is an answer, what will happen."""
-    foreseen = foresee_merge(the_mirror(), source.number, target.number) if target is not None else None
+    foreseen = foresee_merge(the_replica(), source.number, target.number) if target is not None else None
     seen = the_desk().seen
     page = render_template(
         "merge/page.html",
@@ -102,10 +103,10 @@ def merge_page(source: View, target: View | None, state: FormState, status: int)
         notes=[(place, it) for place, it in enumerate(source.scope) if target is not None and it not in target.scope],
         copies=copies_to(source.number, target.number) if target is not None else [],
         broken=told_break(foreseen),
-        quoted=quoted,
+        quoted=quote,
         candidates=told_candidates(source, target) if target is not None else [],
-        is_final=target is not None and not fits(the_mirror().postings.numbers_at(source.number)),
-        count_records=the_mirror().count_records,
+        is_final=target is not None and not fits(the_replica().postings.numbers_at(source.number)),
+        count_records=the_replica().count_records,
         marks=[seen.mark(it.number, "all") for it in (source, target) if it is not None],
     )
     return page, status
@@ -122,7 +123,7 @@ class Terms:
     lacks_preferred: bool
 
 
-def told_terms(source: View, target: View, plan: Merge) -> list[Terms]:
+def told_terms(source: View, target: View, plan: MergePreview) -> list[Terms]:
     """Returns what becomes of the source's terms, by their languages, the reader's first."""
     rows: dict[str, list[tuple[str, str]]] = {}
     for kind, tag, text in plan.labels:
@@ -135,7 +136,7 @@ def told_terms(source: View, target: View, plan: Merge) -> list[Terms]:
     return [Terms(tag, rows[tag], tag in lacking) for tag in order]
 
 
-def told_links(plan: Merge) -> list[tuple[str, int, str]]:
+def told_links(plan: MergePreview) -> list[tuple[str, int, str]]:
     """Returns the source's links: the kind as seen from it, the other end, and moves, there or between."""
     kinds: Iterable[tuple[str, tuple[Link, ...]]] = (
         ("moves", plan.links),
@@ -164,14 +165,14 @@ def told_candidates(source: View, target: View) -> list[str]:
     return [say("merge.candidate_source" if is_source else "merge.candidate_target", **names)]
 
 
-def told_break(plan: Merge | None) -> str | Markup:
+def told_break(plan: MergePreview | None) -> str | Markup:
     """Returns which rule a merge will break, in words; nothing if it won't."""
     if plan is None or plan.broken is None:
         return ""
     asked = {"do": "merge", "source": plan.source, "target": plan.target}
-    return explain({"no": plan.broken.rule}, asked, the_mirror(), words(), LINKS)
+    return explain({"no": plan.broken.rule}, asked, the_replica(), words(), LINKS)
 
 
-def quoted(text: str, tag: str) -> Markup:
+def quote(text: str, tag: str) -> Markup:
     """Returns a label in quotes, with its language."""
     return label_of(words(), text, tag)

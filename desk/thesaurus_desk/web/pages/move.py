@@ -14,12 +14,13 @@ from thesaurus_desk.journal.edit_conflicts import Conflict, read_mark
 from thesaurus_desk.journal.entries import Request
 from thesaurus_desk.store.model import View
 from thesaurus_desk.store.plan_execution import LONGEST_PLAN
-from thesaurus_desk.web.concept_choice import choose, is_number, undecided
-from thesaurus_desk.web.context import link, say, tags, the_desk, the_mirror
+from thesaurus_desk.web.concept_choice import choose, is_number, needs_choice
+from thesaurus_desk.web.context import link, say, tags, the_desk, the_replica
 from thesaurus_desk.web.form_submission import problem_in, submit
 from thesaurus_desk.web.forms import FormState
 from thesaurus_desk.web.journal_text import tell_conflict
-from thesaurus_desk.web.pages.edit import given, resource
+from thesaurus_desk.web.pages.edit import form_text, resource
+from thesaurus_desk.web.paths import concept_path
 from thesaurus_tools.kinds import BROADER
 
 pages = Blueprint("move", __name__)
@@ -47,12 +48,12 @@ def live_concept(number: int) -> View:
 
 def places_of(view: View) -> list[Place]:
     """Returns the places of a concept in order."""
-    mirror, langs = the_mirror(), tags()
+    replica, langs = the_replica(), tags()
     found = []
-    for above in mirror.ordered(view.broader, langs):
-        its = mirror.view(above)
-        beside = [it for it in mirror.ordered(its.narrower, langs) if it != view.number] if its is not None else []
-        found.append(Place(above, mirror.link_types(view.number, above), tuple(beside)))
+    for above in replica.ordered(view.broader, langs):
+        its = replica.view(above)
+        beside = [it for it in replica.ordered(its.narrower, langs) if it != view.number] if its is not None else []
+        found.append(Place(above, replica.link_types(view.number, above), tuple(beside)))
     return found
 
 
@@ -66,24 +67,24 @@ def move(number: int) -> Any:
         return move_page(view, FormState(), 200)
     chosen = choose(request.form, scheme=view.scheme, without=number)
     if chosen.number is None:
-        return again(undecided(FORM, request.form, chosen), 409)
+        return again(needs_choice(FORM, request.form, chosen), 409)
     if "from" not in request.form:
         # (a page whose place is gone has none chosen)
         return again(problem_in(FORM, "", say("move.choose")), 409)
-    old, target = given("from"), chosen.number
+    old, target = form_text("from"), chosen.number
     if old and (not is_number(old) or int(old) not in view.broader):
         return again(problem_in(FORM, "", say("move.gone")), 409)
     moved = [number, *(int(it) for it in request.form.getlist("with") if is_number(it) and it != str(number))]
-    left = [it for it in moved if old and not the_mirror().link_types(it, int(old))]
+    left = [it for it in moved if old and not the_replica().link_types(it, int(old))]
     if left:
         problem = problem_in(FORM, "", say("move.left", concept=link(left[0]), above=link(int(old))))
         return again(problem, 409, left[:1])
-    requests = move_requests(moved, int(old) if old else None, target, given("kind", (AS_BEFORE, *BROADER)))
-    if not requests or old == str(target) and given("kind") == AS_BEFORE:
+    requests = move_requests(moved, int(old) if old else None, target, form_text("kind", (AS_BEFORE, *BROADER)))
+    if not requests or old == str(target) and form_text("kind") == AS_BEFORE:
         return again(problem_in(FORM, "other", say("move.same", concept=link(number), above=link(target))), 409)
     if len(requests) > LONGEST_PLAN:
         return again(problem_in(FORM, "", say("move.too_many", n=len(moved), most=LONGEST_PLAN // 2)), 409)
-    return submit("move", requests, then=f"/c/{number}", show=again)
+    return submit("move", requests, then=concept_path(number), show=again)
 
 
 def show_again(view: View, state: FormState, status: int, others: Sequence[int] = ()) -> Any:
@@ -105,9 +106,9 @@ def move_requests(moved: list[int], old: int | None, target: int, kind: str) -> 
     links: list[Request] = []
     unlinks: list[Request] = []
     for number in moved:
-        before = the_mirror().link_types(number, old) if old else ()
+        before = the_replica().link_types(number, old) if old else ()
         wanted = (before or otherwise) if kind == AS_BEFORE else (kind,)
-        there = the_mirror().link_types(number, target)
+        there = the_replica().link_types(number, target)
         links += [{"do": "link", "kind": it, "a": number, "b": target} for it in wanted if it not in there]
         gone = [it for it in before if target != old or it not in wanted]
         unlinks += [{"do": "unlink", "kind": it, "a": number, "b": old} for it in gone]
@@ -124,7 +125,7 @@ def move_page(view: View, state: FormState, status: int) -> Any:
         view=view,
         n=view.number,
         places=places_of(view),
-        below=len(the_mirror().below(view.number)) - 1,
+        below=len(the_replica().below(view.number)) - 1,
         seen=the_desk().seen.mark(view.number, "links"),
         kinds=[(AS_BEFORE, say("move.as_before")), *kinds] if view.broader else kinds,
         most=LONGEST_PLAN // 2,

@@ -10,11 +10,12 @@ from flask import Blueprint, abort, redirect, render_template, request
 from thesaurus_desk.auth.route_roles import role
 from thesaurus_desk.web.context import say, the_desk, the_fields
 from thesaurus_desk.web.forms import FormState, Problem
-from thesaurus_desk.web.pages.edit import given
+from thesaurus_desk.web.pages.edit import form_text
+from thesaurus_desk.web.paths import path_to
 from thesaurus_desk.words import LANGUAGES
 from thesaurus_tools.export_values import DATES, OF_VOCABULARY
 from thesaurus_tools.fields import IRI, KINDS, LINE, NAME, OWNERS, WITH_PAGES, WORK, Field, tidy
-from thesaurus_tools.rdf_writing import split_property
+from thesaurus_tools.rdf_writer import split_property
 
 pages = Blueprint("own_fields", __name__)
 
@@ -55,7 +56,7 @@ def make_field() -> Any:
     if problems := problems_of(made, the_fields()):
         return fields_page(FormState(FORM, request.form, problems), 409)
     the_desk().values.write_field(replace(made, place=len(own_fields())))
-    return redirect(f"/fields#field-{made.name}", 303)
+    return redirect(f"{path_to('own_fields.fields')}#field-{made.name}", 303)
 
 
 def own_fields() -> list[Field]:
@@ -65,15 +66,15 @@ def own_fields() -> list[Field]:
 
 def field_of_form() -> Field:
     """Returns the field that a form asks for."""
-    kind = given("kind", KINDS)
+    kind = form_text("kind", KINDS)
     return Field(
-        given("name"),
+        form_text("name"),
         kind,
         tuple(it for it in OWNERS if it in request.form.getlist("owner")),
         "many" in request.form,
         "language" if kind in OF_LANGUAGE else "",
         choices_of_form(kind),
-        property=given("property"),
+        property=form_text("property"),
         is_public="public" in request.form,
         names=names_of_form(),
         is_own=True,
@@ -125,7 +126,7 @@ def is_property(iri: str, others: Mapping[str, Field]) -> bool:
 def change_field(name: str) -> Any:
     """Changes a field that the office has made, moves it among those, retires it, or takes it up again; shows a field
     to everybody, or to users alone."""
-    field, do = the_fields().get(name), given("do", ("save", "up", "down", "retire", "resume", "publish", "hide"))
+    field, do = the_fields().get(name), form_text("do", ("save", "up", "down", "retire", "resume", "publish", "hide"))
     is_fixed = name in WITH_PAGES or do not in ("publish", "hide") and field is not None and not field.is_own
     if field is None or is_fixed or do == "publish" and name in WORK:
         abort(404)
@@ -133,23 +134,23 @@ def change_field(name: str) -> Any:
         return save_field(field)
     if do in ("up", "down"):
         move_field(field, -1 if do == "up" else 1)
-        return redirect(f"/fields#field-{name}", 303)
+        return redirect(f"{path_to('own_fields.fields')}#field-{name}", 303)
     if do in ("retire", "resume"):
         field = replace(field, is_retired=do == "retire")
     else:
         field = replace(field, is_public=do == "publish")
     the_desk().values.write_field(field)
-    return redirect(f"/fields#field-{name}", 303)
+    return redirect(f"{path_to('own_fields.fields')}#field-{name}", 303)
 
 
 def save_field(field: Field) -> Any:
     """Gives a field the names, the choices and the property of the form."""
-    changed = replace(field, names=names_of_form(), choices=choices_of_form(field.kind), property=given("property"))
+    changed = replace(field, names=names_of_form(), choices=choices_of_form(field.kind), property=form_text("property"))
     others = {name: it for name, it in the_fields().items() if name != field.name}
     if problems := problems_of(changed, others):
         return fields_page(FormState(CHANGING, request.form, problems), 409, field)
     the_desk().values.write_field(changed)
-    return redirect(f"/fields#field-{field.name}", 303)
+    return redirect(f"{path_to('own_fields.fields')}#field-{field.name}", 303)
 
 
 def move_field(field: Field, by: int) -> None:

@@ -11,10 +11,10 @@ from thesaurus_desk.clock import span_of
 from thesaurus_desk.interfaces import Source
 from thesaurus_desk.journal import Plan
 from thesaurus_desk.journal.edit_conflicts import OF_FIELD, PARTS, Content, differences
-from thesaurus_desk.journal.past import PastReplica, after_plan, unknown_after
+from thesaurus_desk.journal.past_replica import PastReplica, after_plan, unknown_after
 from thesaurus_desk.store.model import View
 from thesaurus_desk.store.replica import Replica
-from thesaurus_desk.web.context import page_number, shown_as, tags, the_desk, the_mirror
+from thesaurus_desk.web.context import page_number, shown_as, tags, the_desk, the_replica
 from thesaurus_desk.web.field_views import shown_fields
 from thesaurus_desk.web.journal_text import tell_changes, tell_plans
 from thesaurus_desk.web.pages.concept import terms_by_tag
@@ -32,7 +32,7 @@ PAGE = 500
 
 
 @dataclass(frozen=True)
-class Asked:
+class Days:
     """What an address asks for: a day with the last plan on it, and another one to compare it with."""
 
     day: str = ""
@@ -48,18 +48,18 @@ class Asked:
         return {"day": self.day, "until": self.until}
 
 
-def asked_days() -> Asked:
+def asked_days() -> Days:
     """Returns which days are asked for; of two the first one comes first."""
     days = [it for it in (request.args.get(name, "").strip() for name in ("day", "until")) if span_of(it)]
     days.sort(key=lambda it: span_of(it) or ("", ""))
     ends = [span[1] for it in days if (span := span_of(it))]
     if not ends:
-        return Asked()
+        return Days()
     begin = the_desk().journal.one("SELECT at FROM plan ORDER BY id LIMIT 1")
     if begin is None or ends[0] <= begin["at"]:
-        return Asked(days[0], first=begin["at"] if begin else "-")
+        return Days(days[0], first=begin["at"] if begin else "-")
     plans = [the_desk().journal.last_plan_at(it) for it in ends]
-    return Asked(days[0], plans[0], days[1], plans[1]) if days[1:] else Asked(days[0], plans[0])
+    return Days(days[0], plans[0], days[1], plans[1]) if days[1:] else Days(days[0], plans[0])
 
 
 # --- a resource ---
@@ -68,7 +68,7 @@ def asked_days() -> Asked:
 @pages.get("/c/<int:number>/past")
 def of_resource(number: int) -> Any:
     """Shows a resource as it was on a day, and what has changed of it until another one."""
-    if the_mirror().kind(number) is None:
+    if the_replica().kind(number) is None:
         abort(404)
     asked = asked_days()
     if asked.plan is None:
@@ -80,7 +80,7 @@ def of_resource(number: int) -> Any:
 
 
 def resource_page(
-    number: int, asked: Asked, past: PastReplica | None = None, changes: Any = None, unknown: list[Plan] | None = None
+    number: int, asked: Days, past: PastReplica | None = None, changes: Any = None, unknown: list[Plan] | None = None
 ) -> str:
     """Returns the page of a resource on a day; without the past only the form that asks for the day."""
     view = past.view(number) if past else None
@@ -105,13 +105,13 @@ def links_of(view: View) -> Iterator[tuple[str, list[int]]]:
     for kind, other in (*view.untyped, *view.typed, *view.mappings):
         found.setdefault(f"kinds.link.{kind}", []).append(other)
     found |= {f"concept.{it}": list(getattr(view, it)) for it in ("related", "collections", "members")}
-    yield from ((key, the_mirror().ordered(its, tags())) for key, its in found.items() if its)
+    yield from ((key, the_replica().ordered(its, tags())) for key, its in found.items() if its)
 
 
 def changes_until(number: int, plan: int, last: int | None) -> Any:
     """Returns what of a resource differs after two plans, in words."""
     old, new = (content_after(number, it) for it in (plan, last))
-    return tell_changes(differences(filled(old, new), filled(new, old)))
+    return tell_changes(differences(fill_parts(old, new), fill_parts(new, old)))
 
 
 def content_after(number: int, plan: int | None) -> Content:
@@ -128,7 +128,7 @@ def content_after(number: int, plan: int | None) -> Content:
         return content
 
 
-def filled(content: Content, other: Content) -> Content:
+def fill_parts(content: Content, other: Content) -> Content:
     """Returns a content with all parts that another one has, too."""
     empty = {name: () if isinstance(it, tuple) else it for name, it in other.items()}
     return {**empty, **content}
@@ -150,7 +150,7 @@ def of_tree() -> Any:
         return tree_page(past, asked, unknown)
 
 
-def tree_page(past: Replica, asked: Asked, unknown: list[Plan]) -> str:
+def tree_page(past: Replica, asked: Days, unknown: list[Plan]) -> str:
     """Returns the page of the tree on a day; `at` opens the branches down to a concept, and its own."""
     schemes, at = past.ordered(past.numbers("scheme"), tags()), number_of("at")
     found = past.view(at) if at else None
@@ -173,7 +173,7 @@ def tree_page(past: Replica, asked: Asked, unknown: list[Plan]) -> str:
     )
 
 
-def comparison(asked: Asked, unknown: list[Plan]) -> Any:
+def comparison(asked: Days, unknown: list[Plan]) -> Any:
     """Returns what has changed between two days, as a page or a table."""
     found = sorted(changes_between(asked.plan or 0, asked.last or 0), key=lambda it: KINDS.index(it.kind))
     if is_table_asked():
@@ -195,9 +195,9 @@ def changes_between(plan: int, last: int) -> list[Change]:
     """Returns what of the vocabulary differs after two plans, as everybody sees it."""
     query = "SELECT DISTINCT number FROM concern WHERE plan > ? AND plan <= ? AND changes = 1 AND number > 0"
     rows = the_desk().journal.all(f"{query} ORDER BY number", plan, last)
-    numbers = [it["number"] for it in rows if the_mirror().kind(it["number"]) not in (None, "outside")]
+    numbers = [it["number"] for it in rows if the_replica().kind(it["number"]) not in (None, "outside")]
     old, new = (stated_after(it, numbers) for it in (plan, last))
-    iris = ((the_mirror().iri(it), old.get(it, {}), new.get(it, {})) for it in numbers if it in old or it in new)
+    iris = ((the_replica().iri(it), old.get(it, {}), new.get(it, {})) for it in numbers if it in old or it in new)
     return [change for iri, before, after in iris for change in changes_of(iri, before, after)]
 
 

@@ -9,11 +9,12 @@ from urllib.parse import urlencode
 from flask import Blueprint, abort, render_template, request
 
 from thesaurus_desk.auth.route_roles import public
-from thesaurus_desk.store.arrays import below, parts_of
+from thesaurus_desk.store.arrays import numbers_below, parts_of
 from thesaurus_desk.store.model import View
 from thesaurus_desk.store.text_keys import has_language, sort_key
-from thesaurus_desk.web.context import begin_moment, person, tags, the_mirror, the_places, words
+from thesaurus_desk.web.context import begin_transaction, person, tags, the_replica, the_places, words
 from thesaurus_desk.web.field_views import public_values
+from thesaurus_desk.web.paths import path_to
 from thesaurus_desk.web.spreadsheets import is_table_asked, sheet
 from thesaurus_desk.web.work_views import work_of
 from thesaurus_desk.words import LANGUAGES, Words
@@ -21,7 +22,7 @@ from thesaurus_desk.words.field_words import field_name
 from thesaurus_tools.arrays import node_label
 from thesaurus_tools.fields import DESCRIPTION
 
-pages = Blueprint("printing", __name__)
+pages = Blueprint("print_displays", __name__)
 FORMS = ("alphabetical", "hierarchical")
 # The name of a kind of notes, and a note.
 Note = tuple[str, str]
@@ -63,7 +64,7 @@ def texts(view: View, kind: str, lang: str) -> tuple[str, ...]:
 
 def term_in(number: int, lang: str) -> str:
     """Returns the preferred term in a language; without one, the best term with its language."""
-    tag, text = the_mirror().term(number, [lang, *tags()])
+    tag, text = the_replica().term(number, [lang, *tags()])
     return text if not tag or has_language(tag, lang) else f"{text} [{tag}]"
 
 
@@ -86,7 +87,7 @@ def notes_of(view: View, lang: str) -> tuple[Note, ...]:
     return (*((its("print.SN"), text) for text in texts(view, "scope", lang)), *found)
 
 
-def described(view: View, lang: str) -> list[Note]:
+def describe(view: View, lang: str) -> list[Note]:
     """Returns what describes a scheme, as its title and its licence; nothing of another resource."""
     its = words_in(lang)
     found = public_values(view.number, lang) if view.kind == "scheme" else ()
@@ -101,7 +102,7 @@ def notations_of(number: int, lang: str) -> tuple[str, ...]:
 def entries_of(numbers: list[int], lang: str) -> list[Entry]:
     """Returns the entries of concepts, those of terms that aren't used among them, in alphabetical order."""
     return sorted(
-        (entry for number in numbers if (view := the_mirror().view(number)) for entry in entries_of_view(view, lang)),
+        (entry for number in numbers if (view := the_replica().view(number)) for entry in entries_of_view(view, lang)),
         key=lambda it: (sort_key(it.text), it.number),
     )
 
@@ -118,16 +119,16 @@ def entries_of_view(view: View, lang: str) -> Iterator[Entry]:
 
 def narrower_of(view: View, lang: str) -> Iterator[tuple[str, tuple[str, ...]]]:
     """Yields the narrower terms of a concept: those of each array after its node label, and the others."""
-    mirror, places, order = the_mirror(), the_places(), [lang, *tags()]
+    replica, places, order = the_replica(), the_places(), [lang, *tags()]
     others = list[int]()
-    waiting = below(mirror, places, view.number, order)[::-1]
+    waiting = numbers_below(replica, places, view.number, order)[::-1]
     while waiting:
         number = waiting.pop()
-        if mirror.kind(number) != "collection":
+        if replica.kind(number) != "collection":
             others.append(number)
             continue
-        parts = parts_of(mirror, places, number, order)
-        inner = [it for it in parts if mirror.kind(it) == "collection"]
+        parts = parts_of(replica, places, number, order)
+        inner = [it for it in parts if replica.kind(it) == "collection"]
         yield "array", (node_label(term_in(number, lang)),)
         yield "NT", tuple(term_in(it, lang) for it in parts if it not in inner)
         waiting += inner[::-1]
@@ -136,12 +137,12 @@ def narrower_of(view: View, lang: str) -> Iterator[tuple[str, tuple[str, ...]]]:
 
 def lines_of(tops: list[int], lang: str) -> list[Line]:
     """Returns the lines of a tree; a concept with several broader ones has those below it once."""
-    mirror, places, lines, seen = the_mirror(), the_places(), list[Line](), set[int]()
+    replica, places, lines, seen = the_replica(), the_places(), list[Line](), set[int]()
     order = [lang, *tags()]
-    waiting = [(0, it) for it in reversed(mirror.ordered(tops, order))]
+    waiting = [(0, it) for it in reversed(replica.ordered(tops, order))]
     while waiting:
         depth, number = waiting.pop()
-        view = mirror.view(number)
+        view = replica.view(number)
         if view is None:
             continue
         is_array, text = view.kind == "collection", term_in(number, lang)
@@ -151,7 +152,7 @@ def lines_of(tops: list[int], lang: str) -> list[Line]:
         lines.append(Line(depth, number, shown, notes, notations, is_elsewhere, is_array))
         if number not in seen:
             seen.add(number)
-            under = (parts_of if is_array else below)(mirror, places, number, order)
+            under = (parts_of if is_array else numbers_below)(replica, places, number, order)
             waiting += [(depth + 1, it) for it in reversed(under)]
     return lines
 
@@ -160,12 +161,12 @@ def lines_of(tops: list[int], lang: str) -> list[Line]:
 @public
 def display(number: int) -> Any:
     """Shows a display of a scheme, or of a concept and all below it; candidates only to a user who asks for them."""
-    has_candidates = bool(person().name) and the_mirror().hides
+    has_candidates = bool(person().name) and the_replica().hides
     with_candidates = has_candidates and ("candidates" in request.args or work_of(number).is_hidden)
     if has_candidates and not with_candidates:
-        begin_moment(is_public=True)
-    mirror = the_mirror()
-    view = mirror.view(number)
+        begin_transaction(is_public=True)
+    replica = the_replica()
+    view = replica.view(number)
     if view is None or view.kind not in ("scheme", "concept"):
         abort(404)
     form = request.args.get("form", "hierarchical")
@@ -173,26 +174,26 @@ def display(number: int) -> Any:
     if form not in FORMS or lang not in tags():
         abort(404)
     is_scheme = view.kind == "scheme"
-    numbers = mirror.numbers("concept", number, True) if is_scheme else sorted(mirror.below(number))
+    numbers = replica.numbers("concept", number, True) if is_scheme else sorted(replica.below(number))
     if is_table_asked():
-        found = mirror.ordered(numbers, [lang, *tags()])
+        found = replica.ordered(numbers, [lang, *tags()])
         if has_candidates:
             # (what comes back says what a concept is to have, also of a candidate above it)
-            begin_moment(is_public=False)
+            begin_transaction(is_public=False)
         return sheet("display", found)
     is_alphabetical = form == "alphabetical"
     return render_template(
         "print/page.html",
-        described=described(view, lang),
+        described=describe(view, lang),
         view=view,
         form=form,
         lang=lang,
         count=len(numbers),
         entries=entries_of(numbers, lang) if is_alphabetical else [],
-        lines=[] if is_alphabetical else lines_of(mirror.tops(number) if is_scheme else [number], lang),
+        lines=[] if is_alphabetical else lines_of(replica.tops(number) if is_scheme else [number], lang),
         short=words_in(lang),
         has_notes="notes" in request.args,
         has_candidates=has_candidates,
         with_candidates=with_candidates,
-        path=f"/print/{number}?{urlencode({'form': form, 'in': lang})}",
+        path=f"{path_to('print_displays.display', number=number)}?{urlencode({'form': form, 'in': lang})}",
     )

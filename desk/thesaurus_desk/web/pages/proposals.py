@@ -9,7 +9,7 @@ from typing import Any
 from flask import Blueprint, abort, render_template, request
 
 from thesaurus_desk.auth.route_roles import role
-from thesaurus_desk.journal.entries import Accepted, Plan, Request
+from thesaurus_desk.journal.entries import Acceptance, Plan, Request
 from thesaurus_desk.journal.proposals import LONGEST_TEXT, Proposal, Proposals
 from thesaurus_desk.journal.rights import as_candidates
 from thesaurus_desk.journal.values import member_of, source_of
@@ -23,14 +23,15 @@ from thesaurus_desk.web.context import (
     tags,
     the_desk,
     the_fields,
-    the_mirror,
+    the_replica,
     the_rights,
     words,
 )
 from thesaurus_desk.web.forms import FormState, Problem
 from thesaurus_desk.web.journal_text import LINKS, tell_outcome, tell_plans, tell_step
-from thesaurus_desk.web.pages.edit import given
+from thesaurus_desk.web.pages.edit import form_text
 from thesaurus_desk.web.pages.search import number_of
+from thesaurus_desk.web.paths import concept_path, path_to
 from thesaurus_desk.web.proposal_forms import (
     FORM,
     KINDS,
@@ -74,7 +75,9 @@ def proposals() -> Any:
     chosen = state if state in (*STATES, OWN) else "open"
     which_state, user = (None, person().name) if chosen == OWN else (chosen, None)
     found = the_proposals().find(state=which_state, user=user, before=number_of("before"), most=PAGE + 1)
-    further = f"/proposals?state={chosen}&before={found[PAGE - 1].id}" if len(found) > PAGE else ""
+    further = (
+        f"{path_to('proposals.proposals')}?state={chosen}&before={found[PAGE - 1].id}" if len(found) > PAGE else ""
+    )
     unread = the_proposals().unread(person().name, PAGE)
     page = render_template(
         "proposals/list.html",
@@ -110,7 +113,7 @@ def tell_proposal(proposal: Proposal) -> list[Any]:
     plan = the_desk().journal.plan(proposal.plan) if proposal.plan else None
     if plan is not None and plan.state == "done":
         return [tell_step(it) for it in plan.steps]
-    return [sentence_of(it, None, the_mirror(), words(), LINKS) for it in proposal.requests]
+    return [sentence_of(it, None, the_replica(), words(), LINKS) for it in proposal.requests]
 
 
 @pages.get("/proposals/<int:number>")
@@ -171,7 +174,7 @@ def propose_page(state: FormState, status: int, alike: Sequence[int] = ()) -> An
     """Returns the form for a proposal."""
     number = concept_of_request()
     kinds = kinds_about(number)
-    schemes = the_mirror().ordered(the_mirror().numbers("scheme"), tags())
+    schemes = the_replica().ordered(the_replica().numbers("scheme"), tags())
     scheme = scheme_of(number) if number else None
     asked = {**asked_value_of(number), **{it: request.args[it][:LONGEST_TEXT] for it in ASKED if it in request.args}}
     about = {"asked": asked, "number": number, "scheme": scheme, "kinds": kinds, "schemes": schemes, "alike": alike}
@@ -200,7 +203,7 @@ def asked_value_of(number: int | None) -> dict[str, str]:
 def propose() -> Any:
     """Adds a proposal, unless the desk knows that it would be refused."""
     number, kind = concept_of_request(), request.form.get("kind", "")
-    is_about_one = number is not None or is_number(given("concept"))
+    is_about_one = number is not None or is_number(form_text("concept"))
     field = proposed_field(kind)
     if kind not in KINDS and field is None or not is_about_one and kind not in OF_NO_CONCEPT:
         abort(400)
@@ -208,8 +211,8 @@ def propose() -> Any:
     if asked.wrong is not None:
         return propose_page(asked.wrong, 409, asked.alike)
     action = f"proposals.kind.{kind if field is None else 'value'}"
-    made = the_proposals().propose(person().name, action, asked.requests, given("reason"), number)
-    return go(f"/proposals/{made}")
+    made = the_proposals().propose(person().name, action, asked.requests, form_text("reason"), number)
+    return go(path_to("proposals.show_proposal", number=made))
 
 
 # --- deciding ---
@@ -232,32 +235,32 @@ def accept_now(proposal: Proposal) -> Any:
     """Performs a proposal that is open, and shows what came of it."""
     number = proposal.id
     if proposal.state != "open":
-        return go(f"/proposals/{number}")
+        return go(path_to("proposals.show_proposal", number=number))
     word = request.form.get("word", "").strip()
     if len(word) > LONGEST_TEXT:
-        return refused(number, "accept", "word", too_long(word))
+        return refusal_answer(number, "accept", "word", too_long(word))
     if any(it.id > last_seen() for it in changes_since(proposal)):
-        return refused(number, "accept", "", say("proposals.look_first"))
+        return refusal_answer(number, "accept", "", say("proposals.look_first"))
     requests = accepted_requests(proposal)
     if not requests:
         the_proposals().decide(number, "accepted", person().name, word)
-        return go(f"/proposals/{number}")
+        return go(path_to("proposals.show_proposal", number=number))
     if why := the_rights().refusal(requests, person().role):
-        return refused(number, "accept", "", say(why))
-    accepted = Accepted(number, proposal.user, word)
+        return refusal_answer(number, "accept", "", say(why))
+    accepted = Acceptance(number, proposal.user, word)
     outcome = the_desk().perform(person().name, "accept", requests, accepted=accepted)
     if not outcome.is_done:
-        return refused(number, "accept", "", tell_outcome(outcome))
-    return go(f"/proposals/{number}", outcome.plan)
+        return refusal_answer(number, "accept", "", tell_outcome(outcome))
+    return go(path_to("proposals.show_proposal", number=number), outcome.plan)
 
 
 def last_seen() -> int:
     """Returns the last plan that the author of the form has seen; 0 if the form doesn't say it."""
-    text = given("last")
+    text = form_text("last")
     return int(text) if is_number(text) else 0
 
 
-def refused(number: int, form: str, field: str, text: str) -> Any:
+def refusal_answer(number: int, form: str, field: str, text: str) -> Any:
     """Returns the page of a proposal with what is wrong in a field of a form."""
     return proposal_page(number, FormState(form, request.form, [Problem(field, text)]), 409)
 
@@ -294,12 +297,12 @@ def decline(number: int) -> Any:
     word = request.form.get("word", "").strip()
     if not word or len(word) > LONGEST_TEXT:
         problem = too_long(word) if word else say("proposals.no_word")
-        return refused(number, "decline", "word", problem)
+        return refusal_answer(number, "decline", "word", problem)
     with the_desk().alone() as is_free:
         if not is_free:
             return busy_page(number, "decline")
         the_proposals().decide(number, "declined", person().name, word)
-    return go(f"/proposals/{number}")
+    return go(path_to("proposals.show_proposal", number=number))
 
 
 @pages.post("/proposals/<int:number>/withdraw")
@@ -312,12 +315,12 @@ def withdraw(number: int) -> Any:
         if not is_free:
             return busy_page(number, "withdraw")
         the_proposals().decide(number, "withdrawn", person().name)
-    return go(f"/proposals/{number}")
+    return go(path_to("proposals.show_proposal", number=number))
 
 
 def busy_page(number: int, form: str) -> Any:
     """Returns the page of a proposal that isn't decided, since something else took too long."""
-    return refused(number, form, "", say("refusals.Busy.text"))
+    return refusal_answer(number, form, "", say("refusals.Busy.text"))
 
 
 # --- comments ---
@@ -327,14 +330,14 @@ def busy_page(number: int, form: str) -> Any:
 @role("reader")
 def comment(number: int) -> Any:
     """Adds a comment at a resource."""
-    if the_mirror().kind(number) is None:
+    if the_replica().kind(number) is None:
         abort(404)
     text = request.form.get("text", "").strip()
     if len(text) > LONGEST_TEXT:
         abort(413)
     if text:
         the_proposals().comment(person().name, number, text)
-    return go(f"/c/{number}#comments")
+    return go(f"{concept_path(number)}#comments")
 
 
 @pages.post("/c/<int:number>/comments/<int:which>/remove")
@@ -347,4 +350,4 @@ def remove_comment(number: int, which: int) -> Any:
     if found.user != person().name and not person().may("head"):
         abort(403)
     the_proposals().remove_comment(which, person().name)
-    return go(f"/c/{number}#comments")
+    return go(f"{concept_path(number)}#comments")

@@ -10,12 +10,13 @@ from flask import Blueprint, abort, render_template, request
 from thesaurus_desk.auth.route_roles import role
 from thesaurus_desk.journal.entries import Request
 from thesaurus_desk.store.model import Posting
-from thesaurus_desk.web.concept_choice import choose, undecided, unknown_term
-from thesaurus_desk.web.context import link, own_path, say, the_desk, the_mirror
+from thesaurus_desk.web.concept_choice import choose, needs_choice, unknown_term
+from thesaurus_desk.web.context import link, own_path, say, the_desk, the_replica
 from thesaurus_desk.web.form_submission import problem_in, submit
 from thesaurus_desk.web.forms import FormState
-from thesaurus_desk.web.journal_text import ToldPlan, tell_plan
-from thesaurus_desk.web.pages.edit import given, given_number, resource, show_again
+from thesaurus_desk.web.journal_text import PlanText, tell_plan
+from thesaurus_desk.web.pages.edit import form_text, given_number, resource, show_again
+from thesaurus_desk.web.paths import concept_path, path_to
 from thesaurus_desk.web.posting_keys import new_key
 from thesaurus_desk.web.record_forms import catalogue_link, post, withdrawal
 from thesaurus_desk.web.record_views import concepts_of, records_found
@@ -35,9 +36,13 @@ HIDDEN = ("record", "key")
 def add_record(number: int) -> Any:
     """Indexes a record with a concept."""
     resource(number)
-    record = given("record")
-    requests, check = [post(record, number, given("key"))], partial(known_indexing, "post", "record", record, number)
-    return submit("post", requests, then=f"/c/{number}#at-post", show=partial(show_again, number), check=check)
+    record = form_text("record")
+    requests, check = [post(record, number, form_text("key"))], partial(
+        known_indexing, "post", "record", record, number
+    )
+    return submit(
+        "post", requests, then=f"{concept_path(number)}#at-post", show=partial(show_again, number), check=check
+    )
 
 
 @pages.post("/c/<int:number>/postings/withdraw")
@@ -46,7 +51,7 @@ def withdraw_record(number: int) -> Any:
     """Withdraws a posting of a concept."""
     resource(number)
     requests = [withdrawal(given_number("posting"))]
-    return submit("withdraw", requests, then=f"/c/{number}#records", show=partial(show_again, number))
+    return submit("withdraw", requests, then=f"{concept_path(number)}#records", show=partial(show_again, number))
 
 
 def known_indexing(form: str, field: str, record: str, concept: int) -> FormState | None:
@@ -58,8 +63,8 @@ def known_indexing(form: str, field: str, record: str, concept: int) -> FormStat
 
 def is_indexed(record: str, concept: int) -> bool:
     """Whether a record is indexed with a concept, or with the one that replaces it."""
-    final = the_mirror().final(concept)
-    return any(it.place == final and not it.is_withdrawn for it in the_mirror().postings.of_record(record))
+    final = the_replica().final(concept)
+    return any(it.place == final and not it.is_withdrawn for it in the_replica().postings.of_record(record))
 
 
 # --- of a record ---
@@ -79,7 +84,7 @@ def record() -> Any:
 
 def record_page(name: str, state: FormState, status: int) -> Any:
     """Returns the page of a record."""
-    postings = the_mirror().postings.of_record(name)
+    postings = the_replica().postings.of_record(name)
     standing = [it for it in postings if not it.is_withdrawn]
     withdrawn = [it for it in postings if it.is_withdrawn]
     page = render_template(
@@ -99,19 +104,19 @@ def record_page(name: str, state: FormState, status: int) -> Any:
 
 def page_of_record(name: str) -> str:
     """Returns the path of the page of a record."""
-    return f"/record?{urlencode({'name': name})}"
+    return f"{path_to('records.record')}?{urlencode({'name': name})}"
 
 
 @pages.post("/record/add")
 @role("indexer")
 def add_concept() -> Any:
     """Indexes a record with another concept."""
-    name = given("record")
+    name = form_text("record")
     again = partial(record_page, name)
     chosen = choose(request.form)
     if chosen.number is None:
-        return again(undecided("add", request.form, chosen), 409)
-    requests, check = [post(name, chosen.number, given("key"))], partial(
+        return again(needs_choice("add", request.form, chosen), 409)
+    requests, check = [post(name, chosen.number, form_text("key"))], partial(
         known_indexing, "add", "other", name, chosen.number
     )
     return submit("post", requests, then=page_of_record(name), show=again, check=check, hidden=HIDDEN)
@@ -123,11 +128,11 @@ def reindex() -> Any:
     """Indexes a record with another concept in place of one: posted first, then withdrawn, as one plan."""
     posting = posting_of_form()
     again = partial(record_page, posting.record)
-    chosen, form = choose(request.form), given("form")
+    chosen, form = choose(request.form), form_text("form")
     if chosen.number is None:
-        return again(undecided(form, request.form, chosen), 409)
+        return again(needs_choice(form, request.form, chosen), 409)
     check = partial(known_indexing, form, "other", posting.record, chosen.number)
-    requests = [post(posting.record, chosen.number, given("key")), withdrawal(posting.number)]
+    requests = [post(posting.record, chosen.number, form_text("key")), withdrawal(posting.number)]
     return submit("reindex", requests, then=page_of_record(posting.record), show=again, check=check, hidden=HIDDEN)
 
 
@@ -142,7 +147,7 @@ def withdraw() -> Any:
 
 def posting_of_form() -> Posting:
     """Returns the posting that a form names."""
-    posting = the_mirror().postings.get(given_number("posting"))
+    posting = the_replica().postings.get(given_number("posting"))
     if posting is None:
         abort(404)
     return posting
@@ -158,13 +163,13 @@ def reindex_requests(posting: Posting, concept: int) -> list[Request]:
 @pages.get("/posting/<int:number>")
 def show_posting(number: int) -> Any:
     """Shows a posting with its moves."""
-    posting = the_mirror().postings.get(number)
+    posting = the_replica().postings.get(number)
     if posting is None:
         abort(404)
     return render_template("record/posting.html", it=posting, plan_of_move=plan_of_move)
 
 
-def plan_of_move(source: int, target: int) -> ToldPlan | None:
+def plan_of_move(source: int, target: int) -> PlanText | None:
     """Returns in the reader's words the plan that moved records from one concept to another, if the journal has it."""
     plan = the_desk().history.plan_that_moved(source, target)
     return tell_plan(plan, number=source) if plan else None

@@ -19,15 +19,16 @@ from thesaurus_desk.journal.releases import NameTaken, Release
 from thesaurus_desk.store.plan_outcome import Outcome
 from thesaurus_desk.store.release_export import make_release
 from thesaurus_desk.web.context import field_words, go, link, page_number, person, say, tags, the_desk, the_fields
-from thesaurus_desk.web.context import the_mirror
+from thesaurus_desk.web.context import the_replica
 from thesaurus_desk.web.form_submission import refused_form
 from thesaurus_desk.web.forms import FormState, Problem
-from thesaurus_desk.web.pages.edit import given
+from thesaurus_desk.web.pages.edit import form_text
+from thesaurus_desk.web.paths import path_to
 from thesaurus_desk.web.spreadsheets import is_table_asked, sheet_of_rows
-from thesaurus_tools.kinds import LABEL_PROPERTIES, LINK_PROPERTIES
 from thesaurus_tools.fields import LONGEST, tidy
+from thesaurus_tools.kinds import LABEL_PROPERTIES, LINK_PROPERTIES
 from thesaurus_tools.ntriples import SKOS, Literal, Node, parse_ntriples
-from thesaurus_tools.rdf_writing import WRITERS
+from thesaurus_tools.rdf_writer import WRITERS
 from thesaurus_tools.release_changes import KINDS, Change, changes_of, gather, properties_of_subjects
 
 pages = Blueprint("releases", __name__)
@@ -79,7 +80,7 @@ def releases_page(state: FormState, status: int = 200) -> Any:
 @role("head")
 def new_release() -> Any:
     """Freezes what everybody sees now."""
-    name, day, note = given("name"), given("day"), tidy(request.form.get("note", ""), "text")
+    name, day, note = form_text("name"), form_text("day"), tidy(request.form.get("note", ""), "text")
     wrong = {
         "name": not NAME.fullmatch(name),
         "day": not is_day(day),
@@ -91,7 +92,7 @@ def new_release() -> Any:
     last = the_desk().releases.last()
     if not problems and last and the_desk().releases.is_as_released(last) and "sure" not in request.form:
         problems = [Problem("sure", say("releases.wrong.same", name=last.name))]
-    if not the_mirror().numbers("scheme"):
+    if not the_replica().numbers("scheme"):
         problems = [Problem("", say("releases.wrong.empty"))]
     if problems:
         return releases_page(FormState(FORM, request.form, problems), 409)
@@ -101,14 +102,14 @@ def new_release() -> Any:
         return releases_page(
             FormState(FORM, request.form, [Problem("name", say("releases.wrong.taken", name=name))]), 409
         )
-    return released(outcome, name)
+    return page_of_release(outcome, name)
 
 
-def released(outcome: Outcome, name: str) -> Any:
+def page_of_release(outcome: Outcome, name: str) -> Any:
     """Returns what follows a release: its page, or the form again."""
     if not outcome.is_done:
         return releases_page(refused_form(outcome), 409)
-    return go(f"/releases/{name}", outcome.plan)
+    return go(path_to("releases.release", name=name), outcome.plan)
 
 
 def is_day(text: str) -> bool:
@@ -128,7 +129,7 @@ def release(name: str) -> Any:
     """Shows a release, and what has changed since the one before."""
     found = the_desk().releases.find(name) or abort(404)
     changes = the_desk().releases.changes(found)
-    return changes_page(found, the_desk().releases.before(found), changes, f"/releases/{name}")
+    return changes_page(found, the_desk().releases.before(found), changes, path_to("releases.release", name=name))
 
 
 @pages.get("/releases/present")
@@ -136,7 +137,7 @@ def release(name: str) -> Any:
 def present() -> Any:
     """Shows what has changed since the last release."""
     last = the_desk().releases.last() or abort(404)
-    return changes_page(None, last, present_changes(last), "/releases/present")
+    return changes_page(None, last, present_changes(last), path_to("releases.present"))
 
 
 def changes_page(release: Release | None, before: Release | None, changes: list[Change] | None, path: str) -> Any:
@@ -168,18 +169,18 @@ def counts_of(changes: Iterable[Change]) -> list[tuple[str, int]]:
 def present_changes(last: Release) -> list[Change]:
     """Returns what has changed since a release: of the resources that plans since have changed."""
     desk, source = the_desk(), the_source()
-    mirror = source.mirror()
-    numbers = [it for it in desk.releases.changed_since(last) if mirror.kind(it) != "outside"]
+    replica = source.replica()
+    numbers = [it for it in desk.releases.changed_since(last) if replica.kind(it) != "outside"]
     before = properties_of_subjects(
-        desk.releases.text(last).decode().split("\n")[:-1], {mirror.iri(it) for it in numbers}
+        desk.releases.text(last).decode().split("\n")[:-1], {replica.iri(it) for it in numbers}
     )
-    pairs = ((mirror.iri(it), gather(source.triples(it))) for it in numbers)
+    pairs = ((replica.iri(it), gather(source.triples(it))) for it in numbers)
     return [change for iri, now in pairs for change in changes_of(iri, before.get(iri, {}), now)]
 
 
 def row_of(change: Change) -> Row:
     """Returns a change as a page shows it."""
-    number = the_mirror().by_iri(change.subject)
+    number = the_replica().by_iri(change.subject)
     joined = (Markup(", ").join(map(shown_node, nodes)) for nodes in (change.before, change.after))
     return Row(change.kind, number, change.subject, what_changed(change.property), *joined)
 
@@ -188,7 +189,7 @@ def shown_node(node: Node) -> Markup:
     """Returns a value or a resource as a page shows it."""
     if isinstance(node, Literal):
         return Markup('<span lang="{}" dir="auto">{}</span>').format(node.tag, node.text)
-    number = the_mirror().by_iri(node)
+    number = the_replica().by_iri(node)
     return link(number) if number is not None else Markup('<span dir="ltr">{}</span>').format(node)
 
 
@@ -213,10 +214,10 @@ def table_rows(changes: Iterable[Change]) -> Iterator[tuple[object, ...]]:
     """Yields the rows of a table of changes, the headings first."""
     columns = (*("change", "number", "address", "term", "what", "before", "after"),)
     yield tuple(say(f"releases.column.{it}") for it in columns)
-    mirror = the_mirror()
+    replica = the_replica()
     for it in changes:
-        number = mirror.by_iri(it.subject)
-        term = mirror.term(number, tags())[1] if number is not None else ""
+        number = replica.by_iri(it.subject)
+        term = replica.term(number, tags())[1] if number is not None else ""
         texts = (" | ".join(map(plain_node, nodes)) for nodes in (it.before, it.after))
         yield say(f"releases.kind.{it.kind}"), number or "", it.subject, term, what_changed(it.property), *texts
 
@@ -225,8 +226,8 @@ def plain_node(node: Node) -> str:
     """Returns a value or a resource as a table has it."""
     if isinstance(node, Literal):
         return f"{node.text} ({node.tag})" if node.tag else node.text
-    number = the_mirror().by_iri(node)
-    return the_mirror().term(number, tags())[1] if number is not None else str(node)
+    number = the_replica().by_iri(node)
+    return the_replica().term(number, tags())[1] if number is not None else str(node)
 
 
 # --- downloads ---
@@ -249,7 +250,7 @@ def download(name: str, ending: str) -> Response:
         data = the_desk().releases.text(found)
         if form == "ntriples":
             return [data.decode()]
-        return WRITERS[form](parse_ntriples(data, name), the_mirror().base)
+        return WRITERS[form](parse_ntriples(data, name), the_replica().base)
 
     response = whole.response((found.digest, ending), make, f"{MEDIA[form]}; charset=utf-8")
     response.headers["Content-Disposition"] = f'attachment; filename="{found.name}.{ending}"'

@@ -10,9 +10,10 @@ from thesaurus_desk.auth.route_roles import role
 from thesaurus_desk.importing.replacements import HEADING, REPLACE, Replacement
 from thesaurus_desk.importing.tables import TableRun
 from thesaurus_desk.web.concept_choice import is_number
-from thesaurus_desk.web.context import field_words, say, tags, term, the_desk, the_fields, the_mirror
+from thesaurus_desk.web.context import field_words, say, tags, term, the_desk, the_fields, the_replica
 from thesaurus_desk.web.form_submission import problem_in
 from thesaurus_desk.web.forms import FormState
+from thesaurus_desk.web.paths import path_to
 from thesaurus_desk.web.table_pages import show_preview
 from thesaurus_tools.fields import text_fields
 from thesaurus_tools.kinds import LABEL_KINDS
@@ -55,7 +56,7 @@ def preview_replacement() -> Any:
         return replace_page(problem_in(FORM, "find", say("replace.none", text=find)), 409)
     run = TableRun(say("replace.name", old=find, new=new), list(HEADING), [], rows, options_of_form())
     fields = [(name, value) for name, value in request.form.items(multi=True) if name not in ("token", "form")]
-    run.asked = {"back": f"/replace?{urlencode(fields)}"}
+    run.asked = {"back": f"{path_to('replacement.ask_replacement')}?{urlencode(fields)}"}
     return show_preview(run)
 
 
@@ -73,7 +74,7 @@ def all_places() -> list[tuple[str, str]]:
 
 def replace_page(state: FormState, status: int) -> Any:
     """Returns the form."""
-    schemes = [(it, term(it)) for it in the_mirror().ordered(the_mirror().numbers("scheme"), tags())]
+    schemes = [(it, term(it)) for it in the_replica().ordered(the_replica().numbers("scheme"), tags())]
     page = render_template(
         "replace.html",
         form=FORM,

@@ -8,9 +8,10 @@ from flask import Blueprint, redirect, render_template, request
 from thesaurus_desk.auth.roles import role_named
 from thesaurus_desk.auth.route_roles import role
 from thesaurus_desk.journal.rights import ACTS, CHOICES, Rights, write_rights
-from thesaurus_desk.web.context import say, tags, the_desk, the_entry, the_mirror, the_rights
+from thesaurus_desk.web.context import say, tags, the_desk, the_entry, the_replica, the_rights
 from thesaurus_desk.web.forms import FormState
-from thesaurus_desk.web.pages.edit import given
+from thesaurus_desk.web.pages.edit import form_text
+from thesaurus_desk.web.paths import path_to
 
 pages = Blueprint("rights", __name__)
 WORDS = tuple(it.word for it in CHOICES)
@@ -34,8 +35,8 @@ def rights() -> Any:
 
 def schemes() -> list[int]:
     """Returns the thesauri of which it may be settled who changes them."""
-    mirror = the_mirror()
-    return mirror.ordered(mirror.numbers("scheme"), tags()) if editors() else []
+    replica = the_replica()
+    return replica.ordered(replica.numbers("scheme"), tags()) if editors() else []
 
 
 def editors() -> list[str]:
@@ -51,12 +52,12 @@ def settle_rights() -> Any:
     known = frozenset(editors())
     people = {it: known & {*request.form.getlist(f"people-{it}")} for it in schemes() if f"some-{it}" in request.form}
     settled = Rights(
-        role_named(given("approver", WORDS)),
+        role_named(form_text("approver", WORDS)),
         "proposed" in request.form,
-        {act: role_named(given(act, WORDS)) for act in ACTS},
+        {act: role_named(form_text(act, WORDS)) for act in ACTS},
         "records" in request.form,
         people,
         "visitors" in request.form,
     )
     write_rights(the_desk().journal, settled)
-    return redirect("/rights?saved", 303)
+    return redirect(f"{path_to('rights.rights')}?saved", 303)

@@ -7,6 +7,7 @@ from flask import Blueprint, redirect, render_template
 
 from thesaurus_desk.auth.route_roles import role
 from thesaurus_desk.web.context import person, the_desk
+from thesaurus_desk.web.paths import path_to
 
 pages = Blueprint("runs", __name__)
 # After how many seconds a page without script asks again.
@@ -19,8 +20,8 @@ def run_page(name: str) -> Any:
     """Shows how far a table is; leads to what came of it; or says that it was cut short, or why it failed."""
     run = the_desk().runs.find(person().name, name)
     if run is None:
-        return redirect("/bring-in", 303)
+        return redirect(path_to("imports.bring_in"), 303)
     if run.state == "done":
-        return redirect(f"/bring-in/result/{run.result}", 303)
+        return redirect(path_to("imports.result", name=run.result), 303)
     cut = [it for it in the_desk().batches.cut() if it.plan == run.plan] if run.state == "cut" else []
     return render_template("bring_in/run.html", run=run, cut=cut, pace=PACE)

@@ -11,14 +11,15 @@ from flask import Blueprint, jsonify, redirect, render_template, request
 
 from thesaurus_desk.auth.route_roles import public
 from thesaurus_desk.store.model import OPPOSITE, Hit
-from thesaurus_desk.web.context import page_number, person, record_title, say, status_words, tags, term, the_mirror
+from thesaurus_desk.web.context import page_number, person, record_title, say, status_words, tags, term, the_replica
 from thesaurus_desk.web.list_forms import in_other_form
+from thesaurus_desk.web.paths import concept_path, path_to
 from thesaurus_desk.web.record_views import concepts_of, records_found
 from thesaurus_desk.web.value_search import found_values, has_notation
 from thesaurus_tools.entities import entity_address
 from thesaurus_tools.texts import fold
 
-pages = Blueprint("find", __name__)
+pages = Blueprint("search", __name__)
 KINDS = ("concept", "collection", "scheme")
 MOST_SUGGESTED, MOST_FOUND, MOST_RECORDS = 12, 300, 50
 # How many records are suggested after terms.
@@ -32,7 +33,7 @@ OTHER = "…"
 
 
 @dataclass(frozen=True)
-class Found:
+class Result:
     """A resource that was found: the label by which, its best term, and what a reader needs to tell it from others."""
 
     number: int
@@ -53,25 +54,25 @@ class Found:
         return " · ".join(notes)
 
 
-def found_by(hits: Iterable[Hit]) -> list[Found]:
+def found_by(hits: Iterable[Hit]) -> list[Result]:
     """Returns what a page shows of hits. An old code (a hidden label) isn't shown, but the term that it stands for."""
-    mirror, found = the_mirror(), list(hits)
-    above = mirror.above(it.number for it in found)
-    mirror.look_at({*above, *chain.from_iterable(above.values())})
-    return [found_one(it, mirror.ordered(above[it.number], tags())) for it in found]
+    replica, found = the_replica(), list(hits)
+    above = replica.above(it.number for it in found)
+    replica.look_at({*above, *chain.from_iterable(above.values())})
+    return [found_one(it, replica.ordered(above[it.number], tags())) for it in found]
 
 
-def found_one(hit: Hit, broader: Sequence[int]) -> Found:
+def found_one(hit: Hit, broader: Sequence[int]) -> Result:
     """Returns what a page shows of a hit with these broader concepts, the first of which is shown."""
-    mirror, pref = the_mirror(), term(hit.number)
+    replica, pref = the_replica(), term(hit.number)
     is_hidden = hit.kind == "hidden"
-    return Found(
+    return Result(
         hit.number,
         pref if is_hidden else hit.text,
         tags()[0] if is_hidden else hit.tag,
         pref,
-        mirror.kind(hit.number) or "concept",
-        mirror.is_live(hit.number),
+        replica.kind(hit.number) or "concept",
+        replica.is_live(hit.number),
         term(broader[0]) if broader else "",
         hit.is_alike,
     )
@@ -94,7 +95,7 @@ def suggest() -> Any:
     """Returns suggestions for what is typed, as JSON."""
     asked = request.args.get("kinds", "concept")
     kinds = KINDS if asked == "all" else tuple(it for it in asked.split(",") if it in KINDS)
-    found = the_mirror().search(
+    found = the_replica().search(
         query_of(),
         kinds=kinds,
         scheme=number_of("scheme"),
@@ -111,7 +112,7 @@ def suggest() -> Any:
             "tag": it.tag,
             "pref": it.pref,
             "note": " · ".join(filter(None, [it.note, status_words(it.number)])),
-            "href": f"/c/{it.number}",
+            "href": concept_path(it.number),
         }
         for it in found_by(hits)
     ]
@@ -122,7 +123,7 @@ def suggest() -> Any:
 
 def suggested_record(name: str) -> dict[str, object]:
     """Returns a record as a suggestion: by its title, if that is known."""
-    href, title = f"/record?{urlencode({'name': name})}", record_title(name)
+    href, title = f"{path_to('records.record')}?{urlencode({'name': name})}", record_title(name)
     note = " · ".join(filter(None, [say("find.record"), name if title else ""]))
     return {"number": None, "text": title or name, "tag": "", "pref": title or name, "note": note, "href": href}
 
@@ -132,7 +133,7 @@ def suggested_record(name: str) -> dict[str, object]:
 def search() -> Any:
     """Shows what a search finds; leads to the one that it finds by its very name or number."""
     query, lang = query_of(), request.args.get("in", "")
-    hits = the_mirror().search(
+    hits = the_replica().search(
         query,
         kinds=KINDS,
         scheme=number_of("scheme"),
@@ -148,22 +149,22 @@ def search() -> Any:
     if len(whole) == 1 and "all" not in request.args:
         # (the page then leads to what else was found)
         others = f"?{urlencode({'q': query})}" if len(hits) + len(records) + len(matched) > 1 else ""
-        return redirect(f"/c/{whole[0].number}{others}", 303)
+        return redirect(concept_path(whole[0].number) + others, 303)
     coded = has_notation(query)
     if coded is not None and not whole and "all" not in request.args:
-        return redirect(f"/c/{coded}", 303)
+        return redirect(concept_path(coded), 303)
     values = found_values(query)
     within = found_within(query, hits)
     exact = [it for it in records if it == query]
     if exact and not hits and not values and "all" not in request.args:
-        return redirect(f"/record?{urlencode({'name': query})}", 303)
+        return redirect(f"{path_to('records.record')}?{urlencode({'name': query})}", 303)
     nothing = not (hits or records or values or matched or within)
     is_only_match = len(matched) == 1 and matched[0].is_whole and not (hits or records or values)
     if is_only_match and "all" not in request.args:
-        return redirect(f"/c/{matched[0].concept}", 303)
-    keyed = the_mirror().postings.with_key(query) if person().name and nothing else None
+        return redirect(concept_path(matched[0].concept), 303)
+    keyed = the_replica().postings.with_key(query) if person().name and nothing else None
     if keyed is not None and "all" not in request.args:
-        return redirect(f"/posting/{keyed.number}", 303)
+        return redirect(path_to("records.show_posting", number=keyed.number), 303)
     return render_template(
         "search.html",
         query=query,
@@ -174,7 +175,7 @@ def search() -> Any:
         within=within,
         chosen=lang,
         is_full=len(hits) >= MOST_FOUND,
-        path=f"/search?q={quote(query)}&all=1",
+        path=f"{path_to('search.search')}?q={quote(query)}&all=1",
     )
 
 
@@ -184,7 +185,7 @@ def found_within(query: str, hits: list[Hit]) -> list[Hit]:
         return []
     # (those that were found by forgiving an error may be among them)
     known = {it.number for it in hits if not it.is_alike}
-    return [it for it in the_mirror().containing(query, MOST_WITHIN) if it.number not in known]
+    return [it for it in the_replica().containing(query, MOST_WITHIN) if it.number not in known]
 
 
 @dataclass(frozen=True)
@@ -199,21 +200,21 @@ class Match:
 
 def matches_of(query: str) -> list[Match]:
     """Returns the concepts that have a match with an address: the whole one, or what it ends with."""
-    mirror, address = the_mirror(), entity_address(query)
+    replica, address = the_replica(), entity_address(query)
     found = []
-    for number in mirror.outside_named(address):
-        view = mirror.view(number)
+    for number in replica.outside_named(address):
+        view = replica.view(number)
         if view is None:
             continue
         for kind, concept in view.mappings:
-            if mirror.is_live(concept):
+            if replica.is_live(concept):
                 found.append(Match(concept, OPPOSITE.get(kind, kind), view.iri, view.iri == address))
     return found[:MOST_FOUND]
 
 
 def is_named(hit: Hit, query: str) -> bool:
     """Whether a query names a resource: by a term, an old code, the number or the address."""
-    names = {str(hit.number), f"#{hit.number}", the_mirror().iri(hit.number)}
+    names = {str(hit.number), f"#{hit.number}", the_replica().iri(hit.number)}
     return not hit.is_alike and (fold(hit.text) == fold(query) or query in names)
 
 
@@ -226,40 +227,40 @@ def az() -> Any:
     letter = chosen if chosen in letters else next(iter(letters), "")
     firsts, page, lang = letters.get(letter, []), page_number(), tags()[0]
     other = in_other_form(
-        "a-z", lambda: dict.fromkeys(hit.number for it in firsts for hit in the_mirror().beginning(it, lang))
+        "a-z", lambda: dict.fromkeys(hit.number for it in firsts for hit in the_replica().beginning(it, lang))
     )
     if other is not None:
         return other
     hits = hits_on_page(firsts, page)
-    the_mirror().look_at(it.number for it in hits)
+    the_replica().look_at(it.number for it in hits)
     return render_template(
         "az.html",
         letters=letters,
         letter=letter,
         hits=hits,
-        count=sum(the_mirror().count_beginning(it, lang) for it in firsts),
+        count=sum(the_replica().count_beginning(it, lang) for it in firsts),
         size=LETTER_PAGE,
-        path=f"/az?letter={quote(letter)}",
+        path=f"{path_to('search.az')}?letter={quote(letter)}",
     )
 
 
 def hits_on_page(firsts: Sequence[str], page: int) -> list[Hit]:
     """Returns a page of the terms in the reader's language that begin with some letters."""
-    mirror, lang = the_mirror(), tags()[0]
+    replica, lang = the_replica(), tags()[0]
     if len(firsts) == 1:
-        return mirror.page_beginning(firsts[0], lang, page, LETTER_PAGE)
-    hits = [hit for it in firsts for hit in mirror.beginning(it, lang)]
+        return replica.page_beginning(firsts[0], lang, page, LETTER_PAGE)
+    hits = [hit for it in firsts for hit in replica.beginning(it, lang)]
     return hits[page * LETTER_PAGE : (page + 1) * LETTER_PAGE]
 
 
 def letters_here() -> dict[str, list[str]]:
     """Returns the first letters of terms in the reader's language, and the characters that each stands for."""
-    mirror, lang = the_mirror(), tags()[0]
+    replica, lang = the_replica(), tags()[0]
 
     def make() -> dict[str, list[str]]:
-        there = [it for it in mirror.letters() if mirror.has_beginning(it, lang)]
+        there = [it for it in replica.letters() if replica.has_beginning(it, lang)]
         found = {it: [it] for it in there if it.isalnum()}
         others = [it for it in there if not it.isalnum()]
         return {**found, OTHER: others} if others else found
 
-    return mirror.once(("letters", lang), make, ("labels", "resources"))
+    return replica.once(("letters", lang), make, ("labels", "resources"))

@@ -10,11 +10,11 @@ from thesaurus_desk.auth.route_roles import role
 from thesaurus_desk.journal.entries import Request
 from thesaurus_desk.journal.rights import as_candidates
 from thesaurus_desk.store.model import View
-from thesaurus_desk.web.context import acts_on, say, the_desk, the_mirror
+from thesaurus_desk.web.context import acts_on, say, the_desk, the_replica
 from thesaurus_desk.web.form_submission import submit
 from thesaurus_desk.web.forms import FormState
-from thesaurus_desk.web.pages.create import page_of_made
-from thesaurus_desk.web.pages.edit import given, given_tag, given_text
+from thesaurus_desk.web.pages.create import page_of_new
+from thesaurus_desk.web.pages.edit import form_text, given_tag, given_text
 from thesaurus_desk.web.pages.move import live_concept
 from thesaurus_desk.web.tick_lists import is_looking, ticks_of
 from thesaurus_desk.web.value_copies import copies_to_new, copy_requests
@@ -39,7 +39,7 @@ def split(number: int) -> Any:
         return again(FormState(), 200)
     if is_looking():
         return again(FormState(FORM, request.form), 200)
-    return submit("split", split_requests(view), then=page_of_made, show=again)
+    return submit("split", split_requests(view), then=page_of_new, show=again)
 
 
 def split_requests(view: View) -> list[Request]:
@@ -49,11 +49,11 @@ def split_requests(view: View) -> list[Request]:
     requests: list[Request] = [
         {"do": "split", "source": view.number, "tag": given_tag(), "text": given_text(), "postings": ticked}
     ]
-    place = given("place", PLACES)
+    place = form_text("place", PLACES)
     if place == "below":
-        requests.append({"do": "link", "kind": given("kind", BROADER), "a": "$1", "b": view.number})
+        requests.append({"do": "link", "kind": form_text("kind", BROADER), "a": "$1", "b": view.number})
     elif place == "beside":
-        kinds = [(above, it) for above in view.broader for it in the_mirror().link_types(view.number, above)]
+        kinds = [(above, it) for above in view.broader for it in the_replica().link_types(view.number, above)]
         requests += [{"do": "link", "kind": it, "a": "$1", "b": above} for above, it in kinds]
     if "related" in request.form and place != "below":
         requests.append({"do": "link", "kind": "related", "a": "$1", "b": view.number})

@@ -8,8 +8,8 @@ from typing import Any
 from flask import Blueprint, abort, render_template
 
 from thesaurus_desk.auth.route_roles import public
-from thesaurus_desk.store.arrays import below, parts_of
-from thesaurus_desk.web.context import say, tags, the_mirror, the_places
+from thesaurus_desk.store.arrays import numbers_below, parts_of
+from thesaurus_desk.web.context import say, tags, the_replica, the_places
 from thesaurus_desk.web.pages.search import number_of
 from thesaurus_desk.web.spreadsheets import is_table_asked, sheet
 
@@ -20,28 +20,28 @@ MOST_TOPS, FEW_MEMBERS = 1000, 24
 
 def children(number: int) -> list[int]:
     """Returns what is below a concept, or in an array, in order."""
-    mirror, places = the_mirror(), the_places()
-    return (parts_of if is_array(number) else below)(mirror, places, number, tags())
+    replica, places = the_replica(), the_places()
+    return (parts_of if is_array(number) else numbers_below)(replica, places, number, tags())
 
 
 def is_array(number: int) -> bool:
     """Whether what is below a concept is an array."""
-    return the_mirror().kind(number) == "collection"
+    return the_replica().kind(number) == "collection"
 
 
 def type_words(low: int, high: int | None) -> str:
     """Returns the types of the link from a concept to the one above it, in words."""
-    kinds = the_mirror().branch(high).get(low, ()) if high else ()
+    kinds = the_replica().branch(high).get(low, ()) if high else ()
     return ", ".join(say(f"kinds.type.{it}") for it in kinds if it != "broader")
 
 
 def count_children(number: int) -> int:
     """Returns the number of narrower concepts, with those in arrays that aren't narrower."""
-    mirror, arrays = the_mirror(), the_places().arrays.get(number)
+    replica, arrays = the_replica(), the_places().arrays.get(number)
     if not arrays:
-        return mirror.count_narrower(number)
-    members = (it for array in arrays if (view := mirror.view(array)) for it in view.members)
-    return len({*mirror.branch(number), *members})
+        return replica.count_narrower(number)
+    members = (it for array in arrays if (view := replica.view(array)) for it in view.members)
+    return len({*replica.branch(number), *members})
 
 
 @dataclass(frozen=True)
@@ -88,17 +88,17 @@ def branches(numbers: Sequence[int], above: int | None, path: Sequence[int] = ()
 @public
 def tree() -> Any:
     """Shows the top terms of a scheme; `at` opens the branches down to a concept, and its own."""
-    mirror = the_mirror()
-    schemes = mirror.ordered(mirror.numbers("scheme"), tags())
+    replica = the_replica()
+    schemes = replica.ordered(replica.numbers("scheme"), tags())
     at = number_of("at")
-    found = mirror.view(at) if at else None
+    found = replica.view(at) if at else None
     is_there = found is not None and found.kind == "concept"
     scheme = found.scheme if found and is_there else number_of("scheme")
     if scheme not in schemes:
         # (the first that has most)
-        scheme = max(schemes, key=mirror.count_concepts) if schemes else None
-    tops = mirror.ordered(mirror.tops(scheme), tags()) if scheme else []
-    path = mirror.path_up(at, tags()) if at and is_there else tops if len(tops) == 1 else []
+        scheme = max(schemes, key=replica.count_concepts) if schemes else None
+    tops = replica.ordered(replica.tops(scheme), tags()) if scheme else []
+    path = replica.path_up(at, tags()) if at and is_there else tops if len(tops) == 1 else []
     if is_table_asked():
         return sheet("tree", whole_tree(tops))
     shown = tops[:MOST_TOPS]
@@ -129,7 +129,7 @@ def whole_tree(tops: list[int]) -> list[int]:
 @public
 def branch(number: int) -> Any:
     """Returns the narrower concepts of a concept, for the script that opens a branch."""
-    if the_mirror().kind(number) != "concept":
+    if the_replica().kind(number) != "concept":
         abort(404)
     return render_template("branch.html", rows=branches(children(number), number), at=None)
 
@@ -138,11 +138,11 @@ def branch(number: int) -> Any:
 @public
 def schemes() -> Any:
     """Shows the schemes with the numbers of their concepts."""
-    mirror = the_mirror()
-    numbers = mirror.ordered(mirror.numbers("scheme"), tags())
+    replica = the_replica()
+    numbers = replica.ordered(replica.numbers("scheme"), tags())
     if is_table_asked():
         return sheet("thesauri", numbers)
-    counts = {it: (mirror.count_concepts(it), len(mirror.tops(it))) for it in numbers}
+    counts = {it: (replica.count_concepts(it), len(replica.tops(it))) for it in numbers}
     return render_template("schemes.html", numbers=numbers, counts=counts)
 
 
@@ -150,10 +150,10 @@ def schemes() -> Any:
 @public
 def collections() -> Any:
     """Shows the collections with their first members."""
-    mirror = the_mirror()
-    numbers = mirror.ordered(mirror.numbers("collection"), tags())
+    replica = the_replica()
+    numbers = replica.ordered(replica.numbers("collection"), tags())
     if is_table_asked():
         return sheet("collections", numbers, ("members",))
-    views = {it: view for it in numbers if (view := mirror.view(it))}
-    members = {it: mirror.ordered(view.members, tags()) for it, view in views.items()}
+    views = {it: view for it in numbers if (view := replica.view(it))}
+    members = {it: replica.ordered(view.members, tags()) for it, view in views.items()}
     return render_template("collections.html", numbers=numbers, members=members, few=FEW_MEMBERS)

@@ -14,9 +14,10 @@ from thesaurus_desk.auth.route_roles import role
 from thesaurus_desk.web.context import go, say, the_desk, the_entry, words
 from thesaurus_desk.web.forms import FormState, Problem
 from thesaurus_desk.web.pages.account import accounts_here
+from thesaurus_desk.web.paths import path_to
 from thesaurus_desk.web.watch_mail import ADDRESS
 
-pages = Blueprint("people", __name__)
+pages = Blueprint("users", __name__)
 ROLES = tuple(it.word for it in Role if it > Role.VISITOR)
 # What can be done with a user: the name of the form, and the words that say that it was done.
 DONE = {
@@ -139,4 +140,4 @@ def change_users() -> Any:
         form = "add" if action == "add" else f"user-{name}"
         field = "password" if "password" in error.key else "name" if action == "add" else ""
         return users_page(FormState(form, request.form, [Problem(field, say(error.key, **error.values))]), 422)
-    return go(f"/users?{urlencode({'was': action, 'name': name})}")
+    return go(f"{path_to('users.users')}?{urlencode({'was': action, 'name': name})}")

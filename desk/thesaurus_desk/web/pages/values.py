@@ -9,11 +9,12 @@ from flask import Blueprint, abort, redirect, render_template, request
 from thesaurus_desk.auth.route_roles import role
 from thesaurus_desk.journal.entries import Request
 from thesaurus_desk.journal.values import member_of, set_request
-from thesaurus_desk.web.context import page_number, say, tags, the_desk, the_fields, the_mirror
+from thesaurus_desk.web.context import page_number, say, tags, the_desk, the_fields, the_replica
 from thesaurus_desk.web.form_submission import problem_in, submit
 from thesaurus_desk.web.forms import FormState
-from thesaurus_desk.web.pages.edit import given, resource, show_again
 from thesaurus_desk.web.list_forms import in_other_form
+from thesaurus_desk.web.pages.edit import form_text, resource, show_again
+from thesaurus_desk.web.paths import concept_path, path_to
 from thesaurus_desk.web.value_copies import copies_from_ended, copy_requests, values_of
 from thesaurus_tools.fields import DATES, OFFERED, WITH_PAGES, Field, text_fields, tidy
 
@@ -27,16 +28,16 @@ PAGE = 500
 def change_value(number: int) -> Any:
     """Adds a value, changes one or removes one: `old` is empty where one is added, `new` where one is removed."""
     view = resource(number)
-    field = the_fields().get(given("field"))
+    field = the_fields().get(form_text("field"))
     if field is None or view.kind not in field.owners or field.name in WITH_PAGES:
         abort(400)
     requests = requests_of(number, field)
-    then = f"/c/{number}#at-{given('form')}"
+    then = f"{concept_path(number)}#at-{form_text('form')}"
     if not requests:
         return redirect(then, 303)
     again = partial(show_again, number)
-    if field.tag == "language" and not given("tag") and given("new"):
-        return again(problem_in(given("form"), "tag", say("refusals.BadTag.text", tag="")), 409)
+    if field.tag == "language" and not form_text("tag") and form_text("new"):
+        return again(problem_in(form_text("form"), "tag", say("refusals.BadTag.text", tag="")), 409)
     return submit("value", requests, then=then, show=again)
 
 
@@ -44,7 +45,7 @@ def requests_of(owner: int, field: Field) -> list[Request]:
     """Returns the requests that a form of a field asks for; none, if it changes nothing."""
     old, new = (tidy(request.form.get(it, ""), field.kind) for it in ("old", "new"))
     old_source, source = (tidy(request.form.get(it, ""), "line") if field.has_source else "" for it in SOURCES)
-    old_tag, tag = given("old_tag"), given("tag").lower() if field.tag == "language" else given("tag")
+    old_tag, tag = form_text("old_tag"), form_text("tag").lower() if field.tag == "language" else form_text("tag")
     before = (old_tag, member_of(old, old_source)) if old else None
     after = (tag, member_of(new, source)) if new else None
     if before == after:
@@ -65,13 +66,13 @@ SOURCES = ("old_source", "source")
 @role("reader")
 def field_list(name: str) -> Any:
     """Shows the concepts that have a value of a field, or those that have none."""
-    field, mirror = the_fields().get(name), the_mirror()
+    field, replica = the_fields().get(name), the_replica()
     if field is None or "concept" not in field.owners:
         abort(404)
     is_without = request.args.get("have") != "yes"
     owners = the_desk().values.owners(name)
-    found = [it for it in mirror.numbers("concept", None, True) if (it in owners) != is_without]
-    numbers = mirror.ordered(found, tags())
+    found = [it for it in replica.numbers("concept", None, True) if (it in owners) != is_without]
+    numbers = replica.ordered(found, tags())
     if (other := in_other_form(name, lambda: numbers)) is not None:
         return other
     page = page_number()
@@ -82,7 +83,7 @@ def field_list(name: str) -> Any:
         count=len(numbers),
         numbers=numbers[page * PAGE : (page + 1) * PAGE],
         size=PAGE,
-        path=f"/lists/field/{name}{'' if is_without else '?have=yes'}",
+        path=path_to("values.field_list", name=name) + ("" if is_without else "?have=yes"),
     )
 
 
@@ -97,7 +98,7 @@ def ended_page(state: FormState, status: int) -> Any:
     """Returns the list, with what each concept has, and the one to which it can be copied."""
     rows = []
     for number in the_desk().history.ended_elsewhere():
-        target = the_mirror().final(number)
+        target = the_replica().final(number)
         rows.append((number, target, copies_from_ended(number, target) if target else [], values_of(number)))
     page = page_number()
     shown = rows[page * PAGE : (page + 1) * PAGE]
@@ -108,14 +109,14 @@ def ended_page(state: FormState, status: int) -> Any:
 @role("editor")
 def copy_values(number: int) -> Any:
     """Copies the values of a concept that has ended to the one that replaces it."""
-    target = the_mirror().final(number)
-    if the_mirror().is_live(number) or not target:
+    target = the_replica().final(number)
+    if the_replica().is_live(number) or not target:
         abort(400)
     copies = copies_from_ended(number, target)
     requests = copy_requests(copies, target, [str(it.value.id) for it in copies])
     if not requests:
-        return redirect("/lists/ended-values", 303)
-    return submit("value", requests, then="/lists/ended-values", show=ended_page)
+        return redirect(path_to("values.ended_list"), 303)
+    return submit("value", requests, then=path_to("values.ended_list"), show=ended_page)
 
 
 @pages.get("/lists/taken-numbers")
@@ -138,20 +139,20 @@ def taken_page(state: FormState, status: int) -> Any:
 def settle_taken(number: int) -> Any:
     """Says that the values of a resource are its own; or removes them, as they are those of another one."""
     resource(number)
-    if given("do", ("keep", "drop")) == "keep":
+    if form_text("do", ("keep", "drop")) == "keep":
         the_desk().values.keep_at(number)
-        return redirect("/lists/taken-numbers", 303)
+        return redirect(path_to("values.taken_list"), 303)
     held = [it for its in the_desk().values.of(number).values() for it in its]
     if not held:
-        return redirect("/lists/taken-numbers", 303)
+        return redirect(path_to("values.taken_list"), 303)
     requests = [set_request(number, it.field, it.tag, old=it.member) for it in held]
-    return submit("value", requests, then="/lists/taken-numbers", show=taken_page)
+    return submit("value", requests, then=path_to("values.taken_list"), show=taken_page)
 
 
 def counts_without() -> dict[str, int]:
     """Returns the number of concepts in use that have no value of a field, for each field; those that are wanted first
     come first."""
-    live, having = the_mirror().count_concepts(), the_desk().values.count_concepts()
+    live, having = the_replica().count_concepts(), the_desk().values.count_concepts()
     fields = [it for it in text_fields(the_fields()).values() if "concept" in it.owners and it.name not in DATES]
     fields.sort(key=lambda it: it.name not in OFFERED)
     return {it.name: live - having.get(it.name, 0) for it in fields if not it.is_retired}

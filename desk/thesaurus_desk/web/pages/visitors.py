@@ -12,6 +12,7 @@ from thesaurus_desk.journal.proposals import LONGEST_TEXT
 from thesaurus_desk.web.context import go, person, say, the_desk, the_entry, visitor_may_propose
 from thesaurus_desk.web.form_submission import problem_in
 from thesaurus_desk.web.forms import FormState
+from thesaurus_desk.web.paths import path_to
 from thesaurus_desk.web.proposal_forms import concept_of_request, too_long
 
 pages = Blueprint("visitors", __name__)
@@ -31,7 +32,7 @@ def the_limits() -> Limits:
 def form_of_visitor() -> Any:
     """Shows a visitor the form for a proposal, or that it was sent."""
     if person().name:
-        return redirect("/propose", 303)
+        return redirect(path_to("proposals.form_to_propose"), 303)
     if not visitor_may_propose():
         abort(404)
     if "sent" in request.args:
@@ -63,7 +64,7 @@ def propose_as_visitor() -> Any:
         return answer
     if not the_desk().visitor_proposals.add(text, concept_of_request()):
         return visitor_page(again(say("visitors.full")), 409)
-    return redirect("/visitor-proposal?sent=1", 303)
+    return redirect(f"{path_to('visitors.form_of_visitor')}?sent=1", 303)
 
 
 @pages.post("/visitor-proposals/<int:number>/take-up")
@@ -71,7 +72,7 @@ def propose_as_visitor() -> Any:
 def take_up(number: int) -> Any:
     """Makes what a visitor proposes a proposal that all users see."""
     made = the_desk().visitor_proposals.take_up(number, person().name, lambda text: f"{say('visitors.of_one')} {text}")
-    return go(f"/proposals/{made}" if made else "/proposals")
+    return go(path_to("proposals.show_proposal", number=made) if made else path_to("proposals.proposals"))
 
 
 @pages.post("/visitor-proposals/<int:number>/discard")
@@ -79,4 +80,4 @@ def take_up(number: int) -> Any:
 def discard(number: int) -> Any:
     """Discards what a visitor proposes."""
     the_desk().visitor_proposals.discard(number, person().name)
-    return go("/proposals")
+    return go(path_to("proposals.proposals"))

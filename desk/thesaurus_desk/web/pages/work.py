@@ -14,7 +14,8 @@ from thesaurus_desk.web.form_submission import problem_in, submit
 from thesaurus_desk.web.list_columns import columns_named
 from thesaurus_desk.web.list_forms import in_other_form
 from thesaurus_desk.web.pages.edit import resource, show_again
-from thesaurus_desk.web.work_views import APPROVED, FORM, LISTS, Work, list_counts, listed, names, work_of
+from thesaurus_desk.web.paths import concept_path
+from thesaurus_desk.web.work_views import APPROVED, FORM, LISTS, Work, list_counts, concepts_of_list, names, work_of
 from thesaurus_tools.fields import OF_WORK, STATUSES, tidy
 
 pages = Blueprint("work", __name__)
@@ -30,7 +31,7 @@ def change_work(number: int) -> Any:
     if resource(number).kind != "concept":
         abort(404)
     sent = work_of_form()
-    before, then = work_of(number), f"/c/{number}"
+    before, then = work_of(number), concept_path(number)
     if sent.person not in ("", before.person, *names()):
         return show_again(number, problem_in(FORM, "person", say("status.unknown_person")), 409)
     requests = work_requests(number, before, sent)
@@ -65,7 +66,7 @@ def work_requests(number: int, before: Work, after: Work) -> list[Request]:
 @role("reader")
 def work_list(which: str) -> Any:
     """Shows the concepts that are in the reader's charge, that are due, or of a status."""
-    numbers = listed(which)
+    numbers = concepts_of_list(which)
     if (other := in_other_form(which, lambda: numbers, usual=WORK_COLUMNS)) is not None:
         return other
     page = page_number()

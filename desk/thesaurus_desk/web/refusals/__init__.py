@@ -52,14 +52,14 @@ def name_of(answer: dict[str, Any]) -> str:
     return str(answer.get("no") or answer.get("bad") or answer.get("fault") or "")
 
 
-def explain(answer: dict[str, Any], request: dict[str, Any], mirror: Replica, words: Words, links_of: Links) -> Markup:
+def explain(answer: dict[str, Any], request: dict[str, Any], replica: Replica, words: Words, links_of: Links) -> Markup:
     """Returns a sentence or two about a refusal, a malformed input or a fault."""
     name = name_of(answer)
     if name in forms.HTTP_NAMES:
         return escape(words("refusals.Http.text", name=name))
     if name not in EXPLAIN:
         return escape(words("refusals.Other.text", name=name))
-    return EXPLAIN[name](Case(name, answer, request, mirror, words, links_of))
+    return EXPLAIN[name](Case(name, answer, request, replica, words, links_of))
 
 
 def explain_state(state: str, words: Words) -> Markup:

@@ -45,7 +45,7 @@ class Case:
     name: str
     answer: dict[str, Any]
     request: dict[str, Any]
-    mirror: Replica
+    replica: Replica
     words: Words
     links: Links
 
@@ -60,7 +60,7 @@ class Case:
 
     def link(self, number: object) -> Markup:
         """Returns a link to a resource; the new concept of a plan, or a number that isn't known, by itself."""
-        if isinstance(number, int) and self.mirror.get(number) is not None:
+        if isinstance(number, int) and self.replica.get(number) is not None:
             return self.links.link(number)
         return escape(self.words("sentences.new_one") if isinstance(number, str) else str(number))
 

@@ -24,17 +24,17 @@ def numbers_of(case: Case) -> list[int]:
 
 
 def explain_unknown_resource(case: Case) -> Markup:
-    missing = [it for it in numbers_of(case) if case.mirror.get(it) is None]
+    missing = [it for it in numbers_of(case) if case.replica.get(it) is None]
     return case.say("text", number=str(next(iter(missing or numbers_of(case)), "?")))
 
 
 def explain_wrong_kind(case: Case) -> Markup:
     iri = case.request.get("iri")
     if case.do == "outside" and iri is not None:
-        number = case.mirror.by_iri(iri)
+        number = case.replica.by_iri(iri)
         return case.say("iri", iri=iri, resource=case.link(number)) if number else case.say("text")
     for name, _ in NAMED:
-        it = case.mirror.get(case.request.get(name, 0))
+        it = case.replica.get(case.request.get(name, 0))
         needed = needed_kind(case, name)
         if it is not None and it.kind != needed and needed != "owner":
             return case.say(needed, resource=case.link(it.number), kind=case.words(f"kinds.resource.{it.kind}"))
@@ -52,10 +52,10 @@ def needed_kind(case: Case, member: str) -> str:
 
 def explain_not_live(case: Case) -> Markup:
     for number in numbers_of(case):
-        it = case.mirror.get(number)
+        it = case.replica.get(number)
         if it is None or it.is_live:
             continue
-        final = case.mirror.final(number)
+        final = case.replica.final(number)
         back = case.links.returned(number)
         if back is not None and back != final:
             return case.say("returned", dead=case.link(number), again=case.link(back), number=str(back))
@@ -73,7 +73,7 @@ def explain_same_resource(case: Case) -> Markup:
 def owner_of(case: Case) -> Resource | None:
     """Returns the resource whose label is meant; none if the plan itself made it."""
     number = case.request.get("owner", case.request.get("source"))
-    return case.mirror.get(number) if isinstance(number, int) else None
+    return case.replica.get(number) if isinstance(number, int) else None
 
 
 def explain_label_there(case: Case) -> Markup:
@@ -118,7 +118,7 @@ def explain_preferred_taken(case: Case) -> Markup:
     request, text = case.request, case.request["text"]
     owner = owner_of(case)
     scheme = request.get("scheme") or (owner.scheme if owner is not None else None)
-    holder = case.mirror.holder(scheme, str(request["tag"]).lower(), text) if scheme else None
+    holder = case.replica.holder(scheme, str(request["tag"]).lower(), text) if scheme else None
     if holder is None:
         return case.say("other", label=case.label(), text=text)
     return case.say("text", holder=case.link(holder), label=case.label(), text=text)

@@ -21,12 +21,12 @@ def ends_of(case: Case) -> tuple[int, int]:
 def broken_way(case: Case) -> tuple[int, ...]:
     """Returns the concepts along which the request would break the rule; none if they aren't found, as where the plan
     makes one of them."""
-    if not all(case.mirror.kind(it) for it in ends_of(case)):
+    if not all(case.replica.kind(it) for it in ends_of(case)):
         return ()
     if case.do == "merge":
-        broken = rule_broken_by_merge(case.mirror, *ends_of(case))
+        broken = rule_broken_by_merge(case.replica, *ends_of(case))
     else:
-        broken = rule_broken_by_link(case.mirror, Link(case.request["kind"], *ends_of(case)))
+        broken = rule_broken_by_link(case.replica, Link(case.request["kind"], *ends_of(case)))
     return broken.way if broken is not None and broken.rule == case.name else ()
 
 
@@ -34,14 +34,14 @@ def pair_before_merge(case: Case, way: tuple[int, ...], kinds: tuple[str, ...]) 
     """Returns the two that break a rule by a link of some kinds: the source for the target, if it is the source's."""
     source, target = ends_of(case)
     low, high = way[0], way[-1]
-    if any(it.kind in kinds for it in case.mirror.links_between(low, high)):
+    if any(it.kind in kinds for it in case.replica.links_between(low, high)):
         return low, high
     return (source if low == target else low), (source if high == target else high)
 
 
 def explain_other_scheme(case: Case) -> Markup:
     a, b = ends_of(case)
-    scheme, other = (getattr(case.mirror.get(it), "scheme", None) for it in (a, b))
+    scheme, other = (getattr(case.replica.get(it), "scheme", None) for it in (a, b))
     ends = {"a": case.link(a), "b": case.link(b), "scheme": case.link(scheme)}
     if case.request.get("kind") in MAPPINGS:
         return case.say("match", **ends)
@@ -58,7 +58,7 @@ def explain_held_link(case: Case) -> Markup:
 def explain_cycle(case: Case) -> Markup:
     a, b = ends_of(case)
     if case.do == "merge":
-        way = tuple(case.mirror.ring(a, b) or case.mirror.ring(b, a))
+        way = tuple(case.replica.ring(a, b) or case.replica.ring(b, a))
         if len(way) < 3:
             return case.say("text")
         ends = {"low": case.link(way[0]), "between": case.link(way[1]), "high": case.link(way[-1])}

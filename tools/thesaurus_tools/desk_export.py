@@ -5,13 +5,13 @@ from __future__ import annotations
 from collections import defaultdict
 from collections.abc import Iterator, Mapping, Sequence
 
-from thesaurus_tools.arrays import numbered, places_of_triples
+from thesaurus_tools.arrays import number_places, places_of_triples
 from thesaurus_tools.export_store import ExportStore, number_of, store_of_export
 from thesaurus_tools.fields import Field, code_of
 from thesaurus_tools.kinds import BROADER
 from thesaurus_tools.note_sources import note_sources
 from thesaurus_tools.ntriples import Iri, Literal, Triple
-from thesaurus_tools.rdf_writing import ISO_THES
+from thesaurus_tools.rdf_writer import ISO_THES
 from thesaurus_tools.store import Link
 from thesaurus_tools.values import FieldValue
 
@@ -26,7 +26,7 @@ def store_with_values(name: str, triples: Sequence[Triple], fields: Mapping[str,
     for it in field_values(triples, fields, store.base):
         found[int(it.owner)].append(it)
     store.fields, store.values_of = fields, found
-    store.places = numbered(places_of_triples(triples), store.base)
+    store.places = number_places(places_of_triples(triples), store.base)
     typed = set(typed_links(triples, store.base))
     store.links |= typed
     store.has_types = bool(typed)

@@ -23,7 +23,7 @@ JOINED = "SELECT DISTINCT node.of, node.kind, form.tag, form.text FROM form JOIN
 
 
 @dataclass
-class Loaded:
+class LoadReport:
     """What a dump had."""
 
     entries: int
@@ -143,7 +143,7 @@ class Load:
         )
 
 
-def load_dump(rows: sqlite3.Connection, name: str, path: Path, file: str = "") -> Loaded:
+def load_dump(rows: sqlite3.Connection, name: str, path: Path, file: str = "") -> LoadReport:
     """Loads a dump as a vocabulary in place of the one of that name; `file` is what it is called. Raises ToolError."""
     bad = BadLines()
     try:
@@ -155,7 +155,7 @@ def load_dump(rows: sqlite3.Connection, name: str, path: Path, file: str = "") -
         load = begin_load(rows, name)
         load.take(read_dump(path, bad))
         load.finish()
-        loaded = Loaded(len(load.seen), count_labels(rows, load.vocabulary), bad)
+        loaded = LoadReport(len(load.seen), count_labels(rows, load.vocabulary), bad)
         if not loaded.labels:
             raise ToolError(f"{path}: it has no labels of concepts ({bad.count} lines can't be read)")
         note_load(rows, load.vocabulary, file or path.name, loaded)
@@ -185,7 +185,7 @@ def count_labels(rows: sqlite3.Connection, vocabulary: int) -> int:
     return int(rows.execute("SELECT count(*) FROM label WHERE vocabulary = ?", (vocabulary,)).fetchone()[0])
 
 
-def note_load(rows: sqlite3.Connection, vocabulary: int, file: str, loaded: Loaded) -> None:
+def note_load(rows: sqlite3.Connection, vocabulary: int, file: str, loaded: LoadReport) -> None:
     """Notes what a dump had, and which of its lines can't be read."""
     at = datetime.now(UTC).isoformat(timespec="milliseconds").replace("+00:00", "Z")
     rows.execute(

@@ -13,14 +13,14 @@ from types import FrameType
 CONNECTING = {"urllib.Request": 0, "socket.connect": 1, "socket.getaddrinfo": 0}
 
 
-class TooMuch(Exception):
+class BoundReached(Exception):
     """A parser takes more time than it may."""
 
 
-class Watch:
+class OpenGuard:
     """What a parser may open: one file, and those of Python itself."""
 
-    current: Watch | None = None
+    current: OpenGuard | None = None
     is_set = False
 
     def __init__(self, path: Path):
@@ -43,27 +43,27 @@ class Watch:
 
 def hear(event: str, args: tuple) -> None:
     """Passes an event of Python's audit to the watch that there is."""
-    if Watch.current:
-        Watch.current.hear(event, args)
+    if OpenGuard.current:
+        OpenGuard.current.hear(event, args)
 
 
 @contextlib.contextmanager
-def watched(path: Path) -> Iterator[Watch]:
+def guard_opens(path: Path) -> Iterator[OpenGuard]:
     """Has a parser open nothing but a file until the end of the block. Yields what notes the first refusal."""
-    if not Watch.is_set:
+    if not OpenGuard.is_set:
         # (there is no way to take a hook of the audit away)
         sys.addaudithook(hear)
-        Watch.is_set = True
-    Watch.current = Watch(path)
+        OpenGuard.is_set = True
+    OpenGuard.current = OpenGuard(path)
     try:
-        yield Watch.current
+        yield OpenGuard.current
     finally:
-        Watch.current = None
+        OpenGuard.current = None
 
 
 @contextlib.contextmanager
-def limited(seconds: float, memory: int) -> Iterator[None]:
-    """Raises TooMuch in the block after these seconds of a processor, and MemoryError at these bytes more of memory."""
+def limit_run(seconds: float, memory: int) -> Iterator[None]:
+    """Raises BoundReached in a block after these seconds of a processor, MemoryError at these bytes more of memory."""
     try:
         import resource
     except ImportError:  # (Windows has no such bounds)
@@ -71,7 +71,7 @@ def limited(seconds: float, memory: int) -> Iterator[None]:
         return
 
     def stop(number: int, frame: FrameType | None) -> None:
-        raise TooMuch
+        raise BoundReached
 
     size = int(Path("/proc/self/statm").read_text(encoding="ascii").split()[0]) * os.sysconf("SC_PAGE_SIZE")
     soft, hard = resource.getrlimit(resource.RLIMIT_AS)

@@ -18,7 +18,7 @@ OPEN_FOR, MOST_OPEN = 1800.0, 10_000
 
 
 @dataclass
-class Openings:
+class OpenRecords:
     """The records that are open, with who has opened each and when. All end with the desk. Safe for several threads."""
 
     opened: dict[tuple[str, str], float] = field(default_factory=dict)
@@ -59,8 +59,8 @@ class Openings:
         self.opened = {key: at for at, key in kept}
 
 
-def the_openings() -> Openings:
+def the_open_records() -> OpenRecords:
     """Returns who has which record open. Raises OfficeNeeded in a process that only makes pages."""
     if isinstance(the_desk(), ReadDesk):
         raise OfficeNeeded("openings")
-    return cast(Openings, current_app.extensions["openings"])
+    return cast(OpenRecords, current_app.extensions["openings"])

@@ -8,7 +8,7 @@ from dataclasses import dataclass
 from pathlib import Path
 
 from thesaurus_tools.command_line import REFUSED, ToolError
-from thesaurus_tools.fed_state import FedState
+from thesaurus_tools.feed_state import FedState
 from thesaurus_tools.line_differences import Lines, differences
 from thesaurus_tools.ntriples import Node, Triple, parse_statement
 from thesaurus_tools.triple_store import TripleStore, plain
@@ -23,7 +23,7 @@ FEW = 4
 
 
 @dataclass(frozen=True)
-class Fed:
+class FeedResult:
     """What was done: how many triples were removed and added, and whether all of them were put anew."""
 
     removed: int
@@ -41,7 +41,7 @@ class Feed:
         # A graph for what is put anew, until it takes the place of the other one.
         self.beside = f"{target.graph}-new"
 
-    def feed(self, export: bytes) -> Fed:
+    def feed(self, export: bytes) -> FeedResult:
         """Makes the triple store equal to an export, in which no line stands twice.
 
         Raises ToolError if it can't be; then the next call puts all of it anew."""
@@ -54,7 +54,7 @@ class Feed:
         gone, come = differences(known, now)
         check_triples(come)
         if not gone and not come:
-            return Fed(0, 0) if self.is_equal(now, self.next_subjects(now)) else self.put_all(now)
+            return FeedResult(0, 0) if self.is_equal(now, self.next_subjects(now)) else self.put_all(now)
         # (what others wrote meanwhile is found by the count after the update, too)
         self.state.begin()
         self.send(gone, come)
@@ -62,7 +62,7 @@ class Feed:
             self.report("the store differs after an update, so all of it is put anew")
             return self.put_all(now)
         self.state.note(now, gone, come)
-        return Fed(len(gone), len(come))
+        return FeedResult(len(gone), len(come))
 
     def next_subjects(self, now: Lines) -> list[str]:
         """Returns the subjects to be compared by a call that changes nothing."""
@@ -73,7 +73,7 @@ class Feed:
         self.place = start + self.compared
         return subjects[start : self.place]
 
-    def put_all(self, now: Lines) -> Fed:
+    def put_all(self, now: Lines) -> FeedResult:
         """Puts all triples in place of those there. Readers see the old ones until the new ones are all there: these
         are put in a graph beside, which takes the other's place by one update."""
         check_triples(now)
@@ -89,7 +89,7 @@ class Feed:
         if self.target.count() != len(now):
             self.report(f"the store says that it has {self.target.count()} triples, and not {len(now)}")
         self.state.note_all(now)
-        return Fed(0, len(now), True)
+        return FeedResult(0, len(now), True)
 
     def send(self, gone: Iterable[bytes], come: Iterable[bytes]) -> None:
         """Sends differences, resource by resource: what goes of it and what comes are one update."""
@@ -114,7 +114,7 @@ class Feed:
             return False
         wanted: dict[str, set[tuple[str, str, Node]]] = defaultdict(set)
         chosen = {f"<{it}>".encode() for it in subjects}
-        for triple in map(parsed, lines_about(chosen, now)):
+        for triple in map(parse, lines_about(chosen, now)):
             if triple:
                 wanted[str(triple.subject)].add((str(triple.subject), str(triple.predicate), plain(triple.object)))
         # (of a resource with very many triples a store may not answer all: they are counted)
@@ -176,14 +176,14 @@ def check_triples(lines: Iterable[bytes]) -> None:
     which SPARQL reads the codes of signs before all else."""
     for it in lines:
         try:
-            is_triple = not CODED.search(it) and parsed(it) is not None
+            is_triple = not CODED.search(it) and parse(it) is not None
         except ValueError:
             is_triple = False
         if not is_triple:
             raise ToolError(f"a line is no triple of an export, so nothing is fed: {it[:SHOWN]!r}", REFUSED)
 
 
-def parsed(line: bytes) -> Triple | None:
+def parse(line: bytes) -> Triple | None:
     """Returns the triple of a line."""
     return parse_statement(line.decode())
 

@@ -12,7 +12,7 @@ from typing import TYPE_CHECKING, Any
 
 from thesaurus_desk.journal.values import Values, inverse_of, source_of, text_of
 from thesaurus_desk.store.changes import Change
-from thesaurus_desk.store.read_transactions import Moment, connect
+from thesaurus_desk.store.read_transactions import ReadTransaction, connect
 from thesaurus_desk.store.replica import Replica
 from thesaurus_desk.store.schema import COLUMNS, PREF
 from thesaurus_desk.store.text_keys import sort_text
@@ -101,7 +101,7 @@ def layer_of(table: str, keys: Sequence[str], others: Sequence[str]) -> str:
 LAYERS = COPIED + "".join(layer_of(table, *columns) for table, columns in LAID_OVER.items())
 
 
-class JournalAtMoment:
+class JournalSnapshot:
     """The journal's tables as a replica sees them at its moment: they are in one file."""
 
     def __init__(self, replica: Replica) -> None:
@@ -131,7 +131,7 @@ class PastReplica(Replica):
 
     def begin(self) -> sqlite3.Connection:
         """Begins a moment of the thread, within the transaction."""
-        self.local.moment = Moment(dict.fromkeys(self.versions(), -1))
+        self.local.transaction = ReadTransaction(dict.fromkeys(self.versions(), -1))
         return self.connection()
 
     def versions(self) -> list[str]:
@@ -140,13 +140,13 @@ class PastReplica(Replica):
 
     def end(self) -> None:
         """Ends the moment of the thread, and not the transaction."""
-        self.local.moment = None
+        self.local.transaction = None
 
     @property
     def values(self) -> Values:
         """The values of fields."""
-        at_moment: Any = JournalAtMoment(self)
-        return Values(at_moment)
+        snapshot: Any = JournalSnapshot(self)
+        return Values(snapshot)
 
     @cached_property
     def places(self) -> Places[int]:

@@ -11,7 +11,7 @@ from thesaurus_desk.store.plan_execution import Desk, LONGEST_PLAN, Outcome
 
 
 @dataclass
-class NamedRun:
+class RequestSeries:
     """A run of requests with names: `{"as": "a", "do": "concept", ..}` makes what a later `"$a"` stands for."""
 
     desk: Desk

@@ -7,7 +7,7 @@ from collections.abc import Sequence
 from typing import Any
 
 from thesaurus_desk.journal.entries import Journal, Step
-from thesaurus_desk.journal.references import resolved
+from thesaurus_desk.journal.references import resolve_request
 from thesaurus_desk.store.model import Link
 from thesaurus_desk.store.replica import Replica
 from thesaurus_desk.store.trial import number_of_key, number_of_outside
@@ -34,7 +34,7 @@ def look_up_by_facts(replica: Replica, steps: Sequence[Step]) -> str:
     numbers: list[int | None] = []
     for step in steps:
         step.answer = step.foreseen if step.state == "done" and step.answer is None else step.answer
-        step.request = resolved(step.request, numbers)
+        step.request = resolve_request(step.request, numbers)
         answer = step.answer or {}
         numbers.append(answer.get("ok", answer.get("again")))
     return state

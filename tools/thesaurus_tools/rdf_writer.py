@@ -59,7 +59,7 @@ def by_subject(triples: Iterable[Triple]) -> Iterator[tuple[str, list[tuple[Iri,
         ]
 
 
-def quoted(text: str) -> str:
+def quote(text: str) -> str:
     """Returns a text in quotes, with the escapes of Turtle and N-Triples."""
     return f'"{text.translate(ESCAPES)}"'
 
@@ -92,7 +92,7 @@ def term(node: Node) -> str:
     """Returns a node in N-Triples."""
     if not isinstance(node, Literal):
         return f"<{node}>"
-    return quoted(node.text) + (f"@{node.tag}" if node.tag else f"^^<{node.datatype}>" if node.datatype else "")
+    return quote(node.text) + (f"@{node.tag}" if node.tag else f"^^<{node.datatype}>" if node.datatype else "")
 
 
 def write_ntriples(triples: Iterable[Triple], base: str) -> Iterator[str]:
@@ -124,7 +124,7 @@ def turtle_parts(triples: Iterable[Triple], names: Names) -> Iterator[str]:
         if node.datatype == XSD + "boolean":
             return node.text
         kind = f"^^{names.short(node.datatype) or f'<{node.datatype}>'}" if node.datatype else ""
-        return quoted(node.text) + (f"@{node.tag}" if node.tag else kind)
+        return quote(node.text) + (f"@{node.tag}" if node.tag else kind)
 
     for subject, properties in by_subject(triples):
         lines = []

@@ -10,7 +10,7 @@ from pathlib import Path
 from typing import Any
 
 from thesaurus_tools.command_line import ToolError
-from thesaurus_tools.holding import Hold, files_of, take_hold
+from thesaurus_tools.program_hold import Hold, files_of, take_hold
 from thesaurus_tools.server import Server
 from thesaurus_tools.table_store import TableStore
 

@@ -6,10 +6,10 @@ from collections import defaultdict
 from collections.abc import Iterator, Sequence
 from typing import NamedTuple
 
-from thesaurus_tools.finding import RowError
-from thesaurus_tools.one_plan import MOST_REQUESTS, OnePlan, resolved
+from thesaurus_tools.concept_finder import RowError
+from thesaurus_tools.one_plan import MOST_REQUESTS, OnePlan, resolve_names
 from thesaurus_tools.program import Performer
-from thesaurus_tools.sentences import reason_of
+from thesaurus_tools.table_messages import reason_of
 
 INVERSES = {"addLabel": "dropLabel", "dropLabel": "addLabel", "link": "unlink", "unlink": "link"}
 ACCEPTED = ("ok", "done", "moved", "again")
@@ -61,7 +61,7 @@ class RowRunner:
         done: list[dict] = []
         for request in plan.requests:
             try:
-                sent = resolved(request, self.numbers)
+                sent = resolve_names(request, self.numbers)
             except KeyError as error:
                 return self.take_back(done, lacking(error))
             answer = self.performer.ask(sent)

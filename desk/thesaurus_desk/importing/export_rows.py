@@ -17,7 +17,7 @@ from thesaurus_tools.rdf_values import Statement, read_statements
 from thesaurus_tools.table_plans import TableOptions
 
 
-def read_exported_values(name: str, data: bytes, base: str, fields: Fields) -> TableRun:
+def read_export_rows(name: str, data: bytes, base: str, fields: Fields) -> TableRun:
     """Returns the values of an export, and the places of its collections, as rows that add those that are lacking.
     Raises SkosError."""
     if not form_of(name):

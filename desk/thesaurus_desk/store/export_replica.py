@@ -13,7 +13,7 @@ from thesaurus_desk.store.build import build
 from thesaurus_desk.store.model import Link, normal
 from thesaurus_desk.store.replica import Replica
 from thesaurus_desk.store.schema import COLUMNS, KIND_NUMBER, LABEL_NUMBER, LINK_NUMBER, TYPE_NUMBER
-from thesaurus_tools.arrays import Places, no_places, numbered, places_of_triples
+from thesaurus_tools.arrays import Places, no_places, number_places, places_of_triples
 from thesaurus_tools.export_store import store_of_export
 from thesaurus_tools.export_values import ExportFacts, read_facts
 from thesaurus_tools.fields import STANDARD, Field, text_fields
@@ -24,7 +24,7 @@ from thesaurus_tools.table_store import TABLES_VERSION
 Rows = dict[str, list[tuple[object, ...]]]
 
 
-class OwnReplica(Replica):
+class ExportReplica(Replica):
     """A replica of the rows of a store, in a folder that goes with it."""
 
     # Where collections are in the hierarchy.
@@ -49,16 +49,16 @@ class OwnReplica(Replica):
         self.close()
 
 
-def read_export(path: Path) -> OwnReplica:
+def read_export(path: Path) -> ExportReplica:
     """Reads an export of the program. Raises ToolError for another file."""
     triples = list(read_ntriples(path))
     store = store_of_export(str(path), triples)
-    replica = OwnReplica(rows_of(store), read_facts(triples, store.base))
-    replica.places = numbered(places_of_triples(triples), store.base)
+    replica = ExportReplica(rows_of(store), read_facts(triples, store.base))
+    replica.places = number_places(places_of_triples(triples), store.base)
     return replica
 
 
-def export_source(current: Callable[[], OwnReplica], title: str = "") -> Source:
+def export_source(current: Callable[[], ExportReplica], title: str = "") -> Source:
     """Returns what the interfaces for other programs read of an export."""
 
     def fields() -> list[Field]:

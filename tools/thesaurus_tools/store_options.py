@@ -92,8 +92,8 @@ def open_of_desk(path: Path, has_values: bool = False) -> Iterator[Store]:
 def open_served(url: str) -> Iterator[Store]:
     """Opens the store of a program that serves: a copy where that can be had, which takes far less time; or else by
     asking it for each thing."""
-    from thesaurus_tools.copying import open_copy_of_served  # (a tool starts faster without what talks HTTP)
-    from thesaurus_tools.served_store import read_served
+    from thesaurus_tools.store_copies import open_copy_of_served  # (a tool starts faster without what talks HTTP)
+    from thesaurus_tools.program_store import read_served
     from thesaurus_tools.server import Server
 
     server = Server(url)

@@ -8,7 +8,7 @@ from functools import cached_property
 from thesaurus_tools.command_line import ToolError
 from thesaurus_tools.drafts import Draft, Reference
 from thesaurus_tools.link_rules import IRI_FORM
-from thesaurus_tools.sentences import ROWS
+from thesaurus_tools.table_messages import ROWS
 
 SHOWN = 6
 

@@ -12,10 +12,10 @@ from thesaurus_tools.export_store import Properties, find_base
 from thesaurus_tools.kinds import BROADER
 from thesaurus_tools.mads import mads_of_skos
 from thesaurus_tools.ntriples import SKOS, Iri, Triple, parse_ntriples, read_document
-from thesaurus_tools.opening import open_file, open_served
 from thesaurus_tools.program import EXISTING, copy_closed, find_program, run_program
-from thesaurus_tools.rdf_writing import ISO_THES
+from thesaurus_tools.rdf_writer import ISO_THES
 from thesaurus_tools.skos_xl import xl_labels
+from thesaurus_tools.store_options import open_file, open_served
 
 SQLITE = b"SQLite format 3\0"
 # The words of RDF in which a thesaurus is written, beside those of SKOS.

@@ -11,7 +11,7 @@ from thesaurus_tools.command_line import DONE, REFUSED, say
 from thesaurus_tools.files import write_output
 from thesaurus_tools.requests import encode
 from thesaurus_tools.script_writer import ScriptWriter
-from thesaurus_tools.table_writing import table_text
+from thesaurus_tools.table_writer import table_text
 from thesaurus_tools.vocabulary import Finding, Vocabulary, fit_text
 
 
