@@ -11,4 +11,5 @@
                                    are made; plans, one at a time; backups
   journal/                         who asked for what, and what came of it
   clock                            the office's days and times
+  sample                           thirty instruments, with which everything can be tried
 """

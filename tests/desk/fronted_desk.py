@@ -12,7 +12,8 @@ ROOT = Path(__file__).resolve().parents[2]
 CONFIGURATION = ROOT / "share" / "nginx-desk.conf"
 SECRET = "0123456789abcdef0123456789abcdef"
 # Who says that this server asks who people are, in a configuration in which it does.
-ASKING = 'auth_basic "Desk"; auth_basic_user_file {room}/readers; proxy_set_header X-Remote-User $remote_user;'
+NOBODY = 'set              $desk_user "";              # CHANGE: $remote_user, with auth_basic'
+ASKING = 'auth_basic "Desk"; auth_basic_user_file {room}/readers; set $desk_user $remote_user;'
 
 
 def configuration(site: Site, asks: bool) -> str:
@@ -26,7 +27,7 @@ def configuration(site: Site, asks: bool) -> str:
         "/etc/thesaurus/": f"{site.room}/",
     }
     if asks:
-        places['proxy_set_header X-Remote-User   "";'] = ASKING.format(room=site.room)
+        places[NOBODY] = ASKING.format(room=site.room)
     for old, new in places.items():
         assert old in text, old
         text = text.replace(old, new)

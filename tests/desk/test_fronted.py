@@ -169,6 +169,7 @@ def test_names_of_nginx(program: str, instruments_store: Path, tmp_path: Path) -
     store.write_bytes(instruments_store.read_bytes())
     accounts = Accounts(users)
     accounts.add("anna", Role.HEAD, None)
+    token = accounts.make_token("anna")
     words = [*options(program, store, users), "--remote-user"]
     with running(*words) as desk, fronted_desk(tmp_path, desk.port, asks=True) as site:
         reader, editor = ("rita", "a reader"), ("anna", "an editor's")
@@ -178,6 +179,12 @@ def test_names_of_nginx(program: str, instruments_store: Path, tmp_path: Path) -
         assert site.ask("GET", "/login", user=reader, X_Remote_User="anna")[0] == 403
         assert site.ask("GET", "/users", user=reader, X_Remote_User="anna")[0] == 303
         assert site.ask("GET", "/users", user=editor)[0] == 200
+        assert site.ask("GET", "/healthz")[0] == 200, "a monitor has no password"
+        assert site.ask("GET", "/api/schemes", Authorization=f"Bearer {token}")[0] == 200, "nor has a program"
+        assert site.ask("GET", "/me", Authorization=f"Bearer {token}")[0] == 401
+        for user in (None, ("anna", "wrong"), editor):
+            status, _, found = site.ask("GET", "/api/schemes", user=user)
+            assert status == 401 and "Bearer" in found.values(), "a name opens nothing there"
 
 
 # --- the unit ---

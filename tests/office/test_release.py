@@ -1,6 +1,5 @@
 """dev/release in a clean clone of a small repository, with a stand-in for the prover: what it refuses, what is in
-the archive, and that two builds have the same bytes. The built program itself is packed and run in a bare Debian, where
-debootstrap can make one."""
+the archive, and that two builds have the same bytes. It is run in a bare Debian, where debootstrap can make one."""
 from __future__ import annotations
 
 import hashlib
@@ -83,7 +82,6 @@ def git(folder: Path, *words: str) -> str:
     ).stdout
 
 
-GOOD = program_that_prints(f"thesaurus {version()}\n".encode())
 Ran = subprocess.CompletedProcess[str]
 
 
@@ -121,7 +119,7 @@ class Repository:
         self.tools.mkdir()
         (self.tools / "rt").write_text(STAND_IN.format(python=sys.executable, kit=KIT), encoding="utf-8")
         (self.tools / "rt").chmod(0o755)
-        self.use(GOOD)
+        self.use(good())
 
     def use(self, data: bytes) -> None:
         """Has the stand-in build another program."""
@@ -141,6 +139,15 @@ class Repository:
         return self.clone / folder / f"thesaurus-{version()}-{platform.machine()}-linux.tar.gz"
 
 
+def good() -> bytes:
+    """The program that is tested, which is of this version."""
+    data: bytes = built().read_bytes()
+    said = subprocess.run([built(), "--version"], capture_output=True, check=False).stdout
+    if data[:4] != b"\x7fELF" or said != f"thesaurus {version()}\n".encode():
+        pytest.skip("the program isn't of this version")
+    return data
+
+
 @pytest.fixture(scope="module")
 def made(tmp_path_factory: pytest.TempPathFactory) -> Repository:
     made = Repository(tmp_path_factory.mktemp("release").resolve())
@@ -151,7 +158,7 @@ def made(tmp_path_factory: pytest.TempPathFactory) -> Repository:
 @pytest.fixture
 def it(made: Repository) -> Repository:
     """The repository, with a program that is right."""
-    made.use(GOOD)
+    made.use(good())
     return made
 
 
@@ -199,7 +206,7 @@ def test_other_program_is_refused(what: str, it: Repository) -> None:
 
 @pytest.fixture(scope="module")
 def released(made: Repository) -> Repository:
-    made.use(GOOD)
+    made.use(good())
     new = made.clone / "share" / "new"
     new.touch()
     ran = made.release()
@@ -264,7 +271,7 @@ def test_proved_names_the_commit_the_kit_the_program_and_the_crates(released: Re
     assert (tree / "PROVED").read_text(encoding="utf-8").splitlines() == [
         f"commit {git(released.clone, 'rev-parse', 'HEAD').strip()}",
         f"kit {KIT}",
-        f"program sha256 {hashlib.sha256(GOOD).hexdigest()}",
+        f"program sha256 {hashlib.sha256(good()).hexdigest()}",
         "thes_base proved",
         "thes_cli proved",
         "thes_core proved",
@@ -273,9 +280,13 @@ def test_proved_names_the_commit_the_kit_the_program_and_the_crates(released: Re
 
 
 def test_program_is_that_which_was_built(tree: Path) -> None:
-    assert (tree / "thesaurus").read_bytes() == GOOD
-    ran = subprocess.run([tree / "thesaurus"], capture_output=True, check=False)
-    assert ran.stdout == f"thesaurus {version()}\n".encode()
+    assert (tree / "thesaurus").read_bytes() == good()
+
+
+def test_archive_has_the_site_of_the_sample(tree: Path) -> None:
+    page = (tree / "sample-site" / "en" / "5.html").read_text(encoding="utf-8")
+    assert "<h1>Violins</h1>" in page and "four strings in fifths" in page
+    assert {it.name for it in (tree / "sample-site").iterdir() if it.is_dir()} == {"de", "en", "fr", "rdf"}
 
 
 def test_unpacked_release_can_be_installed(released: Repository, tree: Path) -> None:
@@ -289,14 +300,14 @@ def test_unpacked_release_can_be_installed(released: Repository, tree: Path) -> 
 
 
 def test_two_builds_of_one_commit_have_the_same_bytes(released: Repository) -> None:
-    released.use(GOOD)
+    released.use(good())
     again = released.release("--out", released.clone / "out" / "again", "--compare", released.archive())
     assert not again.returncode and "the same bytes" in again.stdout, again
     assert released.archive("out/again").read_bytes() == released.archive().read_bytes()
 
 
 def test_difference_is_named(released: Repository) -> None:
-    released.use(GOOD + b"x")
+    released.use(good() + b"x")
     other = released.release("--out", released.clone / "out" / "other", "--compare", released.archive())
     assert other.returncode == 1, other
     named = set(re.findall(r"^differs: [^/]+/(.*)$", other.stdout, re.M))
@@ -316,30 +327,8 @@ COMMANDS = (
 )
 
 
-def is_of_this_version() -> bool:
-    """Whether the program that is tested is one of this version, and no script."""
-    said = subprocess.run([built(), "--version"], capture_output=True, check=False).stdout
-    return bool(built().read_bytes()[:4] == b"\x7fELF" and said == f"thesaurus {version()}\n".encode())
-
-
-@pytest.fixture
-def packed(it: Repository) -> Path:
-    """The archive of the program that is tested."""
-    if not is_of_this_version():
-        pytest.skip("the program isn't of this version")
-    it.use(built().read_bytes())
-    ran = it.release("--out", it.clone / "out" / "real")
-    assert not ran.returncode, ran.stderr
-    return it.archive("out/real")
-
-
-def test_built_program_is_packed(packed: Path) -> None:
-    with tarfile.open(packed) as archive:
-        assert archive.getmembers()
-
-
 @pytest.mark.needs("debootstrap")
-def test_release_works_in_a_bare_debian(packed: Path, tmp_path: Path, leave_out: Callable[[str], None]) -> None:
+def test_release_works_in_a_bare_debian(released: Repository, tmp_path: Path, leave_out: Callable[[str], None]) -> None:
     if os.geteuid():
         return leave_out("this needs root's rights")
     root = tmp_path / "debian"
@@ -347,7 +336,7 @@ def test_release_works_in_a_bare_debian(packed: Path, tmp_path: Path, leave_out:
     made = subprocess.run(words, capture_output=True, text=True, check=False)
     if made.returncode:
         return leave_out(f"the packages of Debian can't be reached: {made.stdout[-200:]}")
-    shutil.copy(packed, root / "release.tar.gz")
+    shutil.copy(released.archive(), root / "release.tar.gz")
     ran = subprocess.run(["chroot", root, "/bin/sh", "-c", COMMANDS], capture_output=True, text=True, check=False)
     assert not ran.returncode, ran
     assert ran.stdout.startswith("Instruments de musique\n  Instruments à clavier (G)\n")
