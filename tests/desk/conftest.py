@@ -16,6 +16,7 @@ from reader import Reader, come_in
 from program import MEMORY
 from thesaurus_desk.auth import passwords
 from thesaurus_desk.store.plan_execution import Desk
+from thesaurus_desk.web import background
 
 ROOT = Path(__file__).resolve().parents[2]
 BASE = "https://thesaurus.example/id/"
@@ -29,6 +30,14 @@ def light_passwords() -> Iterator[None]:
     passwords.NOBODY = kept[1].replace(str(kept[0]), str(passwords.ROUNDS))
     yield
     passwords.ROUNDS, passwords.NOBODY = kept
+
+
+@pytest.fixture(scope="session", autouse=True)
+def patient_requests() -> Iterator[None]:
+    """Requests that wait for the tables that they begin, on a busy machine, too (those of test_long_tables don't)."""
+    kept, background.PATIENCE = background.PATIENCE, 300.0
+    yield
+    background.PATIENCE = kept
 
 
 @pytest.fixture(scope="session")

@@ -3,6 +3,7 @@ from __future__ import annotations
 
 import io
 import sqlite3
+from collections.abc import Callable
 from contextlib import closing
 from pathlib import Path
 
@@ -11,8 +12,10 @@ from clients import Client, Site, text_of
 from hostile import TEXTS, faults_of
 from reader import Form, read_page
 from thesaurus_desk.journal.record_texts import RecordText
+from thesaurus_desk.store.plan_execution import Desk
 
-VIOLINS, FIDDLES = 5, 31
+VIOLINS, HARPS, FIDDLES = 5, 11, 31
+OpenDesk = Callable[[Path], Desk]
 CSV = """Key;Titel;Beschreibung;URL
 M 1;Geige von Stainer;Absam 1668;https://cat.example/1
 M 2;Harfe;;
@@ -151,10 +154,40 @@ def test_a_title_is_shown_wherever_its_record_is(site: Site) -> None:
     number = desk.replica.postings.of_record("M 1")[0].number
     anna = site.client("anna")
     paths = (f"/c/{VIOLINS}", f"/c/{VIOLINS}/records", f"/c/{VIOLINS}/split", "/record?name=M+1", "/record?like=M+1")
-    for path in (*paths, f"/posting/{number}", "/changes", "/index?record=M+1"):
+    for path in (*paths, f"/posting/{number}", "/changes", "/index?record=M+1", "/search?q=stainer"):
         assert "Geige von Stainer M 1" in " ".join(text_of(anna.get(path)).split()), path
     page = ina.get("/record?name=M+1").text
     assert "Absam 1668" in page and 'href="https://cat.example/1"' in page
+
+
+def test_a_record_is_found_by_words_of_its_title(site: Site) -> None:
+    """In the field of each page, in its suggestions, and among records; with the concepts that it has."""
+    ina, desk = site.client("ina"), site.desk
+    desk.record_texts.keep([RecordText("M 7", "Vergoldete Wiener Pedalharfe"), RecordText("M 8", "Wiener Geige")])
+    post = {"do": "post", "key": "k7", "record": "M 7", "concept": HARPS}
+    assert desk.perform("ina", "post", [post]).is_done
+    page = ina.get("/search?q=pedalharfe wien")
+    assert "Vergoldete Wiener Pedalharfe M 7 : Harps" in " ".join(text_of(page).split()), text_of(page)
+    assert "Wiener Geige" not in page.text
+    suggested = ina.get("/suggest?q=wiener geig&kinds=all").json
+    assert [(it["text"], it["note"]) for it in suggested if not it["number"]] == [("Wiener Geige", "record · M 8")]
+    assert "M 8" in ina.get("/record?like=geige wiener").text and "M 7" not in ina.get("/record?like=geige").text
+    # (a title that is changed or deleted, and a desk of before)
+    desk.record_texts.keep([RecordText("M 7", "Harfe ohne Gold")])
+    assert desk.record_texts.titled("vergoldete", 9) == [] and desk.record_texts.titled("ohne gold", 9) == ["M 7"]
+    desk.record_texts.forget("M 8")
+    assert desk.record_texts.titled("geige", 9) == [] and desk.record_texts.titled('"(*', 9) == []
+    assert "M 7" not in site.client().get("/search?q=harfe").text
+
+
+def test_a_desk_that_knew_no_titles_finds_them(site: Site, open_desk: OpenDesk) -> None:
+    site.desk.record_texts.keep([RecordText("M 7", "Pedalharfe")])
+    with site.desk.journal.transaction() as rows:
+        for it in ("record_title_new", "record_title_gone", "record_title_changed"):
+            rows.execute(f"DROP TRIGGER {it}")
+        rows.execute("DROP TABLE record_title")
+    site.desk.stop()
+    assert open_desk(site.desk.db).record_texts.titled("pedalharfe", 9) == ["M 7"]
 
 
 def test_a_text_is_typed_and_deleted(site: Site) -> None:

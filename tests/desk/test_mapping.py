@@ -285,6 +285,27 @@ def test_a_dump_is_sent_to_the_desk(desk: Desk, reader: Reader) -> None:
     assert SAY("mapping.state.mapped", n=1) in page.text
 
 
+def test_a_vocabulary_is_removed_and_what_was_decided_stays(desk: Desk, reader: Reader) -> None:
+    """By an administrator who is sure; and holds again of a dump by the same name."""
+    send_dump(reader, "VOC", "voc.nt", DUMP)
+    wait_for(desk, reader)
+    done(desk, {"do": "outside", "iri": iri("violin")}, link("link", "exact", VIOLINS, "$1"))
+    desk.decisions.decide("ben", "VOC", HARPS, "rejected", iri("octet"))
+    form = reader.get("/mapping").form("remove-1")
+    fields = {name: value for name, value in form.fields if name != "sure"}
+    assert reader.read(reader.client.post("/mapping/1/remove", data=fields)).status == 409
+    assert [it.name for it in desk.vocabularies.each()] == ["VOC"]
+    reader.client.post("/mapping/1/remove", data={**fields, "sure": "1"})
+    page = wait_for(desk, reader)
+    assert SAY("mapping.removal.loaded", name="VOC") in page.text and desk.vocabularies.each() == []
+    assert reader.get("/mapping/1").status == 404
+    assert "Geige" in reader.get(f"/c/{VIOLINS}").text or "violin" in reader.get(f"/c/{VIOLINS}").text
+    assert desk.decisions.accepted_names(iri("violin")) == [("de", "Geige"), ("en", "violin")]
+    send_dump(reader, "VOC", "voc.nt", DUMP)
+    wait_for(desk, reader)
+    assert desk.decisions.rejected("VOC") == {HARPS: {iri("octet")}} and mapped(desk, VIOLINS) == [("exact", "violin")]
+
+
 def test_a_dump_that_is_none_is_said_to_be_none(desk: Desk, reader: Reader) -> None:
     page = send_dump(reader, "VOC", "voc.txt", DUMP)
     assert page.status == 409 and page.form("load").invalid == {"file"} or "file" in page.html

@@ -152,7 +152,7 @@ def test_records_are_found_by_a_part_of_their_names(reader: Reader, desk: Desk) 
     assert "Violin 0000" in page.text and "and more" in page.text
     page = reader.get("/record?like=0042")
     assert "Violin 0042" in page.text and "Violin 0041" not in page.text
-    assert "No record is indexed" in reader.get("/record?like=tuba").text
+    assert "No record has “tuba” in its name or title." in reader.get("/record?like=tuba").text
 
 
 def test_a_posting_shows_its_moves(reader: Reader, desk: Desk) -> None:

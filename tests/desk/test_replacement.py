@@ -9,8 +9,9 @@ import pytest
 from clients import Client, Site, text_of
 from test_bring_in import perform, result_of
 from test_changes import number
-from thesaurus_desk.importing.replacements import MOST, Replacement
+from thesaurus_desk.importing.replacements import Replacement
 from thesaurus_desk.journal.values import set_request
+from thesaurus_desk.web.table_pages import SHOWN
 
 PLACES = ["pref", "alt", "scope", "definition"]
 
@@ -153,12 +154,12 @@ def test_words_and_letters(is_whole: bool, text: str, expected: str) -> None:
     assert Replacement("rat", "cat", frozenset(), is_whole=is_whole).replaced(text) == expected
 
 
-def test_no_more_than_are_shown(site: Site, anna: Client) -> None:
-    harps = number(site, "Harps")
+def test_as_many_as_there_are(site: Site, anna: Client) -> None:
+    """Those behind the first part of the page, too."""
+    harps, count = number(site, "Harps"), SHOWN + 20
     labels = [
-        {"do": "addLabel", "owner": harps, "kind": "alt", "tag": "en", "text": f"Rare harp {it}"}
-        for it in range(MOST + 20)
+        {"do": "addLabel", "owner": harps, "kind": "alt", "tag": "en", "text": f"Rare harp {it}"} for it in range(count)
     ]
     assert site.desk.perform("anna", "add_term", labels, may_cut=True).is_done
     page = ask(anna, find="rare", new="scarce", places=["alt"])
-    assert len(rows_of(page)) == MOST and f"the first {MOST} of more" in text_of(page)
+    assert len(rows_of(page)) == SHOWN and f"{count} rows change something." in text_of(page)

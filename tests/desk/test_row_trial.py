@@ -10,6 +10,7 @@ from test_changes import number
 from thesaurus_desk.importing.request_series import RequestSeries
 from thesaurus_desk.importing.row_trial import CopyTrial, try_rows
 from thesaurus_desk.store.plan_execution import Desk, Outcome
+from thesaurus_desk.store.run_threads import Report
 from thesaurus_tools.row_runner import RowPlan
 from whole import resources
 
@@ -28,9 +29,9 @@ def copied(monkeypatch: pytest.MonkeyPatch) -> list[int]:
     found: list[int] = []
     refusals = CopyTrial.refusals
 
-    def counted(trial: CopyTrial, rows: list[RowPlan]) -> dict[int, Outcome | None]:
+    def counted(trial: CopyTrial, rows: list[RowPlan], report: Report | None) -> dict[int, Outcome | None]:
         found.append(len(rows))
-        return refusals(trial, rows)
+        return refusals(trial, rows, report)
 
     monkeypatch.setattr(CopyTrial, "refusals", counted)
     return found

@@ -9,19 +9,20 @@ from thesaurus_desk.journal.record_texts import RecordText
 from thesaurus_desk.store.label_matches import LabelMatcher
 from thesaurus_desk.store.plan_execution import Desk
 from thesaurus_desk.store.record_suggestions import Suggester
-from thesaurus_desk.store.stems import forms, language_of, stem
+from thesaurus_tools.stems import forms, language_of, stem
 
 STRINGS, BOWED, VIOLINS, HARPS, FIDDLES = 3, 4, 5, 11, 31
 # Singular and plural, as dictionaries have them.
 PAIRS = {
     "en": "violin violins, box boxes, glass glasses, city cities, glove gloves, knife knives, leaf leaves,"
     " shelf shelves, potato potatoes, shoe shoes, axe axes, cache caches, brush brushes, house houses,"
-    " woman women, tooth teeth, craft crafts, toy toys, bus bus, corpus corpus",
+    " woman women, fireman firemen, tooth teeth, craft crafts, toy toys, bus buses, corpus corpus, cactus cactuses,"
+    " movie movies, fly flies, tie ties",
     "de": "violine violinen, haus hauser, geige geigen, instrument instrumente, buch bucher, kleid kleider,"
-    " glas glaser, messer messer, wagen wagen, auto autos",
+    " glas glaser, messer messer, wagen wagen, auto autos, uhr uhren, rose rosen",
     "fr": "violon violons, cheval chevaux, bateau bateaux, instrument instruments, prix prix, canal canaux",
 }
-APART = {"en": "glass gas, bus bu", "de": "haus hase, bach buch, lauf laub", "fr": "port pore, as a"}
+APART = {"en": "glass gas, bus bu, car care", "de": "haus hase, bach buch, lauf laub", "fr": "port pore, as a"}
 
 
 def pairs_of(text: str) -> list[list[str]]:

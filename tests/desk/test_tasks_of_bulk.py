@@ -16,8 +16,8 @@ pytestmark = pytest.mark.needs("chromedriver", "selenium")
 # The concepts of the sample that get a misspelt term, and those below Bowed instruments that move.
 MISSPELT = range(5, 13)
 BRANCH = ("Bows", "Cellos", "Double basses", "Fiddles", "Violas", "Violins")
-# By hand the misspelling took 30 clicks.
-BY_HAND = 30
+# By hand the misspelling took 30 clicks, and a branch 4.
+BY_HAND, MOVE = 30, 4
 
 
 @pytest.fixture
@@ -75,3 +75,14 @@ def test_a_branch_moves(hand: Hand) -> None:
     hand.open("/c/4")
     for term in BRANCH:
         hand.sees(term)
+
+
+def test_a_whole_branch_moves(hand: Hand) -> None:
+    """To a concept whose term is typed."""
+    hand.open("/c/4")
+    hand.press(SAY("edit.move"))
+    hand.fill(SAY("move.below"), "Drums")
+    hand.press(SAY("edit.move"))
+    hand.is_at("/c/4")
+    hand.sees("Drums")
+    assert hand.clicks == 2 <= MOVE / 2

@@ -22,6 +22,9 @@ from thesaurus_desk.store.plan_execution import Desk
 pytestmark = pytest.mark.needs("chromedriver", "selenium")
 WAYS = ("keyboard", "mouse", "narrow")
 ENTITY = "http://www.wikidata.org/entity/"
+# The clicks that these tasks once took: of a find, a mapping, a table of translations, a record (keys), who changed
+# what, a merge and a batch that are taken back, a round of quality. A test says if one takes more than half of them.
+FIND, MAP, TRANSLATE, KEYS, WHO, BACK, QUALITY = 3, 5, 7, 50, 5, 3 + 54, 2
 # Concepts of the sample.
 BOWED, VIOLINS, HARPS, FIDDLES = 4, 5, 11, 31
 # How an item of Wikidata is copied, and its number.
@@ -61,6 +64,12 @@ def search(hand: Hand, text: str) -> None:
     hand.type_keys(Keys.ENTER)
 
 
+def takes_half(hand: Hand, before: int, times: int = 1) -> None:
+    """Finds that a task took at most half the clicks that it once took, so many times."""
+    assert 0 <= hand.clicks <= before * times / 2, hand.clicks
+    hand.clicks = 0
+
+
 def said(key: str, **values: object) -> str:
     """Returns what pages say, up to the first of what is left open."""
     return str(SAY(key, **values)).partition("{")[0].strip()
@@ -71,25 +80,29 @@ def said(key: str, **values: object) -> str:
 
 def test_3_find(hand: Hand) -> None:
     """By a part of a word, a synonym, a word of a note, a misspelling, and a term of another language."""
-    come_in_as(hand, "rita")
+    come_in_as(hand, "rita").clicks = 0
     search(hand, "iolin")
     hand.sees(SAY("find.within"))
     hand.press("Violins")
     hand.is_at(f"/c/{VIOLINS}")
+    takes_half(hand, FIND)
     search(hand, "Violinen")
     hand.is_at(f"/c/{VIOLINS}")
     search(hand, "folk music")
     hand.sees("Bowed instruments of folk music and of the Middle Ages.")
     hand.press("Fiddles")
     hand.is_at(f"/c/{FIDDLES}")
+    takes_half(hand, FIND)
     search(hand, "vioilns")
     hand.sees(SAY("find.alike", query="vioilns"))
     hand.press("Violins")
     hand.is_at(f"/c/{VIOLINS}")
+    takes_half(hand, FIND)
     search(hand, "Streichinstrumente")
     hand.is_at(f"/c/{BOWED}")
     search(hand, "cordes pinc")
     hand.sees("Instruments à cordes pincées")
+    takes_half(hand, FIND)
 
 
 # --- mapping ---
@@ -113,13 +126,15 @@ def test_13_map_by_page(hand: Hand) -> None:
 def test_13_map_by_a_table(hand: Hand, tmp_path: Path) -> None:
     path = tmp_path / "items.csv"
     path.write_text("Concept,Wikidata\n" + "".join(f"{term},Q{it}\n" for term, it in ITEMS.items()), encoding="utf-8")
-    come_in_as(hand, "ben").open("/bring-in")
+    come_in_as(hand, "ben").clicks = 0
+    hand.press(SAY("shell.bring_in"))
     hand.send_file("table-file", path)
     hand.press(SAY("bring_in.preview"))
     hand.sees(SAY("bring_in.rows_change", n=15))
     hand.sees(f"{ENTITY}Q101")
     hand.press(SAY("bring_in.perform_ticked"))
     hand.sees(SAY("bring_in.rows_changed", n=15))
+    takes_half(hand, MAP, 15)
     hand.press("Fiddles")
     hand.sees(f"exact match {ENTITY}Q115")
 
@@ -145,6 +160,30 @@ def test_14_translate_in_a_table(hand: Hand, tmp_path: Path) -> None:
     hand.sees(SAY("bring_in.is_exact"))
     hand.press(SAY("bring_in.perform_ticked"))
     hand.sees(SAY("bring_in.rows_changed", n=len(rows)))
+
+
+def test_14_translate_a_work_list(hand: Hand, tmp_path: Path) -> None:
+    """The concepts without a term in a language, as a table; once it is filled in and chosen, it is shown by itself."""
+    come_in_as(hand, "ben").clicks = 0
+    hand.press(SAY("shell.lists"))
+    link = hand.find(f"français: {SAY('shell.csv')}", "a")
+    hand.clicks += 1
+    get = "const done = arguments[1]; fetch(arguments[0]).then(it => it.text()).then(done);"
+    saved = tmp_path / "french.csv"
+    saved.write_text(hand.driver.execute_async_script(get, link.get_attribute("href")), encoding="utf-8")
+    with saved.open(encoding="utf-8-sig", newline="") as file:
+        heading, *rows = csv.reader(file)
+    of, french = heading.index("term"), heading.index("preferred term (fr)")
+    for it in rows:
+        it[french] = f"{it[of]} en français"
+    with saved.open("w", encoding="utf-8", newline="") as file:
+        csv.writer(file).writerows([heading, *rows])
+    hand.send_file("filled", saved)
+    hand.sees(SAY("bring_in.rows_change", n=len(rows)))
+    hand.press(SAY("bring_in.perform_ticked"))
+    hand.sees(SAY("bring_in.rows_changed", n=len(rows)))
+    assert rows
+    takes_half(hand, TRANSLATE)
 
 
 # --- records ---
@@ -190,6 +229,32 @@ def test_15_index_by_keys(driver: WebDriver, shared_desk: Running) -> None:
     ActionChains(driver).key_down(Keys.CONTROL).send_keys(Keys.ENTER).key_up(Keys.CONTROL).perform()
     hand.sees("R 7: indexed with Harps")
     assert "Violins" not in hand.text()
+
+
+def test_15_a_record_with_four_concepts(hand: Hand, tmp_path: Path) -> None:
+    """Two are in its title, and are ticked by digits; of the others the beginning is typed, and the first suggestion
+    chosen, taken and ticked."""
+    path = tmp_path / "records.csv"
+    path.write_text("key,title\nR 8,Violins and harps\n", encoding="utf-8")
+    come_in_as(hand, "ina").open("/index")
+    hand.send_file("records-file", path)
+    hand.press(SAY("indexing.bring_button"))
+    hand.open("/index?record=R+8")
+    hand.sees("Violins 1")
+    hand.type_keys("1", "2", "a")
+    count = 3
+    for typed, term in (("lut", "Lutes"), ("org", "Organs")):
+        hand.type_keys(typed)
+        hand.take(term)
+        hand.type_keys(Keys.ENTER)
+        hand.sees(f"{term} ")
+        count += len(typed) + 3
+    ActionChains(hand.driver).key_down(Keys.CONTROL).send_keys(Keys.ENTER).key_up(Keys.CONTROL).perform()
+    hand.sees("R 8: indexed with")
+    assert count + 2 <= KEYS / 2
+    hand.open("/record?name=R+8")
+    for term in ("Violins", "Harps", "Lutes", "Organs"):
+        hand.sees(term)
 
 
 def test_16_index_500_records_by_a_file(hand: Hand, tmp_path: Path) -> None:
@@ -299,18 +364,32 @@ def compare(hand: Hand, first: date) -> None:
     assert "Fiddle 7" not in shown
 
 
+def test_20_who_changed_what_last_week_and_since_the_first(aged: Desk, hand: Hand) -> None:
+    """What is asked for most has a link: the days before today, and what is other than on the first."""
+    come_in_as(hand, "rita").clicks = 0
+    hand.press(SAY("shell.changes"))
+    hand.press(SAY("changes.last_week"))
+    hand.is_at("/changes")
+    for part in ("Fine violins", "Arched harps", "anna", "ben"):
+        hand.sees(part)
+    assert hand.text().count("Old-time violins") == 1, "that of 40 days ago isn't there"
+    takes_half(hand, WHO)
+    hand.press(said("changes.since_first"))
+    hand.is_at("/changed-since")
+    takes_half(hand, WHO)
+
+
 # --- taking back ---
 
 
 def test_21_yesterdays_merge_is_taken_back(aged: Desk, hand: Hand) -> None:
     """The concept is there again, with its records; its number is another one, which is said before."""
-    come_in_as(hand, "anna").press(SAY("shell.changes"))
-    hand.choose(SAY("changes.what_kind"), SAY("changes.kind.merge"))
-    hand.press(SAY("changes.show"))
+    come_in_as(hand, "anna").clicks = 0
     hand.press(SAY("changes.back"))
     hand.sees(said("changes.remark.new_number"))
     hand.press(SAY("changes.back"))
     hand.sees(SAY("concept.n_records", n=33))
+    takes_half(hand, BACK)
     assert hand.number() > FIDDLES
     search(hand, "Violins")
     hand.is_at(f"/c/{VIOLINS}")
@@ -327,14 +406,30 @@ def test_21_a_batch_of_20_rows_is_taken_back_as_one(hand: Hand, tmp_path: Path) 
     hand.press(SAY("bring_in.preview"))
     hand.press(SAY("bring_in.perform_ticked"))
     hand.sees(SAY("bring_in.rows_changed", n=20))
+    hand.clicks = 0
     hand.press(SAY("shell.changes"))
     hand.sees(SAY("changes.table", name="terms.csv", n=40))
     hand.press(SAY("changes.back"))
     hand.sees("Lyre 07")
     hand.press(SAY("changes.back"))
     hand.sees(SAY("concept.taken_back"))
+    takes_half(hand, BACK)
     search(hand, "Lyre 07")
     hand.sees(SAY("find.dead"))
     hand.open(f"/c/{HARPS}")
     hand.sees("Harps")
     assert "Lyre" not in hand.text().partition(SAY("concept.history"))[0]
+
+
+# --- quality ---
+
+
+def test_22_a_round_of_quality(hand: Hand) -> None:
+    """One press shows how long each list is; another one leads to a list."""
+    come_in_as(hand, "anna").clicks = 0
+    hand.press(SAY("shell.quality"))
+    hand.sees(SAY("lists.single_child"))
+    takes_half(hand, QUALITY)
+    hand.press(SAY("lists.single_child"))
+    hand.is_at("/lists/single_child")
+    takes_half(hand, QUALITY)

@@ -2,7 +2,8 @@
 
   posting_files   postings by their keys, as one entry of the journal
   record_files    records of the catalogue that are to be indexed, with their texts
-  tables          tables of changes: read, shown row by row, and performed
+  tables          tables of changes: read, and shown row by row
+  table_runs      tables that were shown, performed row by row
   row_trial       what the program says of the rows of a table before any is done
   row_checks      whether the values that rows set are refused
   replacements    search and replace in terms and notes, as rows

@@ -20,8 +20,6 @@ from thesaurus_tools.table_store import KIND_OF_LABEL
 # field, the language, and whose it is.
 REPLACE = "replace"
 HEADING = ("old", "new", "what", "language", "concept")
-# How many rows one search has at most: each is shown.
-MOST = 500
 OWNERS = ", ".join(str(KIND_NUMBER[it]) for it in ("concept", "collection", "scheme"))
 # What is found: texts with either case of the first letter, in a language or all, of a scheme or all.
 FOUND = f"""
@@ -61,13 +59,11 @@ class Replacement:
         return first + self.new[1:] if is_other else self.new
 
     def rows(self, replica: Replica) -> list[Row]:
-        """Returns a row for each text in which something is replaced: one more than shown, if there are more."""
+        """Returns a row for each text in which something is replaced."""
         found: list[Row] = []
         for owner, place, tag, text in self.texts(replica):
             if (new := self.replaced(text)) != text:
                 found.append(Row(len(found) + 1, [text, new, place, tag, str(owner)]))
-            if len(found) > MOST:
-                break
         return found
 
     def texts(self, replica: Replica) -> Iterator[tuple[int, str, str, str]]:

@@ -18,6 +18,7 @@ from thesaurus_desk.store.copies import StoreBusy
 from thesaurus_desk.store.plan_outcome import Outcome
 from thesaurus_desk.store.program import LONGEST_PLAN, NoAnswer, Program, TooLong
 from thesaurus_desk.store.replica import Replica
+from thesaurus_desk.store.run_threads import Report
 from thesaurus_desk.store.trial import number_of_outside
 from thesaurus_tools.command_line import ToolError
 from thesaurus_tools.one_plan import resolve_names
@@ -42,7 +43,7 @@ class UnclearAnswer(Exception):
     """It isn't known which of several rows is meant by an answer, or their line is too long: fewer are to be sent."""
 
 
-def try_rows(desk: Desk, rows: Sequence[RowPlan]) -> dict[int, Outcome | None]:
+def try_rows(desk: Desk, rows: Sequence[RowPlan], report: Report | None = None) -> dict[int, Outcome | None]:
     """Returns which rows would be refused if all were done in their order, by their lines: with what comes of each; or
     with None, if it needs what another row would have made. Raises NoTrial."""
     count = sum(it["do"] != "set" for row in rows for it in row.requests)
@@ -50,9 +51,9 @@ def try_rows(desk: Desk, rows: Sequence[RowPlan]) -> dict[int, Outcome | None]:
     try:
         if count <= LONGEST_PLAN:
             with contextlib.suppress(UnclearAnswer):
-                return RowTrial(desk.program, desk.replica, checks).refusals(rows)
+                return RowTrial(desk.program, desk.replica, checks).refusals(rows, report)
         with program_on_copy(desk) as program:
-            return CopyTrial(program, desk.replica, checks).refusals(rows)
+            return CopyTrial(program, desk.replica, checks).refusals(rows, report)
     except (NoAnswer, ToolError) as error:
         raise NoTrial("Closed") from error
     except StoreBusy:
@@ -115,7 +116,7 @@ class RowTrial:
         self.before: list[Request] = []
         self.named: dict[Any, Any] = {}
 
-    def refusals(self, rows: Sequence[RowPlan]) -> dict[int, Outcome | None]:
+    def refusals(self, rows: Sequence[RowPlan], report: Report | None = None) -> dict[int, Outcome | None]:
         """Returns which rows are refused. Raises NoAnswer, and UnclearAnswer."""
         found: dict[int, Outcome | None] = {}
         at, most = 0, LONGEST_PLAN
@@ -127,6 +128,8 @@ class RowTrial:
             if is_refused:
                 found[rows[at].line] = refusal
                 at += 1
+            if report:
+                report(at, None, len(rows))
             # (behind a refused row there are often more, and what is sent with one is sent again)
             most = 1 if is_refused else min(2 * most, LONGEST_PLAN)
         return found

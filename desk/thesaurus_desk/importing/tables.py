@@ -1,4 +1,4 @@
-"""Tables of changes: read, shown row by row, and performed, each row as one plan."""
+"""Tables of changes: read, and shown row by row with what each would do."""
 from __future__ import annotations
 
 import hashlib
@@ -15,16 +15,16 @@ from markupsafe import Markup
 
 from thesaurus_desk.auth.roles import Role
 from thesaurus_desk.importing.replacements import REPLACE, replacing
-from thesaurus_desk.importing.request_series import LONGEST_PLAN, RequestSeries
+from thesaurus_desk.importing.request_series import LONGEST_PLAN
 from thesaurus_desk.importing.row_trial import try_rows
 from thesaurus_desk.journal import Batch
-from thesaurus_desk.journal.batches import pack
 from thesaurus_desk.journal.edit_conflicts import is_as_seen
 from thesaurus_desk.journal.rights import Rights
 from thesaurus_desk.journal.values import Request, Values, source_of, text_of
 from thesaurus_desk.journal.values import Value as HeldValue
 from thesaurus_desk.store.plan_execution import Desk, Outcome
 from thesaurus_desk.store.replica import Replica
+from thesaurus_desk.store.run_threads import Report
 from thesaurus_desk.words import Words
 from thesaurus_tools.concept_finder import RowError
 from thesaurus_tools.conversion import ReportRow
@@ -197,12 +197,12 @@ def lacking(wanted: Request, held: Sequence[HeldValue], field: Field) -> Request
     return wanted if field.is_many or not held else None
 
 
-def preview_rows(desk: Desk, run: TableRun, bringer: Importer) -> None:
+def preview_rows(desk: Desk, run: TableRun, bringer: Importer, report: Report | None = None) -> None:
     """Notes what the rows ask for, and which would be refused, as it is shown before it is performed. Raises
     NewConceptsError and NoTrial."""
     run.last = desk.journal.last_plan()
     plan_rows(run, desk.replica, desk.values, bringer)
-    refused = try_rows(desk, [rows[-1] for rows in with_others(run.plans) if can_be_done(rows[-1])])
+    refused = try_rows(desk, [rows[-1] for rows in with_others(run.plans) if can_be_done(rows[-1])], report)
 
     def reason_of_trial(row: RowPlan) -> str:
         outcome = refused.get(row.line)
@@ -242,34 +242,6 @@ def reason_in_words(error: RowError, words: Words) -> str:
     return words(f"rows.{error.key}", **{**error.values, **kinds})
 
 
-def run_table(desk: Desk, run: TableRun, bringer: Importer) -> None:
-    """Performs the rows of a table, each as one plan, and notes why rows were refused; the others are done.
-
-    A row that would do something else than was shown, or what it changes was changed by another plan since, isn't
-    done."""
-    shown = {it.line: it.requests for it in run.plans}
-    refused = {it.line: it.reason for it in run.plans if it.reason}
-    touched = {it.line for it in run.plans if desk.seen.since_of(it.requests, run.last)}
-    plan_rows(run, desk.replica, desk.values, bringer)
-    run.batch = run.batch or Batch(run.name, run.digest, len(run.rows), pack(left_of(run)))
-    names = RequestSeries(desk, bringer.name, "table", batch=run.batch)
-
-    def done(row: RowPlan) -> str:
-        if not can_be_done(row) or row.line in refused:
-            return row.reason or refused.get(row.line, "")
-        is_as_shown = row.requests == shown.get(row.line) and row.line not in touched
-        return perform_row(names, row, bringer) if is_as_shown else bringer.words("bring_in.changed")
-
-    try:
-        run.plans = with_reasons(run.plans, done)
-        run.batch.refused = sum(bool(it.reason) for it in run.plans)
-        desk.batches.end(run.batch, refused_rows(run) if run.batch.refused else ())
-    finally:
-        desk.batches.left(run.batch)
-    run.numbers = names.numbers
-    run.is_done = True
-
-
 def refused_rows(run: TableRun) -> list[list[str]]:
     """Returns the rows of a table that were refused as a table again, with a column of reasons."""
     return [[*run.heading, "reason"], *([*it.cells, plain(it.reason)] for it in run.plans if it.reason)]
@@ -278,12 +250,3 @@ def refused_rows(run: TableRun) -> list[list[str]]:
 def plain(reason: str) -> str:
     """Returns a reason without the links in it."""
     return reason.striptags() if isinstance(reason, Markup) else reason
-
-
-def perform_row(names: RequestSeries, row: RowPlan, bringer: Importer) -> str:
-    """Performs a row. Returns why it was refused, or nothing."""
-    try:
-        outcome = names.perform(row.requests)
-    except KeyError:
-        return bringer.words("bring_in.needs")
-    return "" if outcome.is_done else bringer.tell(outcome)

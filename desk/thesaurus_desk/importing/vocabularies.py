@@ -160,7 +160,7 @@ def number_done(desk: Desk, names: RequestSeries, requests: Sequence[dict[str, A
         if "as" in request:
             names.numbers[request["as"]] = answer.get("ok", answer.get("again"))
     if names.batch and names.batch.plan:
-        desk.batches.running.add(names.batch.plan)
+        desk.batches.begin(names.batch.plan)
     return len(steps)
 
 

@@ -5,6 +5,7 @@
   references      references in a plan to what its earlier requests make
   history         the plans of a resource, a user, a kind or a time; dates; CSV
   batches         files that are brought in by several plans
+  runs            how far tables are that are tried or performed
   proposals       proposals and comments
   queue           the records that are to be indexed, and what the head settles of it
   record_texts    what the catalogue says of records: titles, texts, links

@@ -6,7 +6,7 @@ import json
 import sqlite3
 import zlib
 from collections.abc import Sequence
-from dataclasses import dataclass, field
+from dataclasses import dataclass
 from typing import Any
 
 from thesaurus_desk.journal.entries import Batch, Journal, Plan, Step
@@ -37,21 +37,27 @@ class Batches:
     """Looks up files, and keeps what becomes of them."""
 
     journal: Journal
-    # The first plans of those that are under way in this process.
-    running: set[int] = field(default_factory=set)
+
+    def begin(self, plan: int) -> None:
+        """Notes that a file is under way, by its first plan."""
+        self.journal.note(("INSERT OR IGNORE INTO under_way VALUES (?)", plan))
+
+    def is_under_way(self, plan: int | None) -> bool:
+        """Whether a file is under way, by its first plan."""
+        return self.journal.one("SELECT 1 FROM under_way WHERE plan = ?", plan) is not None
 
     def begun(self, batch: Batch, plan: int, is_done: bool) -> None:
         """Notes the first plan of a file; one that wasn't performed is none."""
         if is_done:
             batch.plan = plan
-            self.running.add(plan)
+            self.begin(plan)
         else:
             with self.journal.writing() as rows:
                 rows.execute("DELETE FROM batch WHERE plan = ?", (plan,))
 
     def left(self, batch: Batch) -> None:
         """Notes that a file is no longer under way, be it done or cut short."""
-        self.running.discard(batch.plan or 0)
+        self.journal.note(("DELETE FROM under_way WHERE plan = ?", batch.plan or 0))
 
     def end(self, batch: Batch, refused: Sequence[Sequence[str]] = ()) -> None:
         """Notes that a file is done, how many of its rows were refused, and these as a table, with its heading."""
@@ -60,6 +66,9 @@ class Batches:
             with self.journal.writing() as rows:
                 values = (batch.refused, batch.plan)
                 rows.execute("UPDATE batch SET is_done = 1, rest = NULL, refused = ? WHERE plan = ?", values)
+                rows.execute(
+                    "DELETE FROM plan_row WHERE plan IN (SELECT id FROM plan WHERE ?1 IN (id, first))", values[1:]
+                )
                 if kept:
                     rows.execute("INSERT OR REPLACE INTO refused VALUES (?, ?)", (batch.plan, kept))
         self.left(batch)
@@ -84,8 +93,8 @@ class Batches:
 
     def cut(self) -> list[Batch]:
         """Returns the files that were cut short: neither done nor under way, and not taken back."""
-        found = map(batch_of, self.journal.all(f"{FOUND} WHERE is_done = 0 AND {STANDING} ORDER BY plan.id"))
-        return [it for it in found if it.plan not in self.running]
+        is_left = "is_done = 0 AND plan.id NOT IN (SELECT plan FROM under_way)"
+        return [*map(batch_of, self.journal.all(f"{FOUND} WHERE {is_left} AND {STANDING} ORDER BY plan.id"))]
 
     def first(self, query: str, *values: object) -> Batch | None:
         """Returns the first file that a query finds."""
@@ -102,6 +111,11 @@ class Batches:
         first = self.journal.plan(batch.plan) if batch.plan else None
         parts = self.journal.parts(first) if first else []
         return [step for part in parts if part.state == "done" for step in part.steps]
+
+    def rows_done(self, batch: Batch) -> set[int]:
+        """Returns the lines of the rows of a table that were done."""
+        query = "SELECT line FROM plan_row JOIN plan ON plan.id = plan WHERE (id = ?1 OR first = ?1) AND state = 'done'"
+        return {int(it["line"]) for it in self.journal.all(query, batch.plan)}
 
     def counts(self, plan: Plan) -> tuple[int, int]:
         """Returns how many parts of a plan were done, and how many steps they have."""

@@ -100,6 +100,8 @@ class Batch:
     action: str = ""
     refused: int = 0
     is_done: bool = False
+    # The lines of the rows that its next plan does.
+    lines: Sequence[int] = ()
 
 
 @dataclass(slots=True)
@@ -116,6 +118,8 @@ class Draft:
     batch: Batch | None = None
     # The changes of rows that it will make; None if they aren't known.
     changes: Sequence[Change] | None = None
+    # The lines of the rows of a table that it does.
+    lines: Sequence[int] = ()
 
 
 def write_digest(rows: sqlite3.Connection, digest: str) -> None:
@@ -168,6 +172,7 @@ class Journal(Database):
             if it := draft.batch:
                 about = (plan, it.name, it.digest, it.size, it.refused, it.rest)
                 rows.execute("INSERT OR REPLACE INTO batch VALUES (?, ?, ?, ?, ?, 0, ?)", about)
+            rows.executemany("INSERT INTO plan_row VALUES (?, ?)", [(plan, it) for it in draft.lines])
             rows.execute("UPDATE sent SET plan = ? WHERE key = ? AND plan IS NULL", (plan, sent_form.get()))
             rows.executemany(
                 "INSERT INTO step VALUES (?, ?, 'sent', ?, NULL, ?, ?, ?)",
@@ -316,6 +321,12 @@ class Journal(Database):
         """Returns the plans after one that changed a resource, in their order."""
         which = "number = ? AND id > ? AND state = 'done' ORDER BY id"
         return self.plans(f"SELECT plan.* FROM plan JOIN concern ON plan = id WHERE {which}", number, plan)
+
+    def others_since(self, plan: int, batch: int) -> list[Plan]:
+        """Returns the plans after one that were done and are no parts of a file, which its first plan names, in their
+        order."""
+        which = "id > ? AND coalesce(first, id) <> ? AND state = 'done' ORDER BY id"
+        return self.plans(f"SELECT * FROM plan WHERE {which}", plan, batch)
 
     def later_than(self, plans: Sequence[Plan]) -> list[tuple[int, int]]:
         """Returns what others have changed since of the resources that the parts of a plan concern: pairs of a resource

@@ -20,7 +20,7 @@ NAMES = {
 }
 # Rows that go with the name: what someone watches, and what is kept for some time only.
 ROWS = {
-    **dict.fromkeys(("watch", "watcher", "upload"), "user = ?"),
+    **dict.fromkeys(("watch", "watcher", "upload", "run"), "user = ?"),
     **dict.fromkeys(("sign_in", "failure"), "name = ?"),
     "error": "instr(text, ?)",
 }

@@ -6,8 +6,8 @@ from collections.abc import Iterable
 from dataclasses import dataclass
 
 from thesaurus_desk.journal.schema import Database
-from thesaurus_desk.store.stems import ALL_SMALL, language_of, stem
 from thesaurus_desk.store.text_keys import WORD, fold
+from thesaurus_tools.stems import ALL_SMALL, language_of, stem
 
 # The most characters of a title and of a text that are kept.
 LONGEST_TITLE, LONGEST_TEXT = 1000, 20_000
@@ -74,6 +74,19 @@ class RecordTexts:
         """Returns what is kept of a record."""
         row = self.journal.one("SELECT record, title, text, link FROM record_text WHERE record = ?", record)
         return RecordText(*row) if row else None
+
+    def titled(self, query: str, most: int) -> list[str]:
+        """Returns the records whose titles have all words of a query, of which the last may be begun, best first."""
+        words = [f'"{it}"' for it in WORD.findall(query)]
+        if not words:
+            return []
+        found = self.journal.all(
+            "SELECT record FROM record_title JOIN record_text ON id = record_title.rowid WHERE record_title MATCH ?"
+            " ORDER BY record_title.rank, record LIMIT ?",
+            f"{' '.join(words)}*",
+            most,
+        )
+        return [str(it["record"]) for it in found]
 
     def title(self, record: str) -> str:
         """Returns the title of a record; nothing if none is known."""

@@ -54,10 +54,10 @@ CREATE INDEX comment_number ON comment (number);
 """
 # A journal of an earlier desk lacks these tables, and a desk that is earlier doesn't miss them, so they need no other
 # version: proposals whose authors haven't read how they were decided; the proposals that plans perform; when plans
-# ended; forms that were sent, with what came of them; files that several plans bring in, and their rows that were
-# refused, with the reasons; the changes of rows that plans make; numbers that may be another resource's; the digest of
-# the store after the last plan; what was decided of mappings; the records that are to be indexed; what was counted on
-# each day; what people watch; and what visitors propose.
+# ended; forms that were sent, with what came of them; files that several plans bring in, which of their rows each plan
+# does, and those that were refused, with the reasons; the changes of rows that plans make; numbers that may be another
+# resource's; the digest of the store after the last plan; what was decided of mappings; the records that are to be
+# indexed; what was counted on each day; what people watch; and what visitors propose.
 LATER_TABLES = """
 CREATE TABLE IF NOT EXISTS unread (proposal INTEGER PRIMARY KEY REFERENCES proposal (id)) STRICT;
 CREATE TABLE IF NOT EXISTS accepting (
@@ -69,6 +69,9 @@ CREATE TABLE IF NOT EXISTS batch (
 CREATE INDEX IF NOT EXISTS batch_digest ON batch (digest);
 CREATE TABLE IF NOT EXISTS refused (plan INTEGER PRIMARY KEY REFERENCES plan (id), rows BLOB NOT NULL) STRICT;
 CREATE INDEX IF NOT EXISTS plan_first ON plan (first) WHERE first IS NOT NULL;
+-- which rows of a table plans do, until all are done
+CREATE TABLE IF NOT EXISTS plan_row (plan INTEGER NOT NULL, line INTEGER NOT NULL, PRIMARY KEY (plan, line)) STRICT,
+  WITHOUT ROWID;
 CREATE TABLE IF NOT EXISTS ended (plan INTEGER PRIMARY KEY REFERENCES plan (id), at TEXT NOT NULL) STRICT;
 CREATE INDEX IF NOT EXISTS ended_at ON ended (at);
 CREATE TABLE IF NOT EXISTS sent (key TEXT PRIMARY KEY, at TEXT NOT NULL, plan INTEGER, path TEXT) STRICT, WITHOUT ROWID;
@@ -127,13 +130,24 @@ CREATE VIRTUAL TABLE IF NOT EXISTS record_fts USING fts5 (
 CREATE VIRTUAL TABLE IF NOT EXISTS record_word USING fts5vocab (record_fts, row);
 CREATE TRIGGER IF NOT EXISTS record_text_new AFTER INSERT ON record_text BEGIN
   INSERT INTO record_fts (rowid, words) VALUES (new.id, new.words); END;
+-- the words of their titles, by which they are searched
+CREATE VIRTUAL TABLE IF NOT EXISTS record_title USING fts5 (
+  title, content='record_text', content_rowid='id', tokenize="unicode61 remove_diacritics 2", prefix='2 3');
+CREATE TRIGGER IF NOT EXISTS record_title_new AFTER INSERT ON record_text BEGIN
+  INSERT INTO record_title (rowid, title) VALUES (new.id, new.title); END;
+CREATE TRIGGER IF NOT EXISTS record_title_gone AFTER DELETE ON record_text BEGIN
+  INSERT INTO record_title (record_title, rowid, title) VALUES ('delete', old.id, old.title); END;
+CREATE TRIGGER IF NOT EXISTS record_title_changed AFTER UPDATE OF title ON record_text BEGIN
+  INSERT INTO record_title (record_title, rowid, title) VALUES ('delete', old.id, old.title);
+  INSERT INTO record_title (rowid, title) VALUES (new.id, new.title); END;
+INSERT INTO record_title (record_title) SELECT 'rebuild' WHERE NOT EXISTS (SELECT 1 FROM record_title_docsize);
 CREATE TRIGGER IF NOT EXISTS record_text_gone AFTER DELETE ON record_text BEGIN
   INSERT INTO record_fts (record_fts, rowid, words) VALUES ('delete', old.id, old.words); END;
 CREATE TRIGGER IF NOT EXISTS record_text_changed AFTER UPDATE ON record_text BEGIN
   INSERT INTO record_fts (record_fts, rowid, words) VALUES ('delete', old.id, old.words);
   INSERT INTO record_fts (rowid, words) VALUES (new.id, new.words); END;
 """
-TABLES_OF_RECORDS = ("record_word", "record_fts", "record_text")
+TABLES_OF_RECORDS = ("record_word", "record_fts", "record_title", "record_text")
 # The fields that an office has made, what its head has settled, and the values of all fields, with their words and what
 # is within these. Like those above; an index by the texts of notations alone, as definitions are long.
 VALUES = """
@@ -153,12 +167,17 @@ INSERT INTO value_parts (rowid, fold) SELECT rowid, fold FROM value_words
   WHERE NOT EXISTS (SELECT 1 FROM value_parts);
 """
 # What a restart mustn't lose, and no backup needs: passwords that were wrong, who came in lately, what is looked at
-# before it is performed, and errors of the log.
+# before it is performed, errors of the log, how far tables are that are tried or performed, and the first plans of the
+# files that are under way.
 WORKING = {
     "failure": "address TEXT, name TEXT, count INTEGER NOT NULL, last REAL NOT NULL, PRIMARY KEY (address, name)",
     "sign_in": "id INTEGER PRIMARY KEY, at TEXT NOT NULL, name TEXT NOT NULL, address TEXT NOT NULL, what TEXT",
     "upload": "name TEXT PRIMARY KEY, user TEXT NOT NULL, at TEXT NOT NULL, rows INTEGER NOT NULL, data BLOB NOT NULL",
     "error": "id INTEGER PRIMARY KEY, at TEXT NOT NULL, text TEXT NOT NULL",
+    "run": "name TEXT PRIMARY KEY, user TEXT NOT NULL, at TEXT NOT NULL, title TEXT NOT NULL,"
+    " is_trial INTEGER NOT NULL, size INTEGER NOT NULL, done INTEGER NOT NULL, state TEXT NOT NULL, plan INTEGER,"
+    " result TEXT NOT NULL",
+    "under_way": "plan INTEGER PRIMARY KEY",
 }
 # The state that names the plan under way.
 UNDER_WAY = "under way"
@@ -272,6 +291,9 @@ class Database:
         for table, columns in WORKING.items():
             self.rows.execute(f"CREATE TABLE IF NOT EXISTS {table} ({columns}) STRICT")
         self.rows.execute("DELETE FROM state WHERE name = ?", (UNDER_WAY,))
+        # (what an earlier desk had under way was cut short)
+        self.rows.execute("UPDATE run SET state = 'cut' WHERE state = 'running'")
+        self.rows.execute("DELETE FROM under_way")
         self.rows.execute("DELETE FROM sent WHERE at < ?", (time_text(datetime.now(UTC) - SENT_FOR),))
         self.open_reader()
         self.mark = mark_of(self.path)

@@ -1,4 +1,5 @@
-"""Loads a dump that was sent to the desk: by the tool, in a process of its own, while pages are there."""
+"""Loads a dump that was sent to the desk, or removes a vocabulary: by the tool, in a process of its own, while pages
+are there."""
 from __future__ import annotations
 
 import subprocess
@@ -19,7 +20,8 @@ SHOWN = 12
 
 @dataclass
 class Load:
-    """A dump that is being loaded, or was: what the tool said, and whether it was done."""
+    """A dump that is being loaded, or was: what the tool said, and whether it was done. Without a file, a vocabulary
+    that is removed."""
 
     name: str
     file: str
@@ -29,7 +31,7 @@ class Load:
 
 
 class Loads:
-    """Loads one dump at a time."""
+    """Loads one dump at a time, or removes a vocabulary."""
 
     def __init__(self, store: Path, decisions: Decisions) -> None:
         self.store, self.decisions = store, decisions
@@ -39,25 +41,34 @@ class Loads:
 
     def start(self, name: str, file: str, data: bytes) -> bool:
         """Begins to load a dump, and waits a little for it. Reports False, and does nothing, while one is loaded."""
+        return self.begin(Load(name, file), data)
+
+    def remove(self, name: str) -> bool:
+        """Begins to remove a vocabulary, as `start` loads one."""
+        return self.begin(Load(name, ""), b"")
+
+    def begin(self, load: Load, data: bytes) -> bool:
+        """Begins with a load, unless one is under way."""
         with self.lock:
             if self.last and not self.last.is_over:
                 return False
-            load = self.last = Load(name, file)
+            self.last = load
         thread = threading.Thread(target=self.run, args=(load, data), name="load", daemon=True)
         thread.start()
         thread.join(PATIENCE)
         return True
 
     def run(self, load: Load, data: bytes) -> None:
-        """Loads a dump, and notes what came of it."""
+        """Loads a dump, or removes a vocabulary, and notes what came of it."""
         try:
             with tempfile.TemporaryDirectory() as folder:
                 path = Path(folder, "dump" + "".join(Path(load.file.lower()).suffixes[-2:]).replace("/", ""))
                 path.write_bytes(data)
-                command = [sys.executable, str(TOOL), str(path), "--db", str(self.store), "--name", load.name]
-                ran = subprocess.run(
-                    [*command, "--called", load.file], capture_output=True, text=True, timeout=LONGEST, check=False
+                words = (
+                    [str(path), "--name", load.name, "--called", load.file] if load.file else ["--remove", load.name]
                 )
+                command = [sys.executable, str(TOOL), "--db", str(self.store), *words]
+                ran = subprocess.run(command, capture_output=True, text=True, timeout=LONGEST, check=False)
             lines = ran.stderr.replace(str(path), load.file).splitlines()
             load.said = [it.removeprefix("load-vocabulary: ") for it in lines[-SHOWN:]]
             load.is_done = ran.returncode == 0

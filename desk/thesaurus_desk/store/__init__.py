@@ -14,7 +14,6 @@
   arrays             where collections are in the hierarchy, and what is below a concept with them
   search             labels by their beginning, by words, with a typing error, by parts of words; notes
   postings           look-ups of postings and of records
-  stems              words without their endings, small words, and the language of a text
   label_matches      terms in a text
   record_suggestions concepts for a record: by its words, and by records alike
   suggestion_quality suggestions measured on indexed records
@@ -40,4 +39,5 @@
   health             how the desk is
   verdict            what a prover said of the program
   background_tasks   what is done beside the pages
+  run_threads        tables that are tried or performed by threads of their own
 """

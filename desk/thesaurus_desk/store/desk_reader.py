@@ -13,6 +13,7 @@ from thesaurus_desk.journal.queue import Queue
 from thesaurus_desk.journal.record_texts import RecordTexts
 from thesaurus_desk.journal.releases import Releases
 from thesaurus_desk.journal.rights import Rights, read_rights
+from thesaurus_desk.journal.runs import Runs
 from thesaurus_desk.journal.schema import OfficeNeeded
 from thesaurus_desk.journal.undo import TakeBack, take_back
 from thesaurus_desk.journal.values import Values
@@ -35,6 +36,7 @@ class DeskReader:
         self.db, self.journal = db, journal
         self.history = History(journal)
         self.batches = Batches(journal)
+        self.runs = Runs(journal)
         self.values = Values(journal)
         self.arrays = Arrays(journal, self.values)
         self.releases = Releases(journal)

@@ -9,8 +9,8 @@ from dataclasses import dataclass, field
 from math import sqrt
 
 from thesaurus_desk.store.read_transactions import ReadTransactions
-from thesaurus_desk.store.stems import ALL_SMALL, SMALL_WORDS, forms, language_of, stem
 from thesaurus_desk.store.text_keys import WORD, fold
+from thesaurus_tools.stems import ALL_SMALL, SMALL_WORDS, forms, language_of, stem
 
 # The terms that are the very word of a text, and those that begin with it: the next sign is a space, a bracket, a
 # comma or a hyphen. Old codes and hidden labels are among them.

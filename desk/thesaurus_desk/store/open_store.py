@@ -26,6 +26,7 @@ from thesaurus_desk.store.plan_outcome import Outcome
 from thesaurus_desk.store.program import LAST_LINE, PATIENCE, Program
 from thesaurus_desk.store.public_view import update_public_view
 from thesaurus_desk.store.resources import counts_of
+from thesaurus_desk.store.run_threads import RunThreads
 from thesaurus_desk.store.upkeep import Upkeep
 from thesaurus_tools.command_line import ToolError
 from thesaurus_tools.limits import most_resources
@@ -84,8 +85,11 @@ class OpenStore(DeskReader):
         self.most_resources = most_resources(options)
         # Held for a whole plan.
         self.lock = threading.RLock()
-        # For those who wait for more than a plan.
+        # For those who wait for more than a plan; and how many wait at all.
         self.places = threading.Semaphore(MOST_WAITING)
+        self.waiting: set[int] = set()
+        # Tables that are tried or performed beside the pages.
+        self.threads = RunThreads(self.runs)
         # What came of plans while the journal couldn't be written, with the changes of rows that they have made.
         self.unwritten: list[tuple[Outcome, set[int], Sequence[Change]]] = []
         # The log of the store, and the marks of both files, and of the log, as the program left them.
@@ -148,6 +152,7 @@ class OpenStore(DeskReader):
 
     def stop(self) -> None:
         """Ends the program, notes the digest of the store, and closes the journal."""
+        self.threads.stop()
         if self.is_opening:
             self.program.kill()
         with self.lock:
@@ -314,12 +319,16 @@ class OpenStore(DeskReader):
 
         Who waits holds the thread of a reader: all may wait for other plans, and few for what takes longer, as an
         import does."""
-        is_free = self.lock.acquire(timeout=0 if self.is_opening else WAIT_FOR_PLAN)
-        if not is_free and not self.is_opening and self.places.acquire(blocking=False):
-            try:
-                is_free = self.lock.acquire(timeout=WAIT_FOR_LONG)
-            finally:
-                self.places.release()
+        self.waiting.add(threading.get_ident())
+        try:
+            is_free = self.lock.acquire(timeout=0 if self.is_opening else WAIT_FOR_PLAN)
+            if not is_free and not self.is_opening and self.places.acquire(blocking=False):
+                try:
+                    is_free = self.lock.acquire(timeout=WAIT_FOR_LONG)
+                finally:
+                    self.places.release()
+        finally:
+            self.waiting.discard(threading.get_ident())
         # (what others have changed since the page began to be made is seen)
         self.replica.renew()
         try:
@@ -327,6 +336,12 @@ class OpenStore(DeskReader):
         finally:
             if is_free:
                 self.lock.release()
+
+    def let_others(self) -> None:
+        """Waits until those who wait for the lock have it, for one who takes it again and again."""
+        end = time.monotonic() + WAIT_FOR_PLAN
+        while self.waiting and time.monotonic() < end:
+            time.sleep(0.001)
 
     def note_mark(self) -> None:
         """Notes that the replica is that of the store as it is now."""

@@ -84,7 +84,10 @@ class Desk(OpenStore):
                 steps = [Step(resolve_request(it, names)) for it in requests[first : first + LONGEST_PLAN]]
                 before = whole.plan or (batch.plan if batch else None)
                 is_first = batch if batch and not batch.plan else None
-                part = self.perform_part(Draft(user, action, steps, accepted, takes_back, before, is_first))
+                lines = batch.lines if batch else ()
+                part = self.perform_part(
+                    Draft(user, action, steps, accepted, takes_back, before, is_first, None, lines)
+                )
                 if is_first and part.plan:
                     self.batches.begun(is_first, part.plan, part.is_done)
                 whole.steps += part.steps
@@ -255,7 +258,7 @@ class Desk(OpenStore):
         first = self.journal.plan(batch.plan or 0)
         if first is None or first.takes_back is None:
             raise ValueError(f"plan {batch.plan} takes no plan back")
-        self.batches.running.add(first.id)
+        self.batches.begin(first.id)
         done = self.batches.done(batch)
         rest = requests[len(done) :]
         numbers = [(it.answer or {}).get("ok") for it in done]

@@ -115,6 +115,14 @@ class ReadTransactions:
         for rows in opened:
             rows.close()
 
+    def leave(self) -> None:
+        """Closes the connection of the thread, which ends."""
+        rows, self.local.rows, self.local.moment = self.local.rows, None, None
+        if rows is not None:
+            with self.lock:
+                self.opened = [it for it in self.opened if it is not rows]
+            rows.close()
+
     def all(self, query: str, *values: Any) -> list[Row]:
         """Returns the rows that a query finds; none for a number or a text that no row can have."""
         try:

@@ -19,6 +19,7 @@
   concept_choice     the concept that a field of a form names
   tick_lists         ticks in a long list: of postings, of concepts
   posting_keys       keys of postings that no person has given
+  record_views       which records a search finds, and the concepts of one
   record_forms       the form for all concepts of a record, and the plan that it asks for
   open_records       who has which record open
   annif              concepts for a text, by another service
@@ -32,6 +33,8 @@
   value_search       what a search finds in definitions and notes, and by notations
   value_copies       what becomes of the values of a concept that is merged or split
   resource_history   what the journal says of a resource
+  table_pages        the pages of tables: what each row would do, or what came of it
+  background         what takes long goes on by a thread of its own
   table_columns      what the columns of a table hold, in the reader's words
   list_forms         lists as tables, and with ticks for what is done with many at once
   spreadsheets       lists of resources as tables

@@ -63,7 +63,8 @@ PAGES = (
     *("home", "search", "tree", "lists", "print_displays", "account", "users", "rights", "for_me", "visitors"),
     *("concept", "edit", "values", "work", "own_fields", "create", "arrays", "move", "merge", "split"),
     *("records", "reindex", "indexing", "queue", "list_tables", "mapping"),
-    *("changes", "past", "releases", "downloads", "proposals", "imports", "replacement", "bulk_changes", "state"),
+    *("changes", "past", "releases", "downloads", "proposals", "imports", "runs"),
+    *("replacement", "bulk_changes", "state"),
     *("about", "help", "api"),
 )
 # The pages in the navigation: route, key of its words, the lowest role that sees it, or the act that it is for.

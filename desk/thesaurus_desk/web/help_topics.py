@@ -81,6 +81,7 @@ TASKS = tuple(
 OF_BLUEPRINTS = {
     "create": "new",
     "imports": "import",
+    "runs": "import",
     "own_fields": "fields",
     "values": "lists",
     "work": "lists",

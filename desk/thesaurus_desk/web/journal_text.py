@@ -118,8 +118,10 @@ def tell_whole(plan: Plan) -> tuple[str, int]:
         text = say(f"changes.{'table' if plan.action == 'table' else 'vocabulary'}", name=batch.name, n=steps)
     if batch and batch.refused:
         text = f"{text} {say('bring_in.refused', n=batch.refused)}"
-    is_cut = batch is not None and not batch.is_done and batch.plan not in batches.running
-    return (f"{text} {say('changes.was_cut')}" if is_cut else text), others
+    if batch is None or batch.is_done:
+        return text, others
+    how = "is_under_way" if batches.is_under_way(batch.plan) else "was_cut"
+    return f"{text} {say(f'changes.{how}')}", others
 
 
 def tell_restored(note: str) -> str | Markup:

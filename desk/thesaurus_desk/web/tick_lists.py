@@ -8,9 +8,10 @@ from dataclasses import dataclass
 from flask import request
 from markupsafe import Markup
 
+from thesaurus_desk.store.model import Posting
 from thesaurus_desk.store.text_keys import fold
 from thesaurus_desk.web.concept_choice import is_number
-from thesaurus_desk.web.context import record_name, tags, term, the_replica
+from thesaurus_desk.web.context import record_name, record_title, tags, term, the_replica
 from thesaurus_desk.web.posting_keys import posting_name
 
 PAGE = 100
@@ -110,9 +111,14 @@ def ticks_of(concept: int) -> TickList:
 
 
 def filtered_postings(numbers: Sequence[int], folded: str) -> list[int]:
-    """Returns the postings whose records or keys have a folded text."""
+    """Returns the postings that have a folded text in their keys, or in the names or titles of their records."""
     found = the_replica().postings.several(list(numbers))
-    return [it.number for it in found if folded in fold(it.record) or folded in fold(it.key)]
+    return [it.number for it in found if any(folded in fold(one) for one in texts_of(it))]
+
+
+def texts_of(it: Posting) -> tuple[str, ...]:
+    """Returns the texts by which a posting is found in a list."""
+    return it.record, it.key, record_title(it.record)
 
 
 # --- concepts ---
@@ -151,10 +157,10 @@ def ticked_numbers(name: str) -> set[int]:
     return {int(it) for it in request.form.getlist(name) if is_number(it)}
 
 
-def page_of(text: str, count: int) -> int:
+def page_of(text: str, count: int, size: int = PAGE) -> int:
     """Returns the page that a form asks for, if there is such a one, or else the last."""
     wanted = int(text) if re.fullmatch("[0-9]{1,7}", text) else 0
-    return max(0, min(wanted, (count - 1) // PAGE))
+    return max(0, min(wanted, (count - 1) // size))
 
 
 def ranges_of(numbers: Iterable[int]) -> str:

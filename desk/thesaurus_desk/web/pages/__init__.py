@@ -22,6 +22,7 @@
   indexing        one record at a time, with all its concepts
   queue           the records that are to be indexed
   imports         posting files, tables and vocabularies
+  runs            how far a table is that is tried or performed
   bulk_changes    what is done with many concepts at once
   replacement     search and replace in terms and notes
   changes         the journal, and taking a change back

@@ -9,17 +9,17 @@ from typing import Any
 from flask import Blueprint, abort, request
 
 from thesaurus_desk.auth.route_roles import role
-from thesaurus_desk.importing.tables import TableRun, preview_rows
+from thesaurus_desk.importing.tables import TableRun
 from thesaurus_desk.web.concept_choice import choose, needs_choice
-from thesaurus_desk.web.context import field_words, own_path, say, tags, term, the_desk, the_replica
+from thesaurus_desk.web.context import field_words, own_path, say, tags, term, the_replica
 from thesaurus_desk.web.form_submission import problem_in
 from thesaurus_desk.web.forms import FormState
 from thesaurus_desk.web.list_forms import FORM, TERMS, fields_to_set, ticks_page
 from thesaurus_desk.web.pages.edit import form_text, given_text
-from thesaurus_desk.web.pages.imports import keep, table_page, the_importer
 from thesaurus_desk.web.pages.search import number_of
 from thesaurus_desk.web.pages.tree import whole_tree
 from thesaurus_desk.web.spreadsheets import sheet
+from thesaurus_desk.web.table_pages import show_preview
 from thesaurus_desk.web.tick_lists import is_looking, most_number, numbers_of, ticks_of_concepts
 from thesaurus_desk.web.work_views import APPROVED
 from thesaurus_tools.fields import STATUSES, tidy
@@ -72,8 +72,7 @@ def preview_bulk() -> Any:
     if act.wrong is not None:
         return ticks_page(numbers, act.wrong, 409)
     run = run_of(act, [it for it in ticked if it != act.without])
-    preview_rows(the_desk(), run, the_importer())
-    return table_page(run, keep(run), 200)
+    return show_preview(run)
 
 
 def run_of(act: Act, numbers: Sequence[int]) -> TableRun:

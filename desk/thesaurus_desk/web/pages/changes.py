@@ -2,6 +2,7 @@
 from __future__ import annotations
 
 from collections.abc import Iterable, Mapping
+from datetime import datetime, timedelta
 from functools import partial
 from typing import Any
 from urllib.parse import urlencode
@@ -29,6 +30,7 @@ CHANGED_PAGE, MOST_OF_ONE = 100, 20
 FORM = "back"
 # What the address of the journal may ask for.
 ASKED = ("concept", "by", "kind", "since", "until", "part_of")
+WEEK = 7
 # The name of other programs among the users. (No user has it.)
 OTHERS = " "
 # The kinds of changes that one may ask for, with their requests.
@@ -73,7 +75,14 @@ def changes() -> Any:
         kinds=KINDS,
         open_plans=tell_plans(the_desk().journal.open_plans()),
         has_take_back=has_take_back,
+        **days_asked(),
     )
+
+
+def days_asked() -> dict[str, str]:
+    """Returns the days that are asked for most: a week ago, and the first of this month; on that day, of the last."""
+    today = datetime.now().astimezone().date()
+    return {"week": str(today - timedelta(WEEK)), "first": str((today - timedelta(1)).replace(day=1))}
 
 
 def query_fields() -> dict[str, str]:

@@ -13,6 +13,7 @@ from thesaurus_desk.web.context import go, own_path, person, tags, the_desk, the
 from thesaurus_desk.web.help_topics import KEYS
 from thesaurus_desk.web.journal_text import tell_plans
 from thesaurus_desk.web.notices import warnings
+from thesaurus_desk.web.pages.changes import has_take_back
 from thesaurus_desk.web.work_views import list_counts, today
 from thesaurus_desk.words import LANGUAGES
 
@@ -71,6 +72,7 @@ def own_parts() -> dict[str, Any]:
     found = [(it, counts[it]) for it in FLAWS if counts.get(it)]
     return {
         "recent": tell_plans(the_desk().history.changes(MOST_RECENT)),
+        "has_take_back": has_take_back,
         "work": list_counts(),
         "proposed": the_desk().proposals.count_open() if person().may("editor") else 0,
         "day": day,

@@ -2,28 +2,24 @@
 from __future__ import annotations
 
 from dataclasses import replace
-from typing import Any, cast
+from typing import Any
 
-from flask import Blueprint, Response, abort, current_app, redirect, render_template, request
+from flask import Blueprint, Response, abort, redirect, render_template, request
 from markupsafe import Markup
 
 from thesaurus_desk.auth.route_roles import role
 from thesaurus_desk.importing.export_rows import read_export_rows
 from thesaurus_desk.importing.posting_files import MOST_BYTES, PostingImport, Row
 from thesaurus_desk.importing.row_trial import NoTrial
-from thesaurus_desk.importing.skos_reports import Findings, Reader, by_rules, report_table
+from thesaurus_desk.importing.skos_reports import Findings, by_rules, report_table
 from thesaurus_desk.importing.tables import (
-    Importer,
     TableRun,
     plain,
-    preview_rows,
     read_sent_table,
     refused_rows,
-    run_table,
     table_error_in_words,
     table_of,
 )
-from thesaurus_desk.importing.uploads import Uploads
 from thesaurus_desk.importing.vocabularies import (
     ENDS,
     SkosError,
@@ -35,13 +31,11 @@ from thesaurus_desk.importing.vocabularies import (
     update_of,
     vocabulary_of,
 )
-from thesaurus_desk.journal.entries import Answer, Batch, Request
+from thesaurus_desk.journal.entries import Batch, Request
 from thesaurus_desk.store.copies import StoreBusy
 from thesaurus_desk.store.plan_execution import TAKE_BACK
 from thesaurus_desk.web.context import (
-    field_words,
     go,
-    link,
     may_act,
     person,
     say,
@@ -58,19 +52,26 @@ from thesaurus_desk.web.paths import concept_path, path_to
 from thesaurus_desk.web.refusals import explain
 from thesaurus_desk.web.request_text import sentence_of
 from thesaurus_desk.web.spreadsheets import sheet_of_rows
-from thesaurus_desk.web.table_columns import MOST_CHOICES, choices_of, chosen_columns, column_words, role_groups
-from thesaurus_desk.web.tick_lists import numbers_of, ranges_of, ticked_numbers
+from thesaurus_desk.web.table_columns import chosen_columns
+from thesaurus_desk.web.table_pages import (
+    SHOWN,
+    keep,
+    leave_out,
+    lines_left,
+    show_performance,
+    show_preview,
+    table_page,
+    the_reader,
+    the_uploads,
+)
 from thesaurus_tools.fields import table_fields
 from thesaurus_tools.files import TableError
 from thesaurus_tools.headings import ColumnsError
-from thesaurus_tools.row_runner import RowPlan
 from thesaurus_tools.table_plans import KINDS, NewConceptsError, TableOptions
 
 pages = Blueprint("imports", __name__)
 # A form with a file: the file, and some room for the rest.
 LARGEST = MOST_BYTES + (1 << 16)
-# How many rows a page shows.
-SHOWN = 500
 # The encodings of CSV that a form may name, beside those that a file shows itself.
 ENCODINGS = ("cp1252",)
 # The fields of a form that are sent again with its typed rows.
@@ -83,17 +84,6 @@ EXACT = {"": None, "exact": True, "add": False}
 def not_tried(error: NoTrial) -> Any:
     """Returns the forms with why the program can't say now what rows would do."""
     return refusal_answer("table", say(f"refusals.{error.fault}.text"), "")
-
-
-def the_uploads() -> Uploads:
-    """Returns what is kept for users until they go on."""
-    return cast(Uploads, current_app.extensions["uploads"])
-
-
-def keep(what: TableRun | SkosRun | PostingImport) -> str:
-    """Keeps something for the reader, and returns its name."""
-    rows = len(what.requests) + len(what.report) if isinstance(what, SkosRun) else len(what.rows)
-    return the_uploads().keep(person().name, what, rows)
 
 
 def has_two() -> bool:
@@ -126,6 +116,7 @@ def start_page(state: FormState, status: int) -> Any:
     page = render_template(
         "bring_in/start.html",
         state=state,
+        runs=the_desk().runs.of(person().name),
         schemes=schemes,
         kinds=kinds,
         encodings=encodings,
@@ -235,7 +226,7 @@ def preview_table() -> Any:
         )
         run.asked = {it: request.form[it] for it in KEPT_FIELDS if it in request.form}
         run.typed = "" if (sent := request.files.get("file")) and sent.filename else request.form.get("typed", "")
-        preview_rows(the_desk(), run, the_importer())
+        return show_preview(run)
     except ColumnsError as error:
         key = "columns_wrong" if error.roles else "columns_unknown"
         return refusal_answer("table", say(f"bring_in.{key}", roles=error.roles, names=error.names), "columns")
@@ -243,7 +234,6 @@ def preview_table() -> Any:
         return refusal_answer("table", table_error_in_words(error, name, words()))
     except NewConceptsError:
         return refusal_answer("table", say("bring_in.new_concepts"), "tag")
-    return table_page(run, keep(run), 200)
 
 
 @pages.post("/bring-in/table/columns")
@@ -255,101 +245,24 @@ def choose_columns() -> Any:
         return refusal_answer("table", say("bring_in.not_kept"), "")
     run = replace(run, columns=chosen_columns(run.columns, request.form), plans=[])
     try:
-        preview_rows(the_desk(), run, the_importer())
+        return show_preview(run)
     except NewConceptsError:
         return refusal_answer("table", say("bring_in.new_concepts"), "tag")
-    return table_page(run, keep(run), 200)
-
-
-def the_importer() -> Importer:
-    """Returns the reader as one who brings a table in."""
-    return Importer(person().name, person().role, the_rights(), words(), tell_outcome)
-
-
-def table_page(run: TableRun, name: str, status: int) -> Any:
-    """Returns the preview of a table, or what came of it."""
-    links = PageLinks(run.made)
-    telling = sorted((it for it in run.plans if it.reason or it.changes), key=lambda it: not it.reason)
-    shown = telling[:SHOWN]
-    # (a row that isn't shown can't be left out, nor one of a vocabulary or an export, which are compared anew)
-    has_ticks = not (run.is_done or run.vocabulary or run.exported) and len(shown) == len(telling)
-    lines = {
-        it.line: [sentence_of(one, answer_to(run, one), the_replica(), words(), links) for one in it.changes]
-        for it in shown
-        if not it.reason
-    }
-    unclear, others = choices_of(run.columns, run.rows)
-    before = None if run.is_done or run.batch else the_desk().batches.same(run.digest)
-    page = render_template(
-        "bring_in/table.html",
-        run=run,
-        report=by_rules(run.report, the_reader()),
-        unclear=unclear[:MOST_CHOICES],
-        others=others[:MOST_CHOICES],
-        groups=role_groups(run.columns),
-        before=before,
-        column_words=column_words,
-        rows=shown,
-        lines=lines,
-        moving=moving_records(run),
-        offered=ranges_of(it.line for it in shown if not it.reason) if has_ticks else "",
-        meant={it.line: meant_by(it) for it in shown if it.error},
-        changing=sum(it.does_something and not it.reason for it in run.plans),
-        failed=sum(bool(it.reason) for it in run.plans),
-        name=name,
-        count=len(run.plans),
-        outside=count_outside(run),
-        room=the_desk().room(),
-    )
-    return page, status
-
-
-def count_outside(run: TableRun) -> int:
-    """Returns how many concepts elsewhere the rows of a table make that the store doesn't have."""
-    return sum(it["do"] == "outside" for plan in run.plans if not plan.reason for it in plan.requests)
-
-
-def moving_records(run: TableRun) -> dict[int, int]:
-    """Returns how many records the merges of rows move, by their lines."""
-    merges = {
-        it.line: [one["source"] for one in it.changes if one["do"] == "merge"] for it in run.plans if not it.reason
-    }
-    count = the_replica().postings.count_records_at
-    return {line: sum(map(count, sources)) for line, sources in merges.items() if sources and not run.is_done}
-
-
-def answer_to(run: TableRun, request: Request) -> Answer:
-    """Returns the number of what a request of a table has made, as an answer; nothing if it has made nothing."""
-    number = run.numbers.get(str(request.get("as", "")))
-    return {"ok": number} if number else {}
-
-
-def meant_by(row: RowPlan) -> Markup:
-    """Returns a link to the concept that a row may mean whose term nothing has, or nothing."""
-    if row.error is None or row.error.key != "not_called":
-        return Markup()
-    kind, text = (str(row.error.values[it]) for it in ("kind", "text"))
-    hits = the_replica().search(text, kinds=(kind,), live=True, prefer=tags()[0], most=1)
-    return link(hits[0].number) if hits else Markup()
 
 
 @pages.post("/bring-in/table/perform")
 @role("editor")
 def perform_table() -> Any:
-    """Performs a table that was looked at, once: each row is done whole or not at all. Leads to what came of it."""
-    run = the_uploads().take(person().name, request.form.get("name", ""), TableRun)
+    """Performs a table that was looked at, once: each row is done whole or not at all. Leads to what came of it. Or
+    shows another part of a long table, with the ticks."""
+    name = request.form.get("name", "")
+    if "go" in request.form and (shown := the_uploads().find(person().name, name, TableRun)):
+        return table_page(shown, name, 200, lines_left(shown))
+    run = the_uploads().take(person().name, name, TableRun)
     if run is None:
         return refusal_answer("table", say("bring_in.not_kept"), "")
-    last = max((it.line for it in run.rows), default=0)
-    leave_out(run, numbers_of(request.form.get("offered", ""), last) - ticked_numbers("row"))
-    run_table(the_desk(), run, the_importer())
-    return redirect(path_to("imports.result", name=keep(run)), 303)
-
-
-def leave_out(run: TableRun, lines: set[int]) -> None:
-    """Leaves out the rows of some lines."""
-    run.rows = [it for it in run.rows if it.line not in lines]
-    run.plans = [it for it in run.plans if it.line not in lines]
+    leave_out(run, lines_left(run))
+    return show_performance(run)
 
 
 @pages.get("/bring-in/result/<name>")
@@ -411,8 +324,7 @@ def preview_export_rows(name: str, data: bytes) -> Any:
         run = read_export_rows(name, data, the_replica().base, the_fields())
     except SkosError as error:
         return refused_skos(error)
-    preview_rows(the_desk(), run, the_importer())
-    return table_page(run, keep(run), 200)
+    return show_preview(run)
 
 
 def preview_update(name: str, data: bytes, options: SkosOptions, scheme: int) -> Any:
@@ -420,8 +332,7 @@ def preview_update(name: str, data: bytes, options: SkosOptions, scheme: int) ->
     tag, term = the_replica().term(scheme, tags())
     options = replace(options, lang=options.lang or tag, scheme=options.scheme or term, has_old_addresses=False)
     run = update_of(convert_skos(the_desk(), name, data, options), scheme, "gone" in request.form)
-    preview_rows(the_desk(), run, the_importer())
-    return table_page(run, keep(run), 200)
+    return show_preview(run)
 
 
 def skos_page(run: SkosRun, status: int) -> Any:
@@ -450,11 +361,6 @@ def skos_report(name: str) -> Response:
     headers = {"Content-Disposition": 'attachment; filename="left-out.csv"'}
     table = report_table(run.report, the_reader())
     return Response(table, content_type="text/csv; charset=utf-8", headers=headers)
-
-
-def the_reader() -> Reader:
-    """Returns in whose words findings are."""
-    return Reader(words(), field_words)
 
 
 def refused_sentences(run: SkosRun) -> list[Findings]:
@@ -514,8 +420,8 @@ def go_on(plan: int) -> Any:
     if batch.action != "table":
         return bring_vocabulary(vocabulary_of(rest, batch))
     run = table_of(rest, batch)
-    preview_rows(the_desk(), run, the_importer())
-    return table_page(run, keep(run), 200)
+    leave_out(run, batches.rows_done(batch))
+    return show_preview(run)
 
 
 def go_on_taking_back(batch: Batch, requests: list[Request]) -> Any:

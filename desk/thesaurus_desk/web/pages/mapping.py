@@ -11,7 +11,7 @@ from flask import Blueprint, abort, current_app, render_template, request
 
 from thesaurus_desk.auth.route_roles import role
 from thesaurus_desk.importing.posting_files import MOST_BYTES
-from thesaurus_desk.importing.tables import TableRun, preview_rows
+from thesaurus_desk.importing.tables import TableRun
 from thesaurus_desk.journal.entries import Request
 from thesaurus_desk.mapping.candidates import Candidate, Finder
 from thesaurus_desk.mapping.decisions import LATER, NONE, REJECTED
@@ -25,8 +25,9 @@ from thesaurus_desk.web.context import go, link_elsewhere, page_number, person, 
 from thesaurus_desk.web.form_submission import problem_in, submit
 from thesaurus_desk.web.forms import FormState
 from thesaurus_desk.web.pages.edit import form_text, given_number, link_request, resource
-from thesaurus_desk.web.pages.imports import LARGEST, keep, table_page, the_importer
+from thesaurus_desk.web.pages.imports import LARGEST
 from thesaurus_desk.web.paths import path_to
+from thesaurus_desk.web.table_pages import show_preview
 from thesaurus_tools.headings import find_columns
 from thesaurus_tools.kinds import MAPPINGS
 from thesaurus_tools.spreadsheets import Row
@@ -34,8 +35,8 @@ from thesaurus_tools.table_plans import TableOptions
 from thesaurus_tools.vocabulary_dumps import ENDS
 
 pages = Blueprint("mapping", __name__)
-# How many concepts a page lists, pairs are drawn, and rows a table of pairs has.
-PAGE, DRAWN, MOST_ROWS = 50, 20, 500
+# How many concepts a page lists, and pairs are drawn.
+PAGE, DRAWN = 50, 20
 LONGEST_NAME = 60
 FORM = "map"
 # The keys of the kinds of mappings.
@@ -137,6 +138,18 @@ def load() -> Any:
         return start_page(problem_in("load", "file", say("mapping.no_dump", ends=", ".join(ENDS))), 409)
     if not the_loads().start(name, sent.filename[:200], sent.read()):
         return start_page(problem_in("load", "", say("mapping.loading_another")), 409)
+    return go(f"{path_to('mapping.mapping')}#load")
+
+
+@pages.post("/mapping/<int:number>/remove")
+@role("head")
+def remove(number: int) -> Any:
+    """Begins to remove a vocabulary; what was decided of it stays."""
+    vocabulary, form = vocabulary_of(number), f"remove-{number}"
+    if "sure" not in request.form:
+        return start_page(problem_in(form, "sure", say("mapping.remove_sure")), 409)
+    if not the_loads().remove(vocabulary.name):
+        return start_page(problem_in(form, "", say("mapping.loading_another")), 409)
     return go(f"{path_to('mapping.mapping')}#load")
 
 
@@ -293,7 +306,6 @@ def same_page(vocabulary: Vocabulary, state: FormState, status: int) -> Any:
             state=state,
             scheme=scheme_asked(),
             count=len(found),
-            most=MOST_ROWS,
             drawn=[(it, entry_of(vocabularies, it.entry)) for it in drawn],
             names=best_name,
         )
@@ -308,13 +320,12 @@ def same_table(number: int) -> Any:
     if "sure" not in request.form:
         return same_page(vocabulary, problem_in("same", "sure", say("mapping.look_first")), 409)
     with the_desk().vocabularies.reading():
-        found = pairs_of(vocabulary)[:MOST_ROWS]
+        found = pairs_of(vocabulary)
     heading = ["number", "exact match"]
     rows = [Row(line, [str(it.concept), it.iri]) for line, it in enumerate(found, 2)]
     columns = find_columns(heading, tags()[0], {})
     run = TableRun(say("mapping.table_name", name=vocabulary.name), heading, columns, rows, TableOptions())
-    preview_rows(the_desk(), run, the_importer())
-    return table_page(run, keep(run), 200)
+    return show_preview(run)
 
 
 # --- targets that have changed ---

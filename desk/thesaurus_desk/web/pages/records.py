@@ -19,6 +19,7 @@ from thesaurus_desk.web.pages.edit import form_text, given_number, resource, sho
 from thesaurus_desk.web.paths import concept_path, path_to
 from thesaurus_desk.web.posting_keys import new_key
 from thesaurus_desk.web.record_forms import catalogue_link, post, withdrawal
+from thesaurus_desk.web.record_views import concepts_of, records_found
 
 pages = Blueprint("records", __name__)
 
@@ -76,8 +77,9 @@ def record() -> Any:
     if name:
         return record_page(name, FormState(), 200)
     query = request.args.get("like", "").strip()
-    found = the_replica().postings.records_like(query, MOST_FOUND + 1) if query else []
-    return render_template("record/find.html", like=query, found=found[:MOST_FOUND], is_more=len(found) > MOST_FOUND)
+    found = records_found(query, MOST_FOUND + 1) if query else []
+    shown = {it: concepts_of(it) for it in found[:MOST_FOUND]}
+    return render_template("record/find.html", like=query, found=shown, is_more=len(found) > MOST_FOUND)
 
 
 def record_page(name: str, state: FormState, status: int) -> Any:

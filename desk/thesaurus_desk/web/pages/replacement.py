@@ -7,14 +7,14 @@ from urllib.parse import urlencode
 from flask import Blueprint, render_template, request
 
 from thesaurus_desk.auth.route_roles import role
-from thesaurus_desk.importing.replacements import HEADING, MOST, REPLACE, Replacement
-from thesaurus_desk.importing.tables import TableRun, preview_rows
+from thesaurus_desk.importing.replacements import HEADING, REPLACE, Replacement
+from thesaurus_desk.importing.tables import TableRun
 from thesaurus_desk.web.concept_choice import is_number
 from thesaurus_desk.web.context import field_words, say, tags, term, the_desk, the_fields, the_replica
 from thesaurus_desk.web.form_submission import problem_in
 from thesaurus_desk.web.forms import FormState
-from thesaurus_desk.web.pages.imports import keep, table_page, the_importer
 from thesaurus_desk.web.paths import path_to
+from thesaurus_desk.web.table_pages import show_preview
 from thesaurus_tools.fields import text_fields
 from thesaurus_tools.kinds import LABEL_KINDS
 from thesaurus_tools.table_plans import TableOptions
@@ -54,13 +54,10 @@ def preview_replacement() -> Any:
     rows = asked.rows(the_desk().replica)
     if not rows:
         return replace_page(problem_in(FORM, "find", say("replace.none", text=find)), 409)
-    run = TableRun(say("replace.name", old=find, new=new), list(HEADING), [], rows[:MOST], options_of_form())
+    run = TableRun(say("replace.name", old=find, new=new), list(HEADING), [], rows, options_of_form())
     fields = [(name, value) for name, value in request.form.items(multi=True) if name not in ("token", "form")]
     run.asked = {"back": f"{path_to('replacement.ask_replacement')}?{urlencode(fields)}"}
-    if len(rows) > MOST:
-        run.asked["note"] = say("replace.more", n=MOST)
-    preview_rows(the_desk(), run, the_importer())
-    return table_page(run, keep(run), 200)
+    return show_preview(run)
 
 
 def options_of_form() -> TableOptions:

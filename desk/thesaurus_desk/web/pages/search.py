@@ -11,9 +11,10 @@ from flask import Blueprint, jsonify, redirect, render_template, request
 
 from thesaurus_desk.auth.route_roles import public
 from thesaurus_desk.store.model import OPPOSITE, Hit
-from thesaurus_desk.web.context import page_number, person, say, status_words, tags, term, the_replica
+from thesaurus_desk.web.context import page_number, person, record_title, say, status_words, tags, term, the_replica
 from thesaurus_desk.web.list_forms import in_other_form
 from thesaurus_desk.web.paths import concept_path, path_to
+from thesaurus_desk.web.record_views import concepts_of, records_found
 from thesaurus_desk.web.value_search import found_values, has_notation
 from thesaurus_tools.entities import entity_address
 from thesaurus_tools.texts import fold
@@ -116,14 +117,15 @@ def suggest() -> Any:
         for it in found_by(hits)
     ]
     if asked == "all" and person().name and len(answers) < MOST_SUGGESTED and len(query_of()) > 1:
-        answers += [suggested_record(it) for it in the_replica().postings.records_like(query_of(), FEW_RECORDS)]
+        answers += [suggested_record(it) for it in records_found(query_of(), FEW_RECORDS)]
     return jsonify(answers)
 
 
 def suggested_record(name: str) -> dict[str, object]:
-    """Returns a record as a suggestion."""
-    href = f"{path_to('records.record')}?{urlencode({'name': name})}"
-    return {"number": None, "text": name, "tag": "", "pref": name, "note": say("find.record"), "href": href}
+    """Returns a record as a suggestion: by its title, if that is known."""
+    href, title = f"{path_to('records.record')}?{urlencode({'name': name})}", record_title(name)
+    note = " · ".join(filter(None, [say("find.record"), name if title else ""]))
+    return {"number": None, "text": title or name, "tag": "", "pref": title or name, "note": note, "href": href}
 
 
 @pages.get("/search")
@@ -141,7 +143,7 @@ def search() -> Any:
     )
     if (other := in_other_form("search", lambda: [it.number for it in hits])) is not None:
         return other
-    records = the_replica().postings.records_like(query, MOST_RECORDS) if person().name and len(query) > 1 else []
+    records = records_found(query, MOST_RECORDS) if person().name and len(query) > 1 else []
     whole = [it for it in hits if is_named(it, query)]
     matched = matches_of(query)
     if len(whole) == 1 and "all" not in request.args:
@@ -167,7 +169,7 @@ def search() -> Any:
         "search.html",
         query=query,
         found=found_by(hits),
-        records=records,
+        records={it: concepts_of(it) for it in records},
         values=values,
         matched=matched,
         within=within,

@@ -53,6 +53,8 @@
   }
 
   document.querySelectorAll("[data-filter]").forEach(filterBy);
+  // (a page says so where a file is sent as soon as it is chosen)
+  document.querySelectorAll("[data-send]").forEach((it) => it.addEventListener("change", () => it.value && it.form.requestSubmit()));
   document.querySelectorAll("[data-ticks]").forEach(countTicks);
   document.querySelectorAll("time[datetime]").forEach(showTime);
   document.querySelectorAll("[data-print]").forEach((it) => { it.hidden = false; it.addEventListener("click", () => window.print()); });

@@ -1,0 +1,27 @@
+"""Tables that are tried or performed while their readers do something else: how far each is, and where it leads."""
+from __future__ import annotations
+
+from typing import Any
+
+from flask import Blueprint, redirect, render_template
+
+from thesaurus_desk.auth.route_roles import role
+from thesaurus_desk.web.context import person, the_desk
+from thesaurus_desk.web.paths import path_to
+
+pages = Blueprint("runs", __name__)
+# After how many seconds a page without script asks again.
+PACE = 5
+
+
+@pages.get("/bring-in/run/<name>")
+@role("editor")
+def run_page(name: str) -> Any:
+    """Shows how far a table is; leads to what came of it; or says that it was cut short, or why it failed."""
+    run = the_desk().runs.find(person().name, name)
+    if run is None:
+        return redirect(path_to("imports.bring_in"), 303)
+    if run.state == "done":
+        return redirect(path_to("imports.result", name=run.result), 303)
+    cut = [it for it in the_desk().batches.cut() if it.plan == run.plan] if run.state == "cut" else []
+    return render_template("bring_in/run.html", run=run, cut=cut, pace=PACE)
