@@ -35,8 +35,9 @@ DEPENDS = (
     "python3-rdflib",
     "python3-waitress",
 )
-RECOMMENDS = ("nginx-light | nginx", "python3-icu", "weasyprint")
-SUGGESTS = ("apache2", "default-mta | mail-transport-agent", "graphviz", "libapache2-mod-auth-openidc")
+# (a server in front isn't among them: who only looks at the sample shouldn't find one running)
+RECOMMENDS = ("python3-icu", "weasyprint")
+SUGGESTS = ("apache2", "default-mta | mail-transport-agent", "graphviz", "libapache2-mod-auth-openidc", "nginx")
 DESCRIPTION = """Description: thesauri, and catalogue records that are indexed with them
  For offices that maintain thesauri (ISO 25964-1, SKOS) in several languages,
  and index records with their concepts, in a browser. A merge or a split moves
