@@ -232,6 +232,16 @@ def test_a_long_table_is_in_parts(site: Site, anna: Client, monkeypatch: pytest.
     assert not site.desk.replica.named("Zither 03", live=True) and not site.desk.replica.named("Zither 29", live=True)
 
 
+def test_no_more_than_some_at_a_time(anna: Client, monkeypatch: pytest.MonkeyPatch) -> None:
+    """What was looked at is there until it is performed."""
+    page = send(anna, "/bring-in/table", ROWS.encode(), kind="new", tag="en")
+    monkeypatch.setattr(run_threads, "MOST", 0)
+    for answer in (perform(anna, page, "/bring-in/table/perform"), send(anna, "/bring-in/table", ROWS.encode())):
+        assert answer.status_code == 409 and "Nothing was changed" in text_of(answer), text_of(answer)
+    monkeypatch.undo()
+    assert perform(anna, page, "/bring-in/table/perform", **all_rows(page)).status_code == 200
+
+
 def test_a_forgotten_run_leads_to_the_forms(anna: Client) -> None:
     assert anna.get("/bring-in/run/nothing").headers["Location"] == "/bring-in"
 

@@ -35,7 +35,8 @@ ROLES = {
     " create.new_collection create.new_concept create.new_scheme proposals.accept proposals.decline"
     " replacement.preview_replacement"
     " values.change_value values.copy_values visitors.discard visitors.take_up work.change_work",
-    "head": "mapping.load users.change_users queue.settle_indexing releases.new_release rights.settle_rights"
+    "head": "mapping.load mapping.remove users.change_users queue.settle_indexing releases.new_release"
+    " rights.settle_rights"
     " state.back_up values.settle_taken",
 }
 VALUES = {

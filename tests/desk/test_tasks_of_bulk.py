@@ -10,12 +10,15 @@ from pathlib import Path
 import pytest
 from hands import HANDS, SAY, Hand, Narrow, address_of, come_in_as
 from processes import Running, running
+from selenium.webdriver.chrome.webdriver import WebDriver
 from selenium.webdriver.common.keys import Keys
 
 pytestmark = pytest.mark.needs("chromedriver", "selenium")
 # The concepts of the sample that get a misspelt term, and those below Bowed instruments that move.
 MISSPELT = range(5, 13)
 BRANCH = ("Bows", "Cellos", "Double basses", "Fiddles", "Violas", "Violins")
+# The rows of a table that takes longer than a page waits for it.
+LONG = 600
 # By hand the misspelling took 30 clicks, and a branch 4.
 BY_HAND, MOVE = 30, 4
 
@@ -86,3 +89,27 @@ def test_a_whole_branch_moves(hand: Hand) -> None:
     hand.is_at("/c/4")
     hand.sees("Drums")
     assert hand.clicks == 2 <= MOVE / 2
+
+
+def test_a_long_table_is_left_and_come_back_to(driver: WebDriver, shared_desk: Running, tmp_path: Path) -> None:
+    """The page shows by itself how far it is, and what came of it; other pages are there meanwhile."""
+    path = tmp_path / "zithers.csv"
+    path.write_text("Term,Note\n" + "".join(f"Zither {it:03},Note {it}\n" for it in range(LONG)), encoding="utf-8")
+    hand = come_in_as(HANDS["keyboard"](driver, address_of(shared_desk)), "ben")
+    hand.open("/bring-in")
+    hand.send_file("table-file", path)
+    hand.choose(SAY("bring_in.asks"), SAY("bring_in.kind.new"))
+    hand.fill(SAY("shell.language"), "en")
+    hand.press(SAY("bring_in.preview"))
+    hand.press(SAY("bring_in.perform_ticked"))
+    shown = SAY("runs.performed", n="#", of=LONG).partition("#")[0]
+    hand.sees(shown)
+    first = hand.text().partition(shown)[2][:9]
+    driver.execute_script("window.isTheSame = true")
+    hand.wait(lambda: hand.text().partition(shown)[2][:9] != first, "more rows")
+    assert driver.execute_script("return window.isTheSame"), "the page wasn't loaded anew"
+    hand.press(SAY("shell.tree"))
+    hand.sees("Violins")
+    hand.press(SAY("shell.bring_in"))
+    hand.press("zithers.csv")
+    hand.sees(SAY("bring_in.rows_changed", n=LONG))

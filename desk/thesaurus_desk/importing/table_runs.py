@@ -21,11 +21,11 @@ if TYPE_CHECKING:
 PAUSE = 0.1
 
 
-def unreported(done: int, plan: int | None = None, size: int | None = None) -> None:
+def ignore_report(done: int, plan: int | None = None, size: int | None = None) -> None:
     """Takes no note of how far a table is."""
 
 
-def run_table(desk: Desk, run: TableRun, bringer: Importer, report: Report = unreported) -> None:
+def run_table(desk: Desk, run: TableRun, bringer: Importer, report: Report = ignore_report) -> None:
     """Performs the rows of a table, each as one plan, and notes why rows were refused; the others are done."""
     performed = TablePerformance(desk, run, bringer)
     batch = run.batch = performed.batch

@@ -11,6 +11,8 @@ from thesaurus_desk.journal.runs import Runs
 
 # How often it is written down how far a run is, and how long the end of the desk waits for one, in seconds.
 PACE, LAST_WAIT = 0.5, 5.0
+# How many runs there are at a time.
+MOST = 8
 
 
 class Report(Protocol):
@@ -20,7 +22,7 @@ class Report(Protocol):
         """Takes note of it."""
 
 
-class Stopped(Exception):
+class RunStop(Exception):
     """The desk ends, and a run with it."""
 
 
@@ -34,9 +36,9 @@ class Progress:
     last: float = field(default_factory=time.monotonic)
 
     def __call__(self, done: int, plan: int | None = None, size: int | None = None) -> None:
-        """Notes with how many of its rows a run has dealt, and its first plan. Raises Stopped if the desk ends."""
+        """Notes with how many of its rows a run has dealt, and its first plan. Raises RunStop if the desk ends."""
         if self.is_over.is_set():
-            raise Stopped
+            raise RunStop
         if time.monotonic() - self.last >= PACE:
             self.last = time.monotonic()
             self.runs.note(self.name, done, plan, size)
@@ -49,6 +51,11 @@ class RunThreads:
     runs: Runs
     is_over: threading.Event = field(default_factory=threading.Event)
     under_way: set[threading.Thread] = field(default_factory=set)
+
+    @property
+    def is_full(self) -> bool:
+        """Whether as many runs are under way as there may be."""
+        return len(self.under_way) >= MOST
 
     def start(self, name: str, do: Callable[[Progress], None]) -> None:
         """Begins a run, which may ask how far it is noted."""

@@ -11,7 +11,7 @@ from typing import Any, TypeVar
 from flask import Flask, current_app, g, redirect
 
 from thesaurus_desk.importing.row_trial import NoTrial
-from thesaurus_desk.store.run_threads import Progress, Stopped
+from thesaurus_desk.store.run_threads import Progress, RunStop
 from thesaurus_desk.web.context import begin_transaction, end_transaction, person, say, the_desk
 from thesaurus_desk.web.paths import path_to
 from thesaurus_tools.table_plans import NewConceptsError
@@ -28,7 +28,10 @@ def in_background(
     title: str, is_trial: bool, size: int, do: Callable[[Progress], T], keep: Callable[[T], str]
 ) -> tuple[str, T] | Any:
     """Has something be done by a thread of its own, and kept under a name. Returns the name with what came of it; or,
-    if it takes long, what leads to a page that shows how far it is. Raises what it raises."""
+    if it takes long, what leads to a page that shows how far it is. Raises what it raises, and NoTrial if too much is
+    under way."""
+    if the_desk().threads.is_full:
+        raise NoTrial("Busy")
     desk, app, reader = the_desk(), current_app._get_current_object(), reader_now()  # type: ignore[attr-defined]
     run, outcome = desk.runs.begin(person().name, title, is_trial, size), Future[tuple[str, T]]()
 
@@ -39,7 +42,7 @@ def in_background(
                 kept = keep(made)
                 desk.runs.end(run, "done", kept)
                 outcome.set_result((kept, made))
-            except Stopped:
+            except RunStop:
                 desk.runs.end(run, "cut")
             except Exception as error:
                 desk.runs.end(run, "failed", reason_of(error))

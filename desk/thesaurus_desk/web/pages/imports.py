@@ -258,6 +258,8 @@ def perform_table() -> Any:
     name = request.form.get("name", "")
     if "go" in request.form and (shown := the_uploads().find(person().name, name, TableRun)):
         return table_page(shown, name, 200, lines_left(shown))
+    if the_desk().threads.is_full:
+        raise NoTrial("Busy")
     run = the_uploads().take(person().name, name, TableRun)
     if run is None:
         return refusal_answer("table", say("bring_in.not_kept"), "")
