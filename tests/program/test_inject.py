@@ -1,9 +1,9 @@
 """A store is as its answers say after a call to the system has failed once. Each sync, write, change of length,
-opening and renaming of the files in a script, plans, an import, a migration and a service fails in turn, by strace,
-with EIO and with ENOSPC. What was answered Store isn't in the store, or the last line on standard error says that it
-may be; what was accepted is there; and after the failure requests are accepted again, without a new start. A program
-that makes a store fails, or is killed, at each of these calls: the next run makes the store, or has it. A migration and
-a load that fail say why."""
+opening and renaming of the files in a script, plans, reports, an import, a migration and a service fails in turn, by
+strace, with EIO and with ENOSPC. What was answered Store isn't in the store, or the last line on standard error says
+that it may be; what was accepted is there; and after the failure requests are accepted again, without a new start. The
+changes of rows that are reported are those that were made. A program that makes a store fails, or is killed, at each of
+these calls: the next run makes the store, or has it. A migration and a load that fail say why."""
 from __future__ import annotations
 
 import contextlib
@@ -21,10 +21,12 @@ from typing import Any, NamedTuple
 import pytest
 from kept import Request, performed, rows_beside
 from plain import Plain
-from plain_plans import perform_any
+from plain_plans import is_report, perform_any
+from plain_requests import perform
 from plain_store import LIMITS, read_rows, rows_of
 from ports import free_port
 from program import Ended, Word, built, fault, lines_of, over, values_of
+from table_copy import TABLES, TableCopy
 
 pytestmark = pytest.mark.needs("strace")
 CALLS = ("fdatasync", "fsync", "pwrite64", "ftruncate", "openat", "rename", "unlink")
@@ -76,6 +78,16 @@ PLANS: list[list[Request]] = [
     FIFTEEN[3:8],
     [*FIFTEEN[8:11], {"do": "withdraw", "posting": "$2"}, *FIFTEEN[12:]],
 ]
+# The same again, with the changes of rows reported; what is tried changes none.
+REPORTS: list[Request] = [
+    {"try": PLANS[0]},
+    {"perform": PLANS[0]},
+    {"each": FIFTEEN[:3]},
+    {"try": PLANS[2]},
+    {"each": [*FIFTEEN[3:5], {"get": "totals"}, *FIFTEEN[5:8], {"do": "fly"}]},
+    {"perform": PLANS[4]},
+    {"each": [FIFTEEN[14]]},
+]
 POSTS: list[Request] = [{"do": "post", "key": f"k{n}", "record": f"r{n}", "concept": 3} for n in range(1, 7)]
 POSTING_FILE = ("key,record,concept\n" + "".join(f"k{n},r{n},3\n" for n in range(1, 7))).encode()
 # The version 1 of a store of version 2.
@@ -114,11 +126,30 @@ def trace_of(path: Path) -> str:
 # --- what a store may be afterwards ---
 
 
+def singly(requests: Sequence[Sent], told: list[Request]) -> list[tuple[Sent, Request]]:
+    """Each request or plan with its answer, without changes of rows: of `each` its requests up to the first fault."""
+    pairs: list[tuple[Sent, Request]] = []
+    for request, answer in zip(requests, told):
+        if "each" not in answer or not isinstance(request, dict):
+            pairs.append((request, {it: value for it, value in answer.items() if it != "changes"}))
+            continue
+        assert answer["each"][-1] == FULL or len(answer["each"]) == len(request["each"]), answer
+        pairs += zip(request["each"], answer["each"])
+    return pairs
+
+
+def after_each(state: Plain, request: Sent) -> tuple[Plain, Request]:
+    """The state and the answer after a request, a plan, or a request of `each`, which may have no form."""
+    if isinstance(request, list) or is_report(request):
+        return perform_any(state, request)
+    return perform(state, json.dumps(request).encode())
+
+
 def states_for(plain: Plain, requests: Sequence[Sent], told: list[Request], in_doubt: bool) -> list[Plain]:
     """The states that a store may have after these answers."""
     states = [plain]
-    for request, answer in zip(requests, told):
-        after = [perform_any(state, request) for state in states]
+    for request, answer in singly(requests, told):
+        after = [after_each(state, request) for state in states]
         if answer == FULL:
             states = [*states, *(state for state, _ in after)] if in_doubt else states
         else:
@@ -136,15 +167,43 @@ def wrong_rows(path: Path, states: list[Plain]) -> str | None:
     return None if rows in [rows_of(state) for state in states] else "other rows than the answers say"
 
 
+def wrong_changes(plain: Plain, requests: Sequence[Sent], told: list[Request]) -> str | None:
+    """Why the changes in the answers, made one after another, don't lead to the rows that the answers say; or None."""
+    copy = TableCopy(rows_of(plain))
+    for request, answer in zip(requests, told):
+        for change in [] if "try" in request else answer.get("changes", []):
+            copy.make(change)
+    (state,) = states_for(plain, requests, told, in_doubt=False)
+    wanted = rows_of(state)
+    return None if copy.rows() == {it: sorted(wanted[it], key=repr) for it in TABLES} else "other changes are reported"
+
+
 def wrong_answers(path: Path, plain: Plain, told: list[Request], err: bytes, requests: Sequence[Sent]) -> str | None:
     """Why the answers to the requests, and the store after them, aren't right; or None."""
+    faults = [answer for _, answer in singly(requests, told)].count(FULL)
     if told and len(told) != len(requests):
         return f"{len(told)} answers"
-    if told.count(FULL) > 1:
-        return f"{told.count(FULL)} answers are Store"
-    if FULL in told and STORE not in err:
+    if faults > 1:
+        return f"{faults} answers are Store"
+    if faults and STORE not in err:
         return "no fault on standard error"
+    if all(map(is_report, requests)) and (why := wrong_changes(plain, requests, told)):
+        return why
     return wrong_rows(path, states_for(plain, requests, told, err.endswith(IN_DOUBT)))
+
+
+def is_faulty(answer: Request) -> bool:
+    """Whether a request was answered Store, or the last one of `each`."""
+    return FULL in (answer, *answer.get("each", []))
+
+
+def is_refused(answer: Request) -> bool:
+    return "no" in answer or "bad" in answer or any(map(is_refused, answer.get("each", [])))
+
+
+def status_of(told: list[Request]) -> int:
+    """The exit status of a script with these answers."""
+    return 3 if any(map(is_faulty, told)) else int(any(map(is_refused, told)))
 
 
 # --- what is done while a call fails ---
@@ -173,7 +232,10 @@ class Work:
 
     def wrong(self, path: Path, plain: Plain, it: Any) -> str | None:
         """What is wrong after a run in which a call failed, or None."""
-        return wrong_answers(path, plain, values_of(it.out), it.err, self.sent)
+        told = values_of(it.out)
+        if told and it.status != status_of(told):
+            return f"exit status {it.status}"
+        return wrong_answers(path, plain, told, it.err, self.sent)
 
 
 class Script(Work):
@@ -185,8 +247,15 @@ class Script(Work):
 class PlanScript(Work):
     """A script of plans: of each all requests are performed, or none."""
 
-    sent = PLANS
+    sent: Sequence[Sent] = PLANS
     options = ("--plans",)
+
+
+class ReportScript(PlanScript):
+    """A script whose changes of rows are reported: of a plan all are made, or none, and none of what is tried; of
+    `each` those before the fault."""
+
+    sent = REPORTS
 
 
 class Import(Work):
@@ -232,7 +301,8 @@ class Migration(Work):
 
 def asked(port: int, request: Sent) -> tuple[bytes, Request]:
     """The status and the answer to a request or a plan over HTTP."""
-    body, path = json.dumps(request).encode(), b"plans" if isinstance(request, list) else b"requests"
+    is_plan = isinstance(request, list) or is_report(request)
+    body, path = json.dumps(request).encode(), b"plans" if is_plan else b"requests"
     with socket.create_connection(("127.0.0.1", port), timeout=60) as client:
         client.sendall(b"POST /%s HTTP/1.1\r\nContent-Length: %d\r\n\r\n" % (path, len(body)) + body)
         told = b""
@@ -260,7 +330,7 @@ class Service(Work):
 
     def wrong(self, path: Path, plain: Plain, it: Served) -> str | None:
         answers = [answer for _, answer in it.told]
-        if [answer == FULL for answer in answers] != [status == b"503" for status, _ in it.told]:
+        if [is_faulty(answer) for answer in answers] != [status == b"503" for status, _ in it.told]:
             return f"other statuses: {it.told}"
         # A service goes on after a fault, so standard error has none.
         return wrong_answers(path, plain, answers, STORE + it.ended.err, self.sent)
@@ -270,6 +340,13 @@ class PlanService(Service):
     """The same with plans."""
 
     sent = PLANS
+    options = ("--plans",)
+
+
+class ReportService(Service):
+    """The same with reports: 503 also if `each` ends in a fault."""
+
+    sent = REPORTS
     options = ("--plans",)
 
 
@@ -292,10 +369,12 @@ class Making(Work):
 WORKS: dict[str, Callable[[], Work]] = {
     "script": Script,
     "plans": PlanScript,
+    "reports": ReportScript,
     "import": Import,
     "migration": Migration,
     "service": Service,
     "plans over HTTP": PlanService,
+    "reports over HTTP": ReportService,
     "making": Making,
 }
 

@@ -158,5 +158,5 @@ def perform_line(plain: Plain, line: bytes) -> tuple[Plain, Answer]:
 
 
 def perform_any(plain: Plain, it: Any) -> tuple[Plain, Answer]:
-    """Performs a plan, which is a list, or a request."""
-    return perform_plan(plain, it) if isinstance(it, list) else plain.perform(it)
+    """Performs a plan, which is a list or reports changes, or a request."""
+    return perform_plan(plain, it) if isinstance(it, list) or is_report(it) else plain.perform(it)
