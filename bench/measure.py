@@ -12,6 +12,7 @@ import re
 import resource
 import subprocess
 import sys
+import tempfile
 from collections.abc import Iterable, Iterator, Sequence
 from typing import Any, NamedTuple
 
@@ -116,6 +117,22 @@ def counted(program: str | pathlib.Path, given: Iterable[object], script: bytes 
             f"valgrind {program} {' '.join(map(str, given))} ended with {ran.returncode}: {ran.stderr.decode()[-300:]}"
         )
     return int(found[1].replace(b",", b"")), ran.stdout.splitlines()
+
+
+def counted_within(
+    program: str | pathlib.Path, given: Iterable[object], script: bytes, function: str
+) -> tuple[int, int]:
+    """The instructions of a run of a program, and those of them in a function and what it calls."""
+    with tempfile.NamedTemporaryFile() as file:
+        words = ["valgrind", "--tool=callgrind", f"--callgrind-out-file={file.name}", program, *map(str, given)]
+        ran = subprocess.run(words, input=script, capture_output=True, check=False)
+        found = re.search(rb"Collected : (\d+)", ran.stderr)
+        if ran.returncode > 1 or not found:
+            sys.exit(f"{' '.join(map(str, words))} ended with {ran.returncode}: {ran.stderr.decode()[-300:]}")
+        listed = ["callgrind_annotate", "--inclusive=yes", "--threshold=100", file.name]
+        lines = subprocess.run(listed, capture_output=True, text=True, check=True).stdout.splitlines()
+    within = [re.match(r"\s*([\d,]+) .*:" + re.escape(function) + r"(?:::<\S+)?(?: \[.*)?$", it) for it in lines]
+    return int(found[1]), sum(int(it[1].replace(",", "")) for it in within if it)
 
 
 def seconds_of(requests: Iterable[str]) -> float:
