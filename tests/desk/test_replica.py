@@ -18,10 +18,8 @@ from as_plain import as_plain
 from asking import assert_as_store
 from conftest import BASE
 from plain import Plain
-from thesaurus_desk.journal import Draft, Step, journal_of
-from thesaurus_desk.journal.old_journals import seal
-from thesaurus_desk.journal.recovery import BY_OTHERS
-from thesaurus_desk.store import build, upkeep
+from thesaurus_desk.journal import journal_of
+from thesaurus_desk.store import upkeep
 from thesaurus_desk.store.changes import Change, Changes, WrongChange
 from thesaurus_desk.store.difference import attach_store, differences
 from thesaurus_desk.store.plan_execution import Desk
@@ -244,63 +242,6 @@ def find_asked() -> Any:
     from thesaurus_desk.store.search import LabelFilter
 
     return LabelFilter()
-
-
-# --- journals of earlier desks ---
-
-
-def test_journal_of_an_earlier_desk(desk: Desk, open_desk: Callable[[Path], Desk]) -> None:
-    """It becomes one of this version, a copy of it stays, and what is in it is read as before."""
-    outcome = desk.perform("anna", "test", [{"do": "post", "key": "k-1", "record": "Violin", "concept": 5}])
-    before = desk.journal.plan(outcome.plan or 0)
-    desk.stop()
-    path = journal_of(desk.db)
-    with contextlib.closing(sqlite3.connect(path, isolation_level=None)) as rows:
-        build.drop(rows)
-        rows.execute("PRAGMA user_version = 1")
-    again = open_desk(desk.db)
-    assert again.journal.plan(outcome.plan or 0) == before and again.found.changed == ()
-    assert_as_store(again)
-    with contextlib.closing(sqlite3.connect(path.with_name(f"{path.stem}-1.sqlite"))) as copy:
-        assert copy.execute("PRAGMA user_version").fetchone() == (1,)
-        assert copy.execute("SELECT count(*) FROM plan").fetchone() == (1,)
-    assert (path.with_name(f"{path.stem}-1.sqlite").stat().st_mode & 0o777) == 0o600
-    back = again.take_back(before) if before else None
-    assert back is not None and again.perform_take_back("ben", back).is_done
-
-
-def test_digests_of_an_earlier_desk(store: Path, program: str, open_desk: Callable[[Path], Desk]) -> None:
-    """The resources that have another digest than an earlier desk has noted were changed by other means."""
-    desk = open_desk(store)
-    its = desk.replica.counts()["resources"]
-    seals = [(it, seal(desk.replica, it)) for it in range(1, its + 1)]
-    desk.stop()
-    with contextlib.closing(sqlite3.connect(desk.journal.path, isolation_level=None)) as rows:
-        rows.executemany("INSERT INTO seal VALUES (?, ?)", seals)
-        rows.execute("DELETE FROM state")
-        build.drop(rows)
-        rows.execute("PRAGMA user_version = 1")
-    change_by_other_means(
-        program, store, {"do": "addLabel", "owner": 5, "kind": "alt", "tag": "en", "text": "Made elsewhere"}
-    )
-    again = open_desk(store)
-    assert again.found.changed == (5,) and [it.action for it in again.history.recent()] == [BY_OTHERS]
-    assert again.journal.all("SELECT * FROM seal") == []
-
-
-@pytest.mark.parametrize("text,state", [("Violins", "done"), ("Not there", "lost")])
-def test_plan_that_an_earlier_desk_has_sent(
-    text: str, state: str, store: Path, open_desk: Callable[[Path], Desk]
-) -> None:
-    """It is settled by what each step has noted: what is so if it was performed."""
-    desk = open_desk(store)
-    (number,) = [it.number for it in desk.replica.named("Violins", live=True)]
-    request = {"do": "addLabel", "owner": number, "kind": "pref", "tag": "en", "text": text}
-    facts = [["label", number, "pref", "en", text, True]]
-    plan = desk.journal.begin(Draft("anna", "term", [Step(request, foreseen={"done": True}, facts=facts)]))
-    desk.stop()
-    kept = open_desk(store).journal.plan(plan)
-    assert kept is not None and (kept.state, kept.steps[0].state) == (state, state)
 
 
 def test_no_desk_opens_a_newer_journal(desk: Desk, open_desk: Callable[[Path], Desk]) -> None:

@@ -264,11 +264,11 @@ class Journal(Database):
         for table in ("concern", "comment"):
             rows.execute(f"UPDATE OR REPLACE {table} SET number = -number WHERE number > ?", (last,))
 
-    def note_digest(self, digest: str) -> None:
-        """Notes the digest of the store as it is now."""
-        if digest != self.digest():
-            with self.writing() as rows:
-                write_digest(rows, digest)
+    @staticmethod
+    def note_digest(rows: sqlite3.Connection, digest: str) -> None:
+        """Notes the digest of the store as it is now, in place of those of its resources that an earlier desk noted."""
+        write_digest(rows, digest)
+        rows.execute("DELETE FROM seal")
 
     def note_stop(self, digest: str) -> None:
         """Notes that the desk ends, and the digest of the store."""

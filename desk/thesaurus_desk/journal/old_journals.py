@@ -70,13 +70,11 @@ def seal(replica: Replica, number: int) -> bytes:
 
 
 def differing_from_seals(journal: Journal, replica: Replica) -> set[int]:
-    """Returns the resources that have another digest than an earlier desk has noted, and forgets its digests: from now
-    on the replica shows what is other than it was."""
+    """Returns the resources that have another digest than an earlier desk has noted. These are forgotten with
+    the first digest of the store: from then on the replica shows what is other than it was."""
     before = {it["number"]: bytes(it["digest"]) for it in journal.all("SELECT number, digest FROM seal")}
     if not before:
         return set()
     with replica.reading():
         now = {it: seal(replica, it) for it in range(1, replica.counts()["resources"] + 1)}
-    with journal.writing() as rows:
-        rows.execute("DELETE FROM seal")
     return {it for it in now.keys() | before.keys() if now.get(it) != before.get(it)}

@@ -3,7 +3,6 @@ the replica, once it is that of the store again."""
 from __future__ import annotations
 
 import logging
-import sqlite3
 from collections.abc import Iterable, Sequence
 from dataclasses import dataclass, replace
 
@@ -64,12 +63,13 @@ def settle(journal: Journal, replica: Replica) -> list[Plan]:
     cut = {it.id for it in journal.cut_imports()}
     found = [it for it in journal.plans("SELECT * FROM plan WHERE state = 'sent' ORDER BY id") if it.id not in cut]
     for plan in found:
-        if plan.steps[0].request["do"] == "import":
+        if plan.steps and plan.steps[0].request["do"] == "import":
             plan.state = look_up_import(journal, replica, plan.steps[0])
         else:
             plan.state = look_up(journal, replica, plan)
-        changed = changed_by(plan.steps, Values(journal))
-        journal.finish(plan.id, plan.state, plan.steps, changed=changed, note="settled by looking at the store")
+        changed, counts = changed_by(plan.steps, Values(journal)), replica.counts()
+        note = "settled by looking at the store"
+        journal.finish(plan.id, plan.state, plan.steps, changed=changed, counts=counts, note=note)
         log.warning("plan %s had no answer: %s", plan.id, plan.state)
     return found
 
@@ -108,11 +108,15 @@ def explained_by(journal: Journal, replica: Replica, plans: Iterable[Plan]) -> s
 
 
 def start(journal: Journal, replica: Replica, differing: frozenset[int] | None) -> StartReport:
-    """Settles what an earlier desk left open, and notes what was changed by other means since. `differing` are the
-    resources of which the replica had others than the store; None if it was made anew."""
-    settled = settle(journal, replica)
-    explained = explained_by(journal, replica, [*settled, *journal.cut_imports()])
-    return replace(note_changes(journal, replica, differing, explained), settled=tuple(settled))
+    """Settles what an earlier desk left open, notes what was changed by other means since, and has a journal of an
+    earlier version be one of this version: all in one transaction. `differing` are the resources of which the replica
+    had others than the store; None if it was made anew."""
+    with journal.transaction() as rows:
+        settled = settle(journal, replica)
+        explained = explained_by(journal, replica, [*settled, *journal.cut_imports()])
+        found = note_changes(journal, replica, differing, explained)
+        journal.note_version(rows)
+    return replace(found, settled=tuple(settled))
 
 
 def note_changes(
@@ -121,27 +125,25 @@ def note_changes(
     """Notes as changed by other means what no plan explains."""
     explained = set(explained)
     digest = replica.digest()
-    if differing is None:
-        changed = differing_from_seals(journal, replica) - explained
-        is_changed = bool(changed) or not explained and journal.digest() not in ("", digest)
-    else:
-        changed = set(differing) - explained
-        is_changed = bool(changed)
+    changed = differing_from_seals(journal, replica).union(differing or ()) - explained
+    # (after a kill at the last start the replica is that of the store already, and nothing is noted)
+    is_changed = bool(changed) or not explained and journal.digest() not in ("", digest)
     # (the next resource would get the number of one that a restored store lacks, and its values with it)
     lost = [Step(it, "done", {"done": True}) for it in removals(replica, Values(journal))]
     restored = None
     if is_changed or lost:
         restored = restored_from(journal, replica)
         note = None if restored is None else f"{RESTORED} of {restored}" if restored else RESTORED
-        plan = journal.begin(Draft("", BY_OTHERS, lost))
-
-        def set_apart(rows: sqlite3.Connection) -> None:
-            journal.set_apart(rows, last=replica.counts()["resources"])
-
         counts = replica.counts()
-        journal.finish(plan, "done", lost, changed=changed, counts=counts, note=note, also=set_apart)
+        with journal.transaction() as rows:
+            plan = journal.begin(Draft("", BY_OTHERS, lost))
+            journal.finish(plan, "done", lost, changed=changed, counts=counts, note=note)
+            journal.set_apart(rows, last=counts["resources"])
+            journal.note_digest(rows, digest)
         log.warning("%d resources were changed by other means%s", len(changed), f"; {note}" if note else "")
-    journal.note_digest(digest)
+    elif digest != journal.digest():
+        with journal.transaction() as rows:
+            journal.note_digest(rows, digest)
     return StartReport((), is_changed or bool(lost), tuple(sorted(changed)), restored)
 
 

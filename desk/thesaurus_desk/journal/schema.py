@@ -3,8 +3,10 @@ from __future__ import annotations
 
 import contextlib
 import fcntl
+import itertools
 import logging
 import os
+import re
 import sqlite3
 import threading
 from collections.abc import Iterator, Mapping
@@ -18,7 +20,8 @@ from thesaurus_tools.command_line import ToolError
 from thesaurus_tools.files import open_without_links
 
 log = logging.getLogger("desk")
-# From 2 on a desk keeps the tables of the store here, too. A desk that doesn't know them must not write the journal.
+# From 2 on a desk keeps the tables of the store here, too, and the rows that each plan changes. A desk that doesn't
+# know these must not write the journal.
 VERSION = 2
 # Marks the file as a desk's journal ("Desk").
 APPLICATION = 0x4465736B
@@ -280,16 +283,10 @@ class Database:
             raise ToolError(f"{self.path}: " + ("a newer desk wrote this journal" if newer else "no journal of a desk"))
         if not is_new and version < VERSION:
             self.keep_copy(version)
-            self.rows.execute(f"PRAGMA user_version = {VERSION}")
         self.rows.execute("PRAGMA journal_mode = WAL")
         self.rows.execute("PRAGMA synchronous = FULL")
         self.rows.execute("PRAGMA foreign_keys = ON")
-        if is_new:
-            mark = f"PRAGMA application_id = {APPLICATION}; PRAGMA user_version = {VERSION};"
-            self.rows.executescript(f"BEGIN; {TABLES} {mark} COMMIT;")
-        self.rows.executescript(LATER_TABLES + VALUES + RECORD_TEXTS)
-        for table, columns in WORKING.items():
-            self.rows.execute(f"CREATE TABLE IF NOT EXISTS {table} ({columns}) STRICT")
+        self.make_tables(0 if is_new else version)
         self.rows.execute("DELETE FROM state WHERE name = ?", (UNDER_WAY,))
         # (what an earlier desk had under way was cut short)
         self.rows.execute("UPDATE run SET state = 'cut' WHERE state = 'running'")
@@ -297,6 +294,25 @@ class Database:
         self.rows.execute("DELETE FROM sent WHERE at < ?", (time_text(datetime.now(UTC) - SENT_FOR),))
         self.open_reader()
         self.mark = mark_of(self.path)
+
+    def make_tables(self, version: int) -> None:
+        """Makes the tables that the file lacks, which is new if it has no version.
+
+        One of an earlier version stays one, as an earlier desk can go on with it, until `note_version`."""
+        mark = f"PRAGMA application_id = {APPLICATION}; PRAGMA user_version = {VERSION};"
+        working = (f"CREATE TABLE IF NOT EXISTS {table} ({columns}) STRICT;" for table, columns in WORKING.items())
+        parts = (mark + TABLES if version == 0 else "", LATER_TABLES, VALUES, RECORD_TEXTS, *working)
+        if 0 < version < VERSION:
+            # (what was begun at an earlier start isn't that of the store any more)
+            drop(self.rows)
+        # (an error closes the connection, which takes back what was begun)
+        self.rows.executescript(f"BEGIN IMMEDIATE; {' '.join(parts)} COMMIT;")
+
+    @staticmethod
+    def note_version(rows: sqlite3.Connection) -> None:
+        """Marks the file as one of this version."""
+        if rows.execute("PRAGMA user_version").fetchone()[0] != VERSION:
+            rows.execute(f"PRAGMA user_version = {VERSION}")
 
     def open_reader(self) -> None:
         """Opens the tables for reading: whoever reads needn't wait until the disk has what another one writes."""
@@ -306,8 +322,10 @@ class Database:
 
     def keep_copy(self, version: int) -> None:
         """Copies a journal of an earlier version before it becomes one of this version: an earlier desk reads the
-        copy, and not the file."""
-        copy = self.path.with_name(f"{self.path.stem}-{version}.sqlite")
+        copy, and not the file. A copy of another state, as of a desk to which somebody went back, stays."""
+        name = f"{self.path.stem}-{version}"
+        copies = (self.path.with_name(f"{name}{n and -n or ''}.sqlite") for n in itertools.count())
+        copy = next(it for it in copies if not it.exists() or self.is_in(it))
         if copy.exists():
             return
         made = copy.with_suffix(".new")
@@ -316,6 +334,20 @@ class Database:
         with contextlib.closing(sqlite3.connect(made)) as target:
             self.rows.backup(target)
         made.rename(copy)
+
+    def is_in(self, copy: Path) -> bool:
+        """Whether a copy has all that an earlier desk has written to the file."""
+        differences = (
+            f"SELECT * FROM main.{it} EXCEPT SELECT * FROM copy.{it} LIMIT 1"
+            for it in re.findall(r"CREATE TABLE (\w+)", TABLES)
+        )
+        self.rows.execute("ATTACH ? AS copy", (str(copy),))
+        try:
+            return not any(self.rows.execute(it).fetchone() for it in differences)
+        except sqlite3.DatabaseError:
+            return False
+        finally:
+            self.rows.execute("DETACH copy")
 
     def close(self) -> None:
         """Closes the file, and lets another desk have it."""
@@ -366,8 +398,11 @@ class Database:
 
     @contextlib.contextmanager
     def transaction(self) -> Iterator[sqlite3.Connection]:
-        """Writes what is no change that a form makes, as `writing` does."""
+        """Writes what is no change that a form makes, as `writing` does. Within another one it is a part of that."""
         with self.lock:
+            if self.rows.in_transaction:
+                yield self.rows
+                return
             self.check_file()
             self.rows.execute("BEGIN IMMEDIATE")
             try:
