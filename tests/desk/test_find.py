@@ -8,6 +8,7 @@ from collections.abc import Callable
 from pathlib import Path
 
 import pytest
+from asking import done, link
 from clients import Client, Site, site_of, text_of
 from thesaurus_desk.store.plan_execution import Desk
 from thesaurus_desk.web.app import path_of_page
@@ -126,6 +127,13 @@ def test_the_tree_opens(anna: Client) -> None:
     )
     for path in ("/tree/1", "/tree/999", "/tree/x", "/tree?at=999", "/tree?scheme=x"):
         assert anna.get(path).status_code in (200, 404)
+
+
+def test_the_tree_of_what_has_ended_is_open_below_a_single_top(site: Site, anna: Client) -> None:
+    for other in set(site.desk.replica.tops(1)) - {2}:
+        done(site.desk, link("link", "broader", other, 2))
+    done(site.desk, {"do": "merge", "source": 31, "target": VIOLINS})
+    assert all("String instruments" in anna.get(it).text for it in ("/tree", "/tree?at=31"))
 
 
 def test_the_tree_begins_with_the_largest_thesaurus(site: Site, anna: Client) -> None:

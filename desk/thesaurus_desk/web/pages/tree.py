@@ -98,7 +98,9 @@ def tree() -> Any:
         # (the first that has most)
         scheme = max(schemes, key=replica.count_concepts) if schemes else None
     tops = replica.ordered(replica.tops(scheme), tags()) if scheme else []
-    path = replica.path_up(at, tags()) if at and is_there else tops if len(tops) == 1 else []
+    path = replica.path_up(at, tags()) if at and is_there else []
+    # (what has ended is nowhere in the tree)
+    path = tops if len(tops) == 1 and path[:1] != tops else path
     if is_table_asked():
         return sheet("tree", whole_tree(tops))
     shown = tops[:MOST_TOPS]
