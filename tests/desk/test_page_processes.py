@@ -133,11 +133,12 @@ def test_a_session_that_is_left_is_left_everywhere(desk: Running) -> None:
 
 
 def test_what_only_the_office_has(desk: Running) -> None:
-    """Its health, a display that the program makes, and an import that is looked at."""
+    """Its health, a display that the program makes, and a merge or an import that is looked at."""
     anna = come_in(desk, "anna")
     assert anna.get("/healthz")[1] == '{"problems":[],"status":"ok"}\n'
     assert "SQLite" in anna.get("/state")[1]
     assert anna.get("/print/alphabetical")[0] in (200, 404)
+    assert "becomes a non-preferred term" in anna.get("/c/31/merge?other_number=5")[1]
     assert anna.post("/bring-in/table", {"typed": "term,new term\nViolins,Fine violins\n", "tag": "en"})[0] == 200
 
 

@@ -14,8 +14,8 @@ from dice import Requests
 from thesaurus_desk.store.model import Link
 from thesaurus_desk.store.plan_execution import Desk
 from thesaurus_desk.store.replica import Replica
-from thesaurus_desk.web.merge_preview import foresee_merge
-from thesaurus_desk.web.rule_conflicts import RuleConflict, rule_broken_by_link, rule_broken_by_merge
+from thesaurus_desk.web.merge_preview import preview_of, seen_from
+from thesaurus_desk.web.rule_conflicts import Way, way_of_link, way_of_merge
 from thesaurus_tools.export_store import store_of_export
 from thesaurus_tools.kinds import BROADER
 from thesaurus_tools.ntriples import parse_ntriples
@@ -59,29 +59,28 @@ def assert_as_export(desk: Desk) -> None:
     assert dead == {it.number: it.replaced for it in export.resources.values() if not it.is_live}
 
 
-def foreseen(replica: Replica, request: dict[str, Any]) -> RuleConflict | None:
-    """The rule that the desk says a merge or a link breaks, where nothing else refuses it."""
-    plain = as_plain(replica)
-    if request["do"] == "merge" and not plain.refuses_merge(request["source"], request["target"]):
-        return rule_broken_by_merge(replica, request["source"], request["target"])
-    if request["do"] == "link" and not plain.refuses("link", request):
-        return rule_broken_by_link(replica, Link(request["kind"], request["a"], request["b"]))
-    return None
+def way_of(replica: Replica, rule: str, request: dict[str, Any]) -> Way:
+    """The way along which the desk says that a merge or a link breaks a rule."""
+    if request["do"] == "merge":
+        return way_of_merge(replica, rule, request["source"], request["target"])
+    return way_of_link(replica, rule, Link(request["kind"], request["a"], request["b"]))
 
 
-def assert_breaks(desk: Desk, request: dict[str, Any], broken: RuleConflict) -> None:
+def assert_breaks(desk: Desk, rule: str, request: dict[str, Any]) -> None:
     """The way that is shown for a broken rule is one: each step is a link, or joins the two of a merge."""
+    way = way_of(desk.replica, rule, request)
+    assert len(way) > 1, (rule, request)
     pair = {request.get("source"), request.get("target")}
     added = {(request.get("a"), request.get("b")), (request.get("b"), request.get("a"))}
-    if broken.rule in ("Cycle", "S27"):
-        for low, high in zip(broken.way, broken.way[1:]):
+    if rule in ("Cycle", "S27"):
+        for low, high in zip(way, way[1:]):
             ends = [{it} | (pair if it in pair else set()) for it in (low, high)]
             up = any(
                 a in resources(desk.replica) and b in desk.replica.chained(a) for a in ends[0] for b in ends[1] if a
             )
             assert up or (low, high) in added
-    if broken.rule == "Cycle":
-        assert broken.way[0] == broken.way[-1] and len(broken.way) > 2
+    if rule == "Cycle":
+        assert way[0] == way[-1] and len(way) > 2
 
 
 def throw(desk: Desk, dice: Requests) -> dict[str, Any]:
@@ -111,16 +110,14 @@ def test_random_requests(room: Path, open_desk: Callable[[Path], Desk]) -> None:
     desk = open_desk(room / "random.db")
     dice, seen = Requests(1), Counter[str]()
     for request in thrown(desk, dice):
-        broken = foreseen(desk.replica, request)
         tried = desk.tried([request])
         before = desk.replica.version
         outcome = desk.perform("anna", "test", [request])
         answer = outcome.steps[0].answer or {}
         seen[f"{request['do']} {answer.get('no', 'done')}"] += 1
         assert tried.get("no") == answer.get("no") or answer.get("known"), (request, answer, tried)
-        if broken or answer.get("no") in RULES:
-            assert broken is not None and answer == {"no": broken.rule}, (request, answer, broken)
-            assert_breaks(desk, request, broken)
+        if answer.get("no") in RULES:
+            assert_breaks(desk, answer["no"], request)
         if "no" in answer:
             assert desk.replica.version == before
         else:
@@ -133,42 +130,36 @@ def test_random_requests(room: Path, open_desk: Callable[[Path], Desk]) -> None:
     assert_as_built(desk.journal.path, desk.db, room)
 
 
-def test_foreseen_merges(room: Path, open_desk: Callable[[Path], Desk]) -> None:
+def test_previews_of_merges(room: Path, open_desk: Callable[[Path], Desk]) -> None:
     """What a merge is said to move and to drop is what it moves and drops."""
     desk = open_desk(room / "merges.db")
     dice, merges = Requests(5), 0
     while merges < 60:
         request = throw(desk, dice)
-        if request["do"] != "merge" or as_plain(desk.replica).refuses_merge(request["source"], request["target"]):
+        tried = desk.tried([request]) if request["do"] == "merge" else {}
+        if "changes" not in tried:
             desk.perform("anna", "test", [request])
             continue
-        source, target = request["source"], request["target"]
-        merge = foresee_merge(desk.replica, source, target)
-        before = desk.replica.view(target)
-        own = {link for it in resources(desk.replica).values() for link in it.links()}
-        moving = desk.replica.postings.numbers_at(source)
-        outcome = desk.perform("anna", "merge", [request])
-        after = desk.replica.view(target)
-        assert outcome.is_done == (merge.broken is None)
-        if not outcome.is_done or not before or not after:
-            continue
         merges += 1
-        assert outcome.steps[0].answer == {"moved": len(moving)}
-        assert merge.records == len({postings(desk.replica)[it - 1].record for it in moving})
-        assert after.postings == before.postings + len(moving)
-        labels = {
-            (kind, *term) for kind in ("alt", "hidden") for term in set(after.terms(kind)) - set(before.terms(kind))
+        source, target = request["source"], request["target"]
+        merge = preview_of(desk.replica, source, target, tried["changes"])
+        before, own = resources(desk.replica)[target], resources(desk.replica)[source]
+        moving = [postings(desk.replica)[it - 1] for it in desk.replica.postings.numbers_at(source)]
+        there = desk.replica.postings.records_at(target)
+        assert desk.perform("anna", "merge", [request]).is_done
+        after = resources(desk.replica)[target]
+        assert sorted(after.labels - before.labels) == list(merge.labels) and before.labels <= after.labels
+        assert {it[1:] for it in merge.dropped_labels} == {
+            it[1:] for it in own.labels if it[0] != "scope" and it[1:] in {has[1:] for has in before.labels}
         }
-        assert labels == set(merge.labels)
-        assert after.pref == before.pref and after.scope == before.scope
-        now = {link for it in resources(desk.replica).values() for link in it.links()}
-        ended = {*merge.links, *merge.there, *merge.between}
-        assert own - now == ended
-        sent = {
-            desk.replica.normal(Link(it.kind, *(target if end == source else end for end in it[1:])))
-            for it in merge.links
-        }
-        assert now - own == sent
+        assert sorted(merge.postings) == [it.number for it in moving]
+        records = {it.record for it in moving}
+        assert (merge.records, merge.doubles) == (len(records), len(records & there))
+        had, has = ({seen_from(target, it) for it in links.links()} for links in (before, after))
+        became = {what: {it[:2] for it in merge.links if it[2] == what} for what in ("moves", "there", "between")}
+        assert {seen_from(source, it) for it in own.links()} == set().union(*became.values())
+        assert became["moves"] == has - had and became["there"] <= had
+        assert {other for _, other in became["between"]} <= {target} and not any(it[1] == source for it in has)
 
 
 def test_eight_threads(room: Path, open_desk: Callable[[Path], Desk]) -> None:

@@ -46,6 +46,11 @@ class Postings:
         """Returns the postings of some numbers that there are, in the order of their numbers."""
         return self.find("num IN (SELECT value FROM json_each(?))", json.dumps(list(numbers)))
 
+    def records_of(self, numbers: Iterable[int]) -> set[str]:
+        """Returns the records of the postings of some numbers."""
+        query = "SELECT DISTINCT record FROM json_each(?) CROSS JOIN posting ON num = value"
+        return {it[0] for it in self.store.all(query, json.dumps(list(numbers)))}
+
     def with_key(self, key: str) -> Posting | None:
         """Returns the posting that has a key."""
         return next(iter(self.find("pkey = ?", key)), None)

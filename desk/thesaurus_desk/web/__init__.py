@@ -24,8 +24,8 @@
   open_records       who has which record open
   annif              concepts for a text, by another service
   proposal_forms     what the form for a proposal asks for
-  merge_preview      what a merge would do
-  rule_conflicts     which rule a merge or a link would break, and by which resources
+  merge_preview      what the program says that a merge would do
+  rule_conflicts     along which resources a merge or a link would break the rule for which it is refused
   field_views        which fields and values of a resource its page shows
   array_views        what the page of a concept or a collection shows of its place
   watch_mail         mail with what has happened to what people watch

@@ -1,13 +1,11 @@
-"""Which rule a merge or a link would break, and the resources that break it: only to explain. The program has the last
-word."""
+"""Along which resources a merge or a link would break the rule for which the program has refused it."""
 from __future__ import annotations
 
 from collections.abc import Iterator
-from dataclasses import dataclass
 
 from thesaurus_desk.store.model import OPPOSITE, Link
 from thesaurus_desk.store.replica import Replica
-from thesaurus_tools.kinds import BROADER, MAPPINGS
+from thesaurus_tools.kinds import BROADER
 
 UP, DOWN, RELATED, EXACT, APART = "up", "down", "related", "exact", "apart"
 # The mappings, as seen from a resource, that lead so.
@@ -20,38 +18,34 @@ MATCHES = {
 }
 
 
-@dataclass(frozen=True, slots=True)
-class RuleConflict:
-    """A rule that a request would break, and the resources that break it.
-
-    Of Cycle, `way` is the ring: its first is its last. Of S27, `way` is the chain up from one of two related concepts
-    to the other. Of S46, `way` is the two that would be exact matches, and broader or related matches. In the ways of a
-    merge the target is in the place of the source."""
-
-    rule: str
-    way: tuple[int, ...]
+# The resources along which a rule would be broken, none if they aren't found. Of Cycle it is the ring: its first is its
+# last. Of S27 it is the chain up from one of two related concepts to the other. Of S46 it is the two that would be
+# exact matches, and broader or related matches. In the ways of a merge the target is in the place of the source.
+Way = tuple[int, ...]
 
 
-def rule_broken_by_merge(replica: Replica, source: int, target: int) -> RuleConflict | None:
-    """Returns the first of Cycle, S27 and S46 that a merge of two concepts would break."""
+def way_of_merge(replica: Replica, rule: str, source: int, target: int) -> Way:
+    """Returns the way along which a merge of two concepts would break a rule."""
     with replica.reading():
         graph = Graph(replica, merged=(source, target))
-        return graph.cycle(target) or graph.related_in_chain(target, target) or graph.apart_but_exact(target)
+        if rule == "Cycle":
+            return graph.chain(target, target)
+        return graph.related_in_chain(target, target) if rule == "S27" else graph.apart_but_exact(target)
 
 
-def rule_broken_by_link(replica: Replica, link: Link) -> RuleConflict | None:
-    """Returns the first of Cycle, S27 and S46 that a link would break. Its ends must be such as the kind joins."""
+def way_of_link(replica: Replica, rule: str, link: Link) -> Way:
+    """Returns the way along which a link would break a rule. Its ends must be such as the kind joins."""
     with replica.reading():
         graph = Graph(replica, added=replica.normal(link))
         kind, a, b = link
-        if kind in BROADER or kind in ("broad", "narrow"):
-            low, high = (b, a) if kind == "narrow" else (a, b)
-            broken = graph.cycle(low) or graph.related_in_chain(low, high)
-        elif kind in ("related", "relMatch"):
-            broken = graph.chained(a, b) or graph.chained(b, a)
-        else:
-            broken = None
-        return broken or (graph.apart_but_exact(a) if kind in MAPPINGS else None)
+        low, high = (b, a) if kind == "narrow" else (a, b)
+        if rule == "Cycle":
+            return graph.chain(low, low)
+        if rule == "S46":
+            return graph.apart_but_exact(a)
+        if kind in ("related", "relMatch"):
+            return graph.chain(a, b) or graph.chain(b, a)
+        return graph.related_in_chain(low, high)
 
 
 class Graph:
@@ -95,8 +89,8 @@ class Graph:
             waiting += news
         return found
 
-    def chained(self, low: int, high: int, rule: str = "S27") -> RuleConflict | None:
-        """Returns the shortest chain of one or more links up from one to another as what breaks a rule."""
+    def chain(self, low: int, high: int) -> Way:
+        """Returns the shortest chain of one or more links up from one to another, or from one to itself."""
         came: dict[int, int] = {}
         waiting = [low]
         for at in waiting:
@@ -105,28 +99,25 @@ class Graph:
                     way = [high, at]
                     while way[-1] != low:
                         way.append(came[way[-1]])
-                    return RuleConflict(rule, tuple(way[::-1]))
+                    return tuple(way[::-1])
                 if above not in came and above != low:
                     came[above] = at
                     waiting.append(above)
-        return None
+        return ()
 
-    def cycle(self, number: int) -> RuleConflict | None:
-        """Returns the ring on which a resource is."""
-        return self.chained(number, number, "Cycle")
-
-    def related_in_chain(self, low: int, high: int) -> RuleConflict | None:
-        """Returns two related ones, where one is `low` or below it, and the other one `high` or above it."""
+    def related_in_chain(self, low: int, high: int) -> Way:
+        """Returns the chain up between two related ones, where one is `low` or below it, and the other one `high` or
+        above it."""
         above = self.reach(high, UP)
         for one in sorted(self.reach(low, DOWN)):
             for other in sorted(self.next_to(one, RELATED) & above - {one}):
-                return self.chained(one, other)
-        return None
+                return self.chain(one, other)
+        return ()
 
-    def apart_but_exact(self, number: int) -> RuleConflict | None:
+    def apart_but_exact(self, number: int) -> Way:
         """Returns two of those that are exact matches by a chain with a resource, and that have another match, too."""
         alike = self.reach(number, EXACT)
         for one in sorted(alike):
             for other in sorted(self.next_to(one, APART) & alike):
-                return RuleConflict("S46", (one, other))
-        return None
+                return one, other
+        return ()

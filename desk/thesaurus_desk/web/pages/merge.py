@@ -1,7 +1,7 @@
-"""Merges a concept into another one: both side by side, with what will move or be dropped, and the notes to copy."""
+"""Merges a concept into another one: both side by side, with what the program says that will move, and the notes to
+copy."""
 from __future__ import annotations
 
-from collections.abc import Iterable
 from dataclasses import dataclass
 from functools import partial
 from typing import Any
@@ -10,26 +10,26 @@ from flask import Blueprint, abort, render_template, request
 from markupsafe import Markup
 
 from thesaurus_desk.auth.route_roles import role
-from thesaurus_desk.journal.entries import Request
+from thesaurus_desk.journal.entries import Answer, Request
 from thesaurus_desk.journal.undo import fits
-from thesaurus_desk.store.model import Link, View
+from thesaurus_desk.store.model import View
 from thesaurus_desk.web.concept_choice import choose, needs_choice
 from thesaurus_desk.web.context import acts_on, say, tags, the_desk, the_replica, words
 from thesaurus_desk.web.form_submission import problem_in, submit
 from thesaurus_desk.web.forms import FormState, Problem
 from thesaurus_desk.web.journal_text import LINKS
-from thesaurus_desk.web.merge_preview import MergePreview, foresee_merge
+from thesaurus_desk.web.merge_preview import MergePreview, preview_of
 from thesaurus_desk.web.pages.move import live_concept
 from thesaurus_desk.web.paths import concept_path
 from thesaurus_desk.web.refusals import explain, label_of
 from thesaurus_desk.web.value_copies import copies_to, copy_requests
 from thesaurus_desk.web.work_views import work_of
-from thesaurus_tools.kinds import BROADER
 
 pages = Blueprint("merge", __name__)
 
 CHOICE, FORM = "into", "merge"
-TURNED = {"broad": "narrow", "narrow": "broad"}
+# The refusals that concern which concept was chosen.
+OF_TARGET = ("UnknownResource", "WrongKind", "NotLive", "SameResource", "OtherScheme")
 
 
 @pages.route("/c/<int:number>/merge", methods=["GET", "POST"])
@@ -45,32 +45,13 @@ def merge(number: int) -> Any:
     if chosen.number is None:
         return merge_page(source, None, needs_choice(CHOICE, request.values, chosen), 409)
     target = the_replica().view(chosen.number)
-    problem = wrong_target(source, target)
-    if target is None or problem:
-        return merge_page(source, None, FormState(CHOICE, request.values, [Problem("other", problem)]), 409)
+    assert target is not None
     again = partial(merge_page, source, target)
     if request.method == "GET":
         return again(FormState(), 200)
     if "sure" not in request.form:
         return again(problem_in(FORM, "sure", say("merge.tick")), 409)
     return submit("merge", merge_requests(source, target), then=concept_path(target.number), show=again)
-
-
-def wrong_target(source: View, target: View | None) -> str:
-    """Returns why a concept can't be the target, as the program would; nothing if it can."""
-    name = ""
-    if target is None:
-        name = "UnknownResource"
-    elif target.kind != "concept":
-        name = "WrongKind"
-    elif not target.is_live:
-        name = "NotLive"
-    elif target.number == source.number:
-        name = "SameResource"
-    elif target.scheme != source.scheme:
-        name = "OtherScheme"
-    asked = {"do": "merge", "source": source.number, "target": target.number if target else 0}
-    return explain({"no": name}, asked, the_replica(), words(), LINKS) if name else ""
 
 
 def merge_requests(source: View, target: View) -> list[Request]:
@@ -83,12 +64,20 @@ def merge_requests(source: View, target: View) -> list[Request]:
             requests.append({"do": "addLabel", "owner": target.number, "kind": "scope", "tag": tag, "text": text})
     # (before the merge, since nothing is set at what has ended)
     requests += copy_requests(copies_to(source.number, target.number), target.number, request.form.getlist("value"))
-    return [*requests, {"do": "merge", "source": source.number, "target": target.number}]
+    return [*requests, merge_of(source, target)]
+
+
+def merge_of(source: View, target: View) -> Request:
+    """Returns the request of a merge."""
+    return {"do": "merge", "source": source.number, "target": target.number}
 
 
 def merge_page(source: View, target: View | None, state: FormState, status: int) -> Any:
     """Returns the page of a merge: the question into which concept, and if there is an answer, what will happen."""
-    foreseen = foresee_merge(the_replica(), source.number, target.number) if target is not None else None
+    answer = the_desk().tried([merge_of(source, target)]) if target is not None else {}
+    if target is not None and answer.get("no") in OF_TARGET:
+        state, status = FormState(CHOICE, request.values, [Problem("other", explained(source, target, answer))]), 409
+        target = None
     seen = the_desk().seen
     page = render_template(
         "merge/page.html",
@@ -97,19 +86,32 @@ def merge_page(source: View, target: View | None, state: FormState, status: int)
         state=state,
         source=source,
         target=target,
-        plan=foreseen,
-        terms=told_terms(source, target, foreseen) if target and foreseen else [],
-        links=told_links(foreseen) if foreseen else [],
         notes=[(place, it) for place, it in enumerate(source.scope) if target is not None and it not in target.scope],
         copies=copies_to(source.number, target.number) if target is not None else [],
-        broken=told_break(foreseen),
         quoted=quote,
-        candidates=told_candidates(source, target) if target is not None else [],
-        is_final=target is not None and not fits(the_replica().postings.numbers_at(source.number)),
         count_records=the_replica().count_records,
         marks=[seen.mark(it.number, "all") for it in (source, target) if it is not None],
+        **(told_merge(source, target, answer) if target is not None else {}),
     )
     return page, status
+
+
+def told_merge(source: View, target: View, answer: Answer) -> dict[str, Any]:
+    """Returns what a page says of a merge by the program's answer to the question what it would do."""
+    if "changes" not in answer:
+        return {"refused": explained(source, target, answer), "is_refused": bool(answer)}
+    plan = preview_of(the_replica(), source.number, target.number, answer["changes"])
+    return {
+        "plan": plan,
+        "terms": told_terms(source, target, plan),
+        "candidates": told_candidates(source, target),
+        "is_final": not fits(plan.postings),
+    }
+
+
+def explained(source: View, target: View, answer: Answer) -> Markup:
+    """Returns why the program would refuse a merge, or that it can't be asked now."""
+    return explain(answer or {"fault": "Closed"}, merge_of(source, target), the_replica(), words(), LINKS)
 
 
 @dataclass(frozen=True)
@@ -136,26 +138,6 @@ def told_terms(source: View, target: View, plan: MergePreview) -> list[Terms]:
     return [Terms(tag, rows[tag], tag in lacking) for tag in order]
 
 
-def told_links(plan: MergePreview) -> list[tuple[str, int, str]]:
-    """Returns the source's links: the kind as seen from it, the other end, and moves, there or between."""
-    kinds: Iterable[tuple[str, tuple[Link, ...]]] = (
-        ("moves", plan.links),
-        ("there", plan.there),
-        ("between", plan.between),
-    )
-    return [(*seen_from(plan.source, it), what) for what, links in kinds for it in links]
-
-
-def seen_from(number: int, link: Link) -> tuple[str, int]:
-    """Returns the kind of a link as seen from one of its ends, and the other end."""
-    if link.kind == "member":
-        return "collection", link.a
-    if link.a == number:
-        return link.kind, link.b
-    kind = link.kind.replace("broader", "narrower") if link.kind in BROADER else TURNED.get(link.kind, link.kind)
-    return kind, link.a
-
-
 def told_candidates(source: View, target: View) -> list[str]:
     """Returns what is said where one of two concepts is a candidate: what the public will see of them."""
     is_source, is_target = (work_of(it.number).is_hidden for it in (source, target))
@@ -163,14 +145,6 @@ def told_candidates(source: View, target: View) -> list[str]:
     if is_source == is_target:
         return []
     return [say("merge.candidate_source" if is_source else "merge.candidate_target", **names)]
-
-
-def told_break(plan: MergePreview | None) -> str | Markup:
-    """Returns which rule a merge will break, in words; nothing if it won't."""
-    if plan is None or plan.broken is None:
-        return ""
-    asked = {"do": "merge", "source": plan.source, "target": plan.target}
-    return explain({"no": plan.broken.rule}, asked, the_replica(), words(), LINKS)
 
 
 def quote(text: str, tag: str) -> Markup:

@@ -5,7 +5,7 @@ from markupsafe import Markup
 
 from thesaurus_desk.store.model import Link
 from thesaurus_desk.web.refusals.case import Case
-from thesaurus_desk.web.rule_conflicts import rule_broken_by_link, rule_broken_by_merge
+from thesaurus_desk.web.rule_conflicts import way_of_link, way_of_merge
 from thesaurus_tools.kinds import MAPPINGS
 
 RELATED = ("related", "relMatch")
@@ -24,10 +24,8 @@ def broken_way(case: Case) -> tuple[int, ...]:
     if not all(case.replica.kind(it) for it in ends_of(case)):
         return ()
     if case.do == "merge":
-        broken = rule_broken_by_merge(case.replica, *ends_of(case))
-    else:
-        broken = rule_broken_by_link(case.replica, Link(case.request["kind"], *ends_of(case)))
-    return broken.way if broken is not None and broken.rule == case.name else ()
+        return way_of_merge(case.replica, case.name, *ends_of(case))
+    return way_of_link(case.replica, case.name, Link(case.request["kind"], *ends_of(case)))
 
 
 def pair_before_merge(case: Case, way: tuple[int, ...], kinds: tuple[str, ...]) -> tuple[int, int]:
