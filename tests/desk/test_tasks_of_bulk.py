@@ -2,6 +2,7 @@
 clicks that they take: one misspelling in eight concepts, and a branch that moves."""
 from __future__ import annotations
 
+import csv
 import json
 import subprocess
 from collections.abc import Iterator
@@ -19,15 +20,17 @@ MISSPELT = range(5, 13)
 BRANCH = ("Bows", "Cellos", "Double basses", "Fiddles", "Violas", "Violins")
 # The rows of a table that takes longer than a page waits for it.
 LONG = 600
-# By hand the misspelling took 30 clicks, and a branch 4.
-BY_HAND, MOVE = 30, 4
+# By hand the misspelling took 30 clicks, a branch 4, and a table of translations 7.
+BY_HAND, MOVE, TRANSLATE = 30, 4, 7
+UNTRANSLATED = ("Lyres", "Sistra", "Rattles")
 
 
 @pytest.fixture
 def misspelt_desk(program: str, store: Path, users: Path) -> Iterator[Running]:
-    """A desk with one misspelling in eight concepts."""
+    """A desk with one misspelling in eight concepts, and with concepts that are in one language alone."""
     label = {"do": "addLabel", "kind": "alt", "tag": "en"}
     lines = [json.dumps({**label, "owner": it, "text": f"Instrumant {it}"}) for it in MISSPELT]
+    lines += [json.dumps({"do": "concept", "scheme": 1, "tag": "en", "text": it}) for it in UNTRANSLATED]
     subprocess.run([program, "--db", store, "script"], input="\n".join(lines).encode(), capture_output=True, check=True)
     with running("--db", store, "--users", users, "--program", program) as found:
         yield found
@@ -91,6 +94,28 @@ def test_a_whole_branch_moves(hand: Hand) -> None:
     assert hand.clicks == 2 <= MOVE / 2
 
 
+def test_translate_a_work_list(hand: Hand, tmp_path: Path) -> None:
+    """The concepts without a term in a language, as a table; once it is filled in and chosen, it is shown by itself."""
+    hand.press(SAY("shell.lists"))
+    link = hand.find(f"français: {SAY('shell.csv')}", "a")
+    hand.clicks += 1
+    get = "const done = arguments[1]; fetch(arguments[0]).then(it => it.text()).then(done);"
+    saved = tmp_path / "french.csv"
+    saved.write_text(hand.driver.execute_async_script(get, link.get_attribute("href")), encoding="utf-8")
+    with saved.open(encoding="utf-8-sig", newline="") as file:
+        heading, *rows = csv.reader(file)
+    of, french = heading.index("term"), heading.index("preferred term (fr)")
+    for it in rows:
+        it[french] = f"{it[of]} en français"
+    with saved.open("w", encoding="utf-8", newline="") as file:
+        csv.writer(file).writerows([heading, *rows])
+    hand.send_file("filled", saved)
+    hand.sees(SAY("bring_in.rows_change", n=len(rows)))
+    hand.press(SAY("bring_in.perform_ticked"))
+    hand.sees(SAY("bring_in.rows_changed", n=len(rows)))
+    assert len(rows) == len(UNTRANSLATED) and hand.clicks == 3 <= TRANSLATE / 2
+
+
 def test_a_long_table_is_left_and_come_back_to(driver: WebDriver, shared_desk: Running, tmp_path: Path) -> None:
     """The page shows by itself how far it is, and what came of it; other pages are there meanwhile."""
     path = tmp_path / "zithers.csv"
@@ -109,7 +134,7 @@ def test_a_long_table_is_left_and_come_back_to(driver: WebDriver, shared_desk: R
     hand.wait(lambda: hand.text().partition(shown)[2][:9] != first, "more rows")
     assert driver.execute_script("return window.isTheSame"), "the page wasn't loaded anew"
     hand.press(SAY("shell.tree"))
-    hand.sees("Violins")
+    hand.sees("Zither 000")
     hand.press(SAY("shell.bring_in"))
     hand.press("zithers.csv")
     hand.sees(SAY("bring_in.rows_changed", n=LONG))

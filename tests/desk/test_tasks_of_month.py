@@ -22,9 +22,9 @@ from thesaurus_desk.store.plan_execution import Desk
 pytestmark = pytest.mark.needs("chromedriver", "selenium")
 WAYS = ("keyboard", "mouse", "narrow")
 ENTITY = "http://www.wikidata.org/entity/"
-# The clicks that these tasks once took: of a find, a mapping, a table of translations, a record (keys), who changed
-# what, a merge and a batch that are taken back, a round of quality. A test says if one takes more than half of them.
-FIND, MAP, TRANSLATE, KEYS, WHO, BACK, QUALITY = 3, 5, 7, 50, 5, 3 + 54, 2
+# The clicks that these tasks once took: of a find, a mapping, a record (keys), who changed what,
+# a merge and a batch that are taken back, a round of quality. A test says if one takes more than half of them.
+FIND, MAP, KEYS, WHO, BACK, QUALITY = 3, 5, 50, 5, 3 + 54, 2
 # Concepts of the sample.
 BOWED, VIOLINS, HARPS, FIDDLES = 4, 5, 11, 31
 # How an item of Wikidata is copied, and its number.
@@ -160,30 +160,6 @@ def test_14_translate_in_a_table(hand: Hand, tmp_path: Path) -> None:
     hand.sees(SAY("bring_in.is_exact"))
     hand.press(SAY("bring_in.perform_ticked"))
     hand.sees(SAY("bring_in.rows_changed", n=len(rows)))
-
-
-def test_14_translate_a_work_list(hand: Hand, tmp_path: Path) -> None:
-    """The concepts without a term in a language, as a table; once it is filled in and chosen, it is shown by itself."""
-    come_in_as(hand, "ben").clicks = 0
-    hand.press(SAY("shell.lists"))
-    link = hand.find(f"français: {SAY('shell.csv')}", "a")
-    hand.clicks += 1
-    get = "const done = arguments[1]; fetch(arguments[0]).then(it => it.text()).then(done);"
-    saved = tmp_path / "french.csv"
-    saved.write_text(hand.driver.execute_async_script(get, link.get_attribute("href")), encoding="utf-8")
-    with saved.open(encoding="utf-8-sig", newline="") as file:
-        heading, *rows = csv.reader(file)
-    of, french = heading.index("term"), heading.index("preferred term (fr)")
-    for it in rows:
-        it[french] = f"{it[of]} en français"
-    with saved.open("w", encoding="utf-8", newline="") as file:
-        csv.writer(file).writerows([heading, *rows])
-    hand.send_file("filled", saved)
-    hand.sees(SAY("bring_in.rows_change", n=len(rows)))
-    hand.press(SAY("bring_in.perform_ticked"))
-    hand.sees(SAY("bring_in.rows_changed", n=len(rows)))
-    assert rows
-    takes_half(hand, TRANSLATE)
 
 
 # --- records ---
