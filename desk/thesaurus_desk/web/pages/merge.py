@@ -76,7 +76,10 @@ def merge_page(source: View, target: View | None, state: FormState, status: int)
     """Returns the page of a merge: the question into which concept, and if there is an answer, what will happen."""
     answer = the_desk().tried([merge_of(source, target)]) if target is not None else {}
     if target is not None and answer.get("no") in OF_TARGET:
-        state, status = FormState(CHOICE, request.values, [Problem("other", explained(source, target, answer))]), 409
+        state, status = (
+            FormState(CHOICE, request.values, [Problem("other", reason_against(source, target, answer))]),
+            409,
+        )
         target = None
     seen = the_desk().seen
     page = render_template(
@@ -99,17 +102,17 @@ def merge_page(source: View, target: View | None, state: FormState, status: int)
 def told_merge(source: View, target: View, answer: Answer) -> dict[str, Any]:
     """Returns what a page says of a merge by the program's answer to the question what it would do."""
     if "changes" not in answer:
-        return {"refused": explained(source, target, answer), "is_refused": bool(answer)}
+        return {"refused": reason_against(source, target, answer), "is_refused": bool(answer)}
     plan = preview_of(the_replica(), source.number, target.number, answer["changes"])
     return {
         "plan": plan,
-        "terms": told_terms(source, target, plan),
+        "terms": terms_by_language(source, target, plan),
         "candidates": told_candidates(source, target),
         "is_final": not fits(plan.postings),
     }
 
 
-def explained(source: View, target: View, answer: Answer) -> Markup:
+def reason_against(source: View, target: View, answer: Answer) -> Markup:
     """Returns why the program would refuse a merge, or that it can't be asked now."""
     return explain(answer or {"fault": "Closed"}, merge_of(source, target), the_replica(), words(), LINKS)
 
@@ -125,7 +128,7 @@ class Terms:
     lacks_preferred: bool
 
 
-def told_terms(source: View, target: View, plan: MergePreview) -> list[Terms]:
+def terms_by_language(source: View, target: View, plan: MergePreview) -> list[Terms]:
     """Returns what becomes of the source's terms, by their languages, the reader's first."""
     rows: dict[str, list[tuple[str, str]]] = {}
     for kind, tag, text in plan.labels:
