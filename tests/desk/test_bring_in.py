@@ -476,6 +476,16 @@ def test_the_report_of_a_vocabulary_is_in_words(anna: Client, language: str) -> 
 
 
 @pytest.mark.needs("rdflib")
+def test_why_no_concept_would_be_left_is_in_words(anna: Client) -> None:
+    anna.get("/language?pages=de&next=/")
+    data = SKOS[: SKOS.index(":a a ")] + ":a a skos:Concept ; skos:inScheme :s ."
+    page = send(anna, "/bring-in/skos", data.encode(), "places.ttl")
+    said = " ".join(text_of(page).split())
+    assert page.status_code == 409 and "places.ttl: Kein Begriff bliebe übrig." in said
+    assert "http://old.example/a: Begriff ohne Vorzugsbenennung" in said and '<span lang="en"' not in page.text
+
+
+@pytest.mark.needs("rdflib")
 def test_a_text_with_a_line_separator_comes_in(site: Site, anna: Client) -> None:
     data = SKOS + ':a skos:altLabel "Eu\u2028rope"@en ; <http://x.example/p> "a\u2029b" .'
     page = send(anna, "/bring-in/skos", data.encode(), "places.ttl", tag="en")

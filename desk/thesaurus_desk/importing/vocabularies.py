@@ -30,11 +30,12 @@ ENDS = (*FORMATS, PACKED)
 
 
 class SkosError(Exception):
-    """Why a file isn't read as a vocabulary: the key of its text, its values, and what the converter said."""
+    """Why a file isn't read as a vocabulary: the key of its text, its values, and what the converter said, or what it
+    found."""
 
-    def __init__(self, key: str, said: str = "", **values: object) -> None:
+    def __init__(self, key: str, said: str = "", report: Sequence[ReportRow] = (), **values: object) -> None:
         super().__init__(f"{key} {said}")
-        self.key, self.said, self.values = key, said, values
+        self.key, self.said, self.report, self.values = key, said, report, values
 
 
 @dataclass
@@ -106,11 +107,14 @@ def convert_skos(desk: Desk, name: str, data: bytes, options: SkosOptions) -> Sk
         beside = ("--journal", str(desk.journal.path), "--report", str(lines))
         ran = run_tool("from-skos", str(path), *options.words(), *beside)
         said = [it.removeprefix("from-skos: ") for it in ran.stderr.replace(str(path), name).splitlines()]
+        # (a text may have characters at which splitlines() ends a line, as U+2028)
+        found = lines.read_text(encoding="utf-8").split("\n") if lines.exists() else []
+        report = [read_report_row(json.loads(it)) for it in found if it]
+        if ran.returncode and report:
+            raise SkosError("nothing_left", report=report, name=name)
         if ran.returncode or not ran.stdout:
             raise SkosError("failed", "\n".join(said[-SHOWN:]), name=name)
-        # (a text may have characters at which splitlines() ends a line, as U+2028)
         requests = [json.loads(it) for it in ran.stdout.split("\n") if it]
-        report = [read_report_row(json.loads(it)) for it in lines.read_text(encoding="utf-8").split("\n") if it]
         return SkosRun(name, requests, report, digest=hashlib.sha256(data).hexdigest())
 
 
