@@ -92,6 +92,8 @@ ROWS = {
     "several_have": "several have “{text}”: {concepts}; write the number of the one you mean",
     "term_of_ended": "“{text}” is a term of what is no longer in use: {concepts}",
     "not_called": "no {kind} is called “{text}”",
+    "ring": "row {row} makes “{text}”, and needs what this row makes, too: leave one of these links out, and add it "
+    "later",
     "same_match": "{other} is {term}, too: one of them must go",
     "changed_since": "{term} was changed since this table was made; here: {here}; now: {now}",
     "seen_of_other": "what was seen is no longer beside its concept: it isn't that of {number} ({term})",
