@@ -94,6 +94,8 @@ def test_files_of_crates_are_there() -> None:
     for row in rows:
         crates = set(re.findall(r"\b(?:thes|test|bench)_\w+", " ".join(row)))
         there = {it.name for crate in crates for it in (ROOT / "crates" / crate).rglob("*")}
-        there.update(it.name for it in ROOT.glob("tests/*/*"))
-        lacking += [it for it in re.findall(r"`(?:[\w/]+/)?(\w+\.(?:antt|rt|py))`", row[1]) if it not in there]
+        folders = [it for it in row[0].split(", ") if it in ("desk", "tools", "tests")]
+        there.update(it.name for folder in folders for it in (ROOT / folder).rglob("*"))
+        named = re.findall(r"`(?:[\w/]+/)?(\w+\.(?:antt|rt|py|po|toml|txt))`", row[1])
+        lacking += [it for it in named if it not in there]
     assert rows and not lacking
