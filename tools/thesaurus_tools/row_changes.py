@@ -25,10 +25,10 @@ DEEDS = {
     "rename": "rename|umbenennen|renommer",
     "move": "move|verschieben|deplacer",
     "merge": "merge|zusammenlegen|zusammenfuhren|fusionner",
-    "deprecate": "deprecate|end|remove|delete|take out of use|streichen|loschen|supprimer",
+    "deprecate": "deprecate|end|remove|delete|take out of use|stilllegen|streichen|loschen|supprimer",
     "post": "post|index|erschliessen|indexieren|indexer",
     "withdraw": "withdraw|zuruckziehen|retirer",
-    "split": "split|teilen|diviser",
+    "split": "split|aufteilen|teilen|scinder|diviser",
     "": "|-|no|nothing|keep|nichts|rien",
 }
 BY_DEED = {word: deed for deed, words in DEEDS.items() for word in words.split("|")}

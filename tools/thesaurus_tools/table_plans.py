@@ -22,7 +22,7 @@ NOTATION = f"{OF_FIELD}notation"
 KINDS = {
     "new": ("new", "each row is a new concept: a preferred term; perhaps broader, other terms, notes and links"),
     "translations": ("translate", "terms and notes that concepts lack; a preferred term that is there stays"),
-    "renames": ("rename", "concept (or old) and new; the old term becomes an alternative one, unless --forget"),
+    "renames": ("rename", "concept (or old) and new; the old term becomes a non-preferred one, unless --forget"),
     "moves": ("move", "concept and broader: the new places; all others are left"),
     "merges": ("merge", "concept and into"),
     "postings": ("post", "record and concept; perhaps key"),

@@ -14,7 +14,7 @@ printed, and --columns corrects it.
 The first command prints in words what each row would do, tried on a copy. The second writes a script for tools/load.
 The third performs the rows, and writes those that are refused to a table again, with the reasons.
 
-A concept is named by its number, IRI, old code (a hidden term) or a term. What a row asks for is said by the kind of
+A concept is named by its number, IRI, old code (a hidden label) or a term. What a row asks for is said by the kind of
 the table, or by its column do: new, change, translate, rename, move, merge, deprecate, post, withdraw, split. What is
 there already is left as it is, so a table can be sent again. Rows may be in any order: a concept is made before those
 that name it. Rows that exchange terms are done together. | parts several values of a cell.
@@ -193,7 +193,7 @@ def arguments() -> argparse.Namespace:
         help="the encoding of CSV that isn't UTF-8 or UTF-16: cp1252 (that of Windows in the West), latin-1",
     )
     add("--sheet", default="", metavar="NAME", help="the sheet of an ODS or XLSX file (the first)")
-    add("--forget", action="store_true", help="renames don't keep the old term as an alternative one")
+    add("--forget", action="store_true", help="renames don't keep the old term as a non-preferred one")
     add(
         "--replace",
         action="store_true",
