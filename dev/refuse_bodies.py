@@ -16,7 +16,7 @@ check; without that, each crate is proved once first. With --proved the crates a
 them, with their libraries in out/: then none is proved for this but the functions that edited ones call. With --control
 a neutral edit takes the place of the wrong bodies of each function: one value becomes two cases with the same result.
 Where that is refused, too, the proof rests on the function's shape, and the refusals of wrong bodies that change the
-shape, by a branch or an exit, say little: tests/shape_bound.txt lists them, and docs/WRONG_BODIES.md marks them. Run it
+shape, by a branch or an exit, say little: tests/shape_bound.txt lists them, and dev/list-edits marks them. Run it
 once in a while, with --shaped only over functions with such wrong bodies. If all wrong bodies of a crate are refused,
 its line in the record tests/refused.txt gets a sum of what that rests on: the toolchain, the sources of the crate and
 of those below it, and the bodies. As long as the sum stays, they aren't tried again but with --all. Commit the record

@@ -47,12 +47,15 @@ class Imports(NamedTuple):
 
 
 class Definition(NamedTuple):
+    """A definition: its comment, its text, and the line of its file where that begins."""
+
     comment: str
     body: str
+    line: int
 
 
 class Function(NamedTuple):
-    """A function of the sources: whether other crates can call it, its comment, and its clauses as a text."""
+    """A function of the sources: whether other crates can call it, its comment, its clauses as a text, and its line."""
 
     crate: str
     owner: str
@@ -60,6 +63,7 @@ class Function(NamedTuple):
     is_public: bool
     comment: str
     clauses: str
+    line: int
 
 
 def imported(lines: Iterable[str]) -> Imports:
@@ -83,7 +87,7 @@ def read_file(path: Path) -> tuple[dict[str, Definition], str]:
     found: dict[str, Definition] = {}
     comment: list[str] = []
     name, head = None, ""
-    for line in path.read_text(encoding="utf-8").splitlines():
+    for number, line in enumerate(path.read_text(encoding="utf-8").splitlines(), 1):
         text = line.strip()
         if text.startswith("--"):
             comment.append(text.lstrip("- "))
@@ -91,11 +95,11 @@ def read_file(path: Path) -> tuple[dict[str, Definition], str]:
         head = head or " ".join(comment)
         if match := DEFINED.match(line):
             name = match[1]
-            found.setdefault(name, Definition(" ".join(comment), line))
+            found.setdefault(name, Definition(" ".join(comment), line, number))
         elif text.startswith(("use ", "pub use ", "module ")):
             name = None
         elif name:
-            found[name] = Definition(found[name].comment, f"{found[name].body}\n{line}")
+            found[name] = found[name]._replace(body=f"{found[name].body}\n{line}")
         # (an operator's binding is between its comment and its definition)
         if not text.startswith("infix"):
             comment = []
@@ -222,7 +226,8 @@ def functions_of(path: Path) -> Iterator[Function]:
         elif match := FUNCTION.match(line):
             is_public = match[2] == "pub " or (is_open and not match[2])
             clauses = clauses_below(lines, at)
-            yield Function(crate, owner if match[1] else "", match[3], is_public, " ".join(comment), clauses)
+            owned_by = owner if match[1] else ""
+            yield Function(crate, owned_by, match[3], is_public, " ".join(comment), clauses, at + 1)
             comment = []
         elif not text.startswith("#["):
             comment = []

@@ -5,4 +5,5 @@ neutral  makes neutral edits, which show what a refusal of another shape is wort
 checks   reads what a check said, and decides what became of the edits of a round
 rounds   tries the edits of a crate in rounds, in a copy of the repository
 records  keeps what was seen refused
+listing  lists the edits by the functions that they change
 """

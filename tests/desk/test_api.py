@@ -37,7 +37,7 @@ class Program:
         return answer.status_code, answer.json
 
 
-def post(concept: int = 5, key: str = "k1") -> dict[str, Any]:
+def post(concept: int | str = 5, key: str = "k1") -> dict[str, Any]:
     return {"do": "post", "key": key, "record": "Inv. 17", "concept": concept}
 
 
@@ -86,16 +86,45 @@ def test_what_is_refused(ina: Program, site: Site) -> None:
     assert status == 409 and answer["at"] == 2 and set(answer) == {"plan", "at", "no"}
     assert not site.desk.replica.postings.of_record("Inv. 17")
     wrong: list[Any] = [{}, [], "x", [1], [{"do": 1}], [{"do": "set", "owner": 5}], [{"do": "post"}], [{"do": "no"}]]
+    value = set_request(5, "definition", "en", new="x")
+    for name, it in (
+        ("owner", 0),
+        ("owner", "5"),
+        ("owner", True),
+        ("field", 1),
+        ("tag", None),
+        ("new", {"text": "x"}),
+    ):
+        wrong.append([{**value, name: it}])
+    wrong += [[{**value, "more": 1}], [{**value, "new": []}], [{**value, "old": [0]}], [value, {"do": "post"}]]
     for body in (*wrong, [post()] * 129, [{**post(), "key": 1}]):
         assert ina.ask("/api/plans", body).status_code == 400, body
     raw = ina.http.post("/api/plans", data="[", headers={"Authorization": f"Bearer {ina.token}"})
     assert raw.status_code in (400, 415) and "error" in (raw.json or {})
 
 
+def test_values_of_fields(site: Site) -> None:
+    """A value is set in the same plan as what it is of; one that is there no more is refused, with all of the plan."""
+    ben = Program(site, "ben")
+    new = {"do": "concept", "scheme": 1, "tag": "en", "text": "Rebecs"}
+    text = {"text": "A small bowed lute.", "source": "Sachs"}
+    value = set_request("$2", "definition", "en", new=text)
+    status, answer = ben.send(set_request(7, "notation", "", new="C-7"), new, value, {**post("$2"), "key": "r1"})
+    assert (status, [*map(list, answer["done"])]) == (200, [["done"], ["ok"], ["done"], ["ok"]]), answer
+    number = answer["done"][1]["ok"]
+    (held,) = site.desk.values.of(number)["definition"]
+    assert (held.text, held.source) == ("A small bowed lute.", "Sachs")
+    assert "A small bowed lute." in site.client("rita").get(f"/c/{number}").text
+    status, answer = ben.send(post(7, "k3"), set_request(7, "notation", "", old="C-8", new="C-9"))
+    assert (status, answer["at"], answer["no"]) == (409, 2, "NoSuchValue")
+    assert ben.send(set_request(7, "notation", "", old="C-7"))[0] == 200 and not site.desk.values.of(7).get("notation")
+
+
 def test_roles(ina: Program, site: Site) -> None:
     new = {"do": "concept", "scheme": 1, "tag": "en", "text": "Rebecs"}
     assert Program(site, "rita").send(post())[0] == 403 and Program(site, "rita").ask(PATHS[0]).status_code == 200
     assert ina.send(new)[0] == 403 and Program(site, "ben").send(new)[0] == 200
+    assert ina.send(set_request(5, "definition", "en", new="x"))[0] == 403
     assert Program(site, "ben").send({"do": "deprecate", "concept": 5})[0] == 403
     assert site.desk.journal.last_plan() == 1
 

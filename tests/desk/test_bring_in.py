@@ -178,6 +178,21 @@ def test_new_concepts_that_stand_on_one_another(site: Site, anna: Client) -> Non
     assert last.first == first.id and "Vihuelas" in text_of(anna.get(f"/changes?part_of={first.id}"))
 
 
+def test_a_child_above_its_parent(site: Site, anna: Client) -> None:
+    data = b"Term,Broader term\nVihuelas,Plucked\nPlucked,String instruments\n"
+    page = send(anna, "/bring-in/table", data, tag="en")
+    shown = text_of(page)
+    assert shown.index("Vihuelas") < shown.index("String instruments") and "0 rows were refused" in shown
+    assert "2 rows were done." in perform(anna, page, "/bring-in/table/perform").text
+    view = site.desk.replica.view(number(site, "Vihuelas"))
+    assert view and view.broader == (number(site, "Plucked"),)
+
+
+def test_rows_that_are_above_each_other_say_so(anna: Client) -> None:
+    page = send(anna, "/bring-in/table", b"Term,Broader term\nVihuelas,Plucked\nPlucked,Vihuelas\n", tag="en")
+    assert "Row 2 creates “Vihuelas”, and needs what this row creates" in text_of(page)
+
+
 def test_a_row_is_done_whole_or_not_at_all(site: Site, anna: Client) -> None:
     data = b"concept,alt@en,broader\nString instruments,String family,Violins\n"
     done = send(anna, "/bring-in/table", data)

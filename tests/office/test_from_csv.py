@@ -52,10 +52,10 @@ Violins
   NTP Bows
   RT Harps
 """
-HEAD = "id,pref@en,alt@en,broader,related,exact,note\n"
+HEAD = "id,pref@en,alt@en,broader,related,exact,colour\n"
 # Rows of a table, and what is reported of them.
 FOUND = {
-    "a,A,,,,,x\n": "lost: {file}:2: a: column note: 'x'",
+    "a,A,,,,,x\n": "lost: {file}:2: a: column colour: 'x'",
     "a,A,,,,,\na,B,,,,,\n": "id: {file}:3: 'a' is the id of another row",
     ",,A,,,,\n": "id: {file}:2: the row has no id, or several",
     "a|b,A,,,,,\n": "id: {file}:2: the row has no id, or several",
@@ -162,6 +162,37 @@ def test_terms_are_the_ids_of_a_table_without_ids(room: Path) -> None:
     status, script, told = from_csv(file)
     assert (status, told) == (0, [])
     assert script.count(b'"kind":"broader","a":"$Bass","b":"$Fish"') == 1
+
+
+# Tables as people write them, of which each row is above the one that it names; and what is printed of the columns.
+AS_WRITTEN = {
+    "Term,Broader term,Synonyms,Wikidata\nBass viols,Viols,,Q180733\nViols,Strings,Violas da gamba,\nStrings,,,\n": [
+        "column Term: pref@en", "column Broader term: broader", "column Synonyms: alt@en", "column Wikidata: exact"
+    ],
+    "Nummer,English,NT,Synonym (English)\n1,Strings,2,\n2,Viols,3,Violas da gamba\n3,Bass viols,,\n": [
+        "column Nummer: id", "column English: pref@en", "column NT: narrower", "column Synonym (English): alt@en"
+    ],
+}  # fmt: skip
+
+
+@pytest.mark.parametrize("text", AS_WRITTEN, ids=lambda it: it.partition(",")[0])
+def test_columns_have_the_names_that_people_give_and_rows_any_order(text: str, room: Path) -> None:
+    file, path = room / "written.csv", room / "written.db"
+    file.write_text(text, encoding="utf-8")
+    status, script, told = from_csv(file)
+    assert (status, told) == (0, [f"from-csv: {it}" for it in AS_WRITTEN[text]])
+    assert not load(path, script).status
+    shown = over(path, "hierarchical", after=["--scheme", "1", "--lang", "en"]).out.decode()
+    assert shown == "Strings\n  Viols\n    Bass viols\n"
+    assert (b"/entity/Q180733>" in over(path, "export").out) == ("Wikidata" in text)
+
+
+def test_what_a_column_is_taken_for_is_corrected(room: Path) -> None:
+    file = room / "own.csv"
+    file.write_text("Wort,Darüber\nGeigen,Streicher\nStreicher,\n", encoding="utf-8")
+    status, script, told = from_csv(file, *WORDS, "--columns", "Wort=pref@de,Darüber=broader")
+    assert (status, told) == (0, ["from-csv: column Wort: pref@de", "from-csv: column Darüber: broader"])
+    assert script.count(b'"kind":"broader","a":"$Geigen","b":"$Streicher"') == 1
 
 
 @pytest.mark.parametrize("data", NO_TABLE)

@@ -98,6 +98,52 @@ def test_new_concepts(store: Path, tmp_path: Path) -> None:
     assert concept(store, 7)["scope"] == [["en", "All that is plucked."]]
 
 
+def test_rows_are_in_any_order(store: Path, tmp_path: Path) -> None:
+    """A concept is made before those that name it, and a relationship that two rows have by the second of them."""
+    rows = [
+        ("Term", "Broader term", "Related term", "NT"),
+        ("Lutes", "Plucked", "Bowed lutes", ""),
+        ("Bowed lutes", "Bowed", "Lutes", ""),
+        ("Plucked", "Strings", "", "Lutes|Zithers"),
+        ("Bowed", "Strings", "", ""),
+        ("Zithers", "", "", ""),
+    ]
+    ended = from_table(table(tmp_path, *rows), store, "--lang", "en", "--perform")
+    assert ended.status == 0, ended.err.decode()
+    made = {it["pref"][0][1]: it for it in (concept(store, number) for number in range(7, 12))}  # type: ignore[index]
+    numbers = {term: it["number"] for term, it in made.items()}
+    assert [*made] == ["Zithers", "Plucked", "Lutes", "Bowed", "Bowed lutes"]
+    assert {term: it["broader"] for term, it in made.items()} == {
+        "Lutes": [numbers["Plucked"]], "Bowed lutes": [numbers["Bowed"]], "Plucked": [2], "Bowed": [2],
+        "Zithers": [numbers["Plucked"]],
+    }  # fmt: skip
+    assert (made["Lutes"]["related"], made["Bowed lutes"]["related"]) == ([numbers["Bowed lutes"]], [numbers["Lutes"]])
+
+
+def test_a_script_has_the_rows_as_they_are_done(store: Path, tmp_path: Path) -> None:
+    rows = [("Term", "Broader term"), ("Lutes", "Plucked"), ("Plucked", "Strings")]
+    texts = [it["text"] for it in script_of(from_table(table(tmp_path, *rows), store, "--lang", "en")) if "text" in it]
+    assert texts == ["Plucked", "Lutes"]
+
+
+def test_a_change_names_what_a_later_row_makes(store: Path, tmp_path: Path) -> None:
+    rows = [
+        ("do", "concept", "term", "broader", "into"),
+        ("change", "4", "", "Bowed", ""),
+        ("new", "", "Bowed", "", ""),
+    ]
+    ended = from_table(table(tmp_path, *rows), store, "--lang", "en", "--perform")
+    assert ended.status == 0, ended.err.decode()
+    assert concept(store, 4)["broader"] == [2, 7]
+
+
+def test_rows_that_are_above_each_other(store: Path, tmp_path: Path) -> None:
+    path = table(tmp_path, ("Term", "Broader term"), ("Lutes", "Plucked"), ("Plucked", "Lutes"))
+    ended = from_table(path, store, "--lang", "en")
+    assert (ended.status, ended.out) == (1, b"")
+    assert f"{path}:3: row 2 makes “Lutes”, and needs what this row makes, too" in ended.err.decode()
+
+
 def test_a_new_concept_that_is_there(store: Path, tmp_path: Path) -> None:
     path = table(tmp_path, ("pref@en",), ("Harps",))
     ended = from_table(path, store, "--new", "--lang", "en")

@@ -1,9 +1,10 @@
 """Checks documents against the sources. docs/GLOSSARY.md is what dev/list-definitions makes of the specs' comments,
 and the definitions that docs/DEFINITIONS.md names as `File.name` are there. The lists of promises in docs/PROOFS.md are
 what dev/list-promises makes of the comments of functions, each crate of the program is in them, and the functions,
-clauses and definitions that its tables name are there. The table of crates in docs/ARCHITECTURE.md is what
-dev/list-crates makes of crates.txt, and the files that it names are there. Each of the tools writes its page with
---write."""
+clauses and definitions that its tables name are there. Its headline is what dev/list-headline makes of definitions and
+contracts, and the glossary explains what that names; what it rests on is dev/list-assumptions' list of the toolchain.
+The table of crates in docs/ARCHITECTURE.md is what dev/list-crates makes of crates.txt, and the files that it names are
+there. Each of the tools writes its page with --write."""
 from __future__ import annotations
 
 import re
@@ -39,7 +40,14 @@ def rows_of(page: str) -> Iterator[tuple[list[str], list[str]]]:
             yield head, cells
 
 
-@pytest.mark.parametrize("tool", ["list-definitions", "list-promises", "list-crates"])
+@pytest.mark.parametrize(
+    "tool",
+    [
+        *("list-definitions", "list-promises", "list-headline", "list-crates"),
+        # (it asks the toolchain for its libraries)
+        pytest.param("list-assumptions", marks=pytest.mark.needs("rt")),
+    ],
+)
 def test_page_is_up_to_date(tool: str) -> None:
     ran = subprocess.run([sys.executable, ROOT / "dev" / tool], capture_output=True, text=True, check=False)
     assert not ran.returncode, ran.stdout + ran.stderr
@@ -66,6 +74,15 @@ def test_promises_name_what_is_there() -> None:
     assert names and not set(names) - known
 
 
+def test_the_glossary_has_what_the_headline_names() -> None:
+    """Each definition of the table at the beginning, and each that is shown above it, but for parts of these."""
+    page = text_of("PROOFS.md").partition("\n## What it rests on\n")[0]
+    defined = {it.name for it in specs.read_specs().all}
+    named = {it for _, row in rows_of(page) for it in re.findall(r"`(\w+)`", row[-1])} & defined
+    explained = set(re.findall(r"^- `(\w+)`:", text_of("GLOSSARY.md"), re.M))
+    assert len(named) > 10 and not named - explained
+
+
 @pytest.mark.parametrize("crate", sorted(it.name for it in ROOT.glob("crates/thes_*")))
 def test_promises_of_each_crate_are_listed(crate: str) -> None:
     assert f"\n{crate}:\n" in text_of("PROOFS.md")
@@ -77,6 +94,8 @@ def test_files_of_crates_are_there() -> None:
     for row in rows:
         crates = set(re.findall(r"\b(?:thes|test|bench)_\w+", " ".join(row)))
         there = {it.name for crate in crates for it in (ROOT / "crates" / crate).rglob("*")}
-        there.update(it.name for it in ROOT.glob("tests/*/*"))
-        lacking += [it for it in re.findall(r"`(?:[\w/]+/)?(\w+\.(?:antt|rt|py))`", row[1]) if it not in there]
+        folders = [it for it in row[0].split(", ") if it in ("desk", "tools", "tests")]
+        there.update(it.name for folder in folders for it in (ROOT / folder).rglob("*"))
+        named = re.findall(r"`(?:[\w/]+/)?(\w+\.(?:antt|rt|py|po|toml|txt))`", row[1])
+        lacking += [it for it in named if it not in there]
     assert rows and not lacking

@@ -22,7 +22,7 @@ DOCUMENTS = [
     *sorted(ROOT.glob("*.md")),
     *sorted(ROOT.glob("docs/*.md")),
     *sorted(ROOT.glob("bench/*.md")),
-    ROOT / "examples" / "README.md",
+    *sorted(ROOT.glob("examples/*.md")),
 ]
 PROGRAM = ("./thesaurus", "thesaurus")
 # The most words of the README, by `wc -w`: a newcomer reads it for two minutes.

@@ -1,6 +1,7 @@
 """Checks the page of the library, the comments of crates/thesaurus/src/lib.rt: each item of an example is, word for
 word, one of a crate of tests, which `rt ci` proves and runs; each name that the library exports is in an example; and
-the calls that the page lists under an error are those whose signatures have it."""
+the calls that the page lists under an error are those whose signatures have it. The crate of examples/LIBRARY.md is
+made of such items, too, and has all that it names."""
 from __future__ import annotations
 
 import re
@@ -61,6 +62,21 @@ def items() -> Iterator[str]:
 
 
 ITEMS = list(items())
+# The page with a crate to copy, and what differs there: the program of test_library runs more examples.
+CRATE = (ROOT / "examples" / "LIBRARY.md").read_text(encoding="utf-8")
+DIFFERS = ("run(", "run_all(")
+
+
+def crate_parts() -> tuple[str, list[str]]:
+    """The head of that crate, with what it imports, and its items."""
+    text = CRATE.partition("```rust\n")[2].partition(FENCE)[0]
+    head, *items = re.split(r"\n\n(?=///|// |#\[|pub |fn |impl )", text.rstrip("\n"))
+    return head, items
+
+
+def names_of(pattern: str, text: str) -> set[str]:
+    """The names that a pattern finds in lists, as those of imports."""
+    return {it for found in re.findall(pattern, text, re.DOTALL) for it in re.findall(r"\w+", found)}
 
 
 def sources_of(pattern: str) -> Iterator[tuple[str, str]]:
@@ -136,6 +152,33 @@ def listed_errors() -> dict[str, set[str]]:
 @pytest.mark.parametrize("item", ITEMS, ids=lambda it: it.partition("\n")[0])
 def test_example_is_in_a_program(item: str) -> None:
     assert any(f"\n{item}\n" in text for _, text in sources_of("test_*")), item
+
+
+@pytest.mark.parametrize("item", crate_parts()[1], ids=lambda it: it.rpartition("fn ")[2].partition("(")[0])
+def test_item_of_the_crate_to_copy_is_in_a_program(item: str) -> None:
+    programs = "".join(text for _, text in sources_of("test_library"))
+    assert any(f"\n{it}\n" in programs for it in (item, item.replace(*DIFFERS))), item
+
+
+def test_the_crate_to_copy_has_all_that_it_names() -> None:
+    head, its = crate_parts()
+    code = re.sub(r"//.*|\"[^\"]*\"", "", "\n".join(its))
+    imported = names_of(r"use thesaurus::\{([^}]*)\}", head)
+    assert imported <= {it.name for it in exports()}
+    defined = names_of(r"\b(?:fn|enum) (\w+)", code)
+    called = set(re.findall(r"(?<![.:\w])([a-z]\w*)\(", code)) - {"derive", "drop"}
+    assert called - {"fn"} <= defined | imported
+    assert imported | defined - {"main"} <= set(re.findall(r"\w+", code))
+    types = {*re.findall(r"\b[A-Z]\w+", head), *re.findall(r"<(\w):", code)}
+    of_std = set(
+        "Ok Err Result Option Vec String Copy Clone Debug PartialEq Eq From Print HostRuntime Drop Failure".split()
+    )
+    assert {*re.findall(r"(?<![:\w])([A-Z]\w*)", code)} <= types | of_std | set("TUEABKR")
+
+
+def test_the_crate_to_copy_prints_what_that_program_does() -> None:
+    printed = (ROOT / "crates" / "test_library" / "stdout").read_text(encoding="utf-8").splitlines()
+    assert CRATE.split(f"{FENCE}\n")[1].rstrip("\n") in printed
 
 
 def test_each_export_is_in_an_example() -> None:

@@ -23,8 +23,8 @@ Questions about a thesaurus, and what differs between two exports:
 A web site:
   site_export, site_terms, site_pages, site_rdf
 Tables that change a store: columns and cells, what rows ask for, how it is performed; a table of concepts:
-  headings, spreadsheets, formulas, table_process, table_plans, row_changes, exact_rows, row_postings, drafts,
-  exchanges, concept_finder, row_runner, table_messages, table_writer, catalogue_records
+  headings, spreadsheets, formulas, table_process, table_plans, row_changes, exact_rows, row_postings, row_order,
+  drafts, exchanges, concept_finder, row_runner, table_messages, table_writer, catalogue_records
 The forms of other programs, and those in which a desk saves an export:
   triple_export, desk_triples, public_triples, rdf_writer, marc, iso2709, marc_languages, print_pages, pdf, xml_texts,
   file_forms, desk_export, workbooks

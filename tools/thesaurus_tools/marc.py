@@ -144,12 +144,12 @@ class AuthorityWriter:
         return self.store.labels_of.get(concept.number, [])
 
     def other_terms(self, concept: Resource) -> Iterator[Field]:
-        """Yields a 450 for each alternative term in the language; hidden and other languages' terms are lost."""
+        """Yields a 450 for each non-preferred term in the language; hidden and other languages' terms are lost."""
         for it in self.labels(concept):
             if it.kind == "alt" and it.tag == self.lang_of(concept.number):
                 yield Field("450", "  ", (("a", it.text),))
             elif it.kind == "hidden" or it.kind == "alt":
-                self.lost[f"{'hidden' if it.kind == 'hidden' else 'alternative'} terms in {it.tag}"] += 1
+                self.lost[f"{'hidden labels' if it.kind == 'hidden' else 'non-preferred terms'} in {it.tag}"] += 1
 
     def relations(self, concept: Resource) -> Iterator[Field]:
         """Yields a 550 for each broader, narrower and related term; types of broader terms are lost."""

@@ -13,6 +13,7 @@ from thesaurus_tools.exchanges import Rename
 from thesaurus_tools.headings import APPROVED, LINKS, Column, status_of
 from thesaurus_tools.kinds import BROADER, CODES, LABEL_KINDS, MAPPINGS
 from thesaurus_tools.link_rules import IRI_FORM
+from thesaurus_tools.row_order import NamedEnd
 from thesaurus_tools.row_postings import PostingRows
 from thesaurus_tools.values import texts_of
 
@@ -24,10 +25,10 @@ DEEDS = {
     "rename": "rename|umbenennen|renommer",
     "move": "move|verschieben|deplacer",
     "merge": "merge|zusammenlegen|zusammenfuhren|fusionner",
-    "deprecate": "deprecate|end|remove|delete|take out of use|streichen|loschen|supprimer",
+    "deprecate": "deprecate|end|remove|delete|take out of use|stilllegen|streichen|loschen|supprimer",
     "post": "post|index|erschliessen|indexieren|indexer",
     "withdraw": "withdraw|zuruckziehen|retirer",
-    "split": "split|teilen|diviser",
+    "split": "split|aufteilen|teilen|scinder|diviser",
     "": "|-|no|nothing|keep|nichts|rien",
 }
 BY_DEED = {word: deed for deed, words in DEEDS.items() for word in words.split("|")}
@@ -82,6 +83,8 @@ class RowReader:
         self.exchanged: set[str] = set()
         # The preferred terms that rows so far give, each with the line of its first row.
         self.gave: dict[tuple[str, str], int] = {}
+        # What the cells of links say that another row says, too, which is done later.
+        self.left_to_others: set[NamedEnd] = set()
 
     def read(self, line: int, deed: str, cells: list[str]) -> list[dict]:
         """Returns the requests of a row. `part_of` is then the line of an earlier one with which it is done, or 0.
@@ -146,17 +149,24 @@ class RowReader:
         tag, text = next((it for it in preferred if it[0] == self.given.lang), preferred[0])
         if not text:
             raise RowError("no_preferred")
-        holders = [owner for owner, kind, its in self.draft.by_text.get(text, ()) if (kind, its) == ("pref", tag)]
-        there = [it for it in holders if self.draft.is_live(it) and self.draft.scheme_of(it) == self.given.scheme]
-        if there:
+        if there := self.holders(text, tag):
             self.check_rows(tag, text)
-            raise RowError("there", text=text, concepts=self.finder.candidates(set(there)))
+            raise RowError("there", text=text, concepts=self.finder.candidates(there))
         yield {"as": name, "do": "concept", "scheme": self.given.scheme, "tag": tag, "text": text}
         self.check_terms(f"${name}", cells)
         yield from self.add_labels(f"${name}", self.labels(cells))
         yield from self.add_codes(f"${name}", cells)
         yield from self.set_values(f"${name}", cells)
         yield from self.add_links(f"${name}", cells)
+
+    def new_terms_of(self, cells: list[str]) -> list[str]:
+        """Returns the preferred terms that a row gives to a new concept."""
+        return [text for role in ("pref", "new") for _, text in self.values(role, cells)]
+
+    def holders(self, text: str, tag: str | None = None) -> set[Reference]:
+        """Returns the concepts in use of the scheme that have a preferred term, in a language or in any."""
+        preferred = {it for it, kind, its in self.draft.by_text.get(text, ()) if kind == "pref" and tag in (None, its)}
+        return {it for it in preferred if self.draft.is_live(it) and self.draft.scheme_of(it) == self.given.scheme}
 
     def change(self, name: str, cells: list[str]) -> Iterator[dict]:
         concept = self.checked_concept(cells)
@@ -366,7 +376,8 @@ class RowReader:
         """Yields the requests for links that a concept lacks."""
         for kind in LINKS:
             for _, text in self.values(kind, cells):
-                yield from self.add_link(kind, concept, text)
+                if NamedEnd(kind, text) not in self.left_to_others:
+                    yield from self.add_link(kind, concept, text)
 
     def add_link(self, kind: str, concept: Reference, text: str) -> Iterator[dict]:
         """Yields what links a concept to the one that a cell names."""

@@ -27,6 +27,8 @@ class RowPlan(NamedTuple):
     # Of rows that are done together: what the row itself asks for, and the line of the row with the requests of all.
     asked: Sequence[dict] = ()
     by: int = 0
+    # When it is done: rows of one turn are done in their order.
+    turn: int = 0
 
     @property
     def changes(self) -> Sequence[dict]:
@@ -93,13 +95,13 @@ def with_others(plans: Sequence[RowPlan]) -> Iterator[list[RowPlan]]:
     others = defaultdict[int, list[RowPlan]](list)
     for plan in plans:
         others[plan.by or plan.line].append(plan)
-    for plan in plans:
+    for plan in sorted(plans, key=lambda it: it.turn):
         if plan.by in (0, plan.line):
             yield [*(it for it in others[plan.line] if it.line != plan.line), plan]
 
 
 def run_rows(runner: RowRunner, plans: list[RowPlan], keep_going: bool) -> Iterator[RowPlan]:
-    """Performs rows in their order, up to a refused one unless it keeps going, and yields each, with the reason."""
+    """Performs rows as they are done, up to a refused one unless it keeps going, and yields each, with the reason."""
     for rows in with_others(plans):
         reason = rows[-1].reason or runner.run(rows[-1])
         yield from (it._replace(reason=reason) for it in rows)

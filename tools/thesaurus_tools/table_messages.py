@@ -5,18 +5,18 @@ from collections.abc import Callable
 
 from thesaurus_tools.shapes import shape_fault
 
-KINDS = {"pref": "preferred term", "alt": "alternative term", "hidden": "hidden term", "scope": "scope note"}
+KINDS = {"pref": "preferred term", "alt": "non-preferred term", "hidden": "hidden label", "scope": "scope note"}
 LINKS = {
     "broader": "broader term",
     "broaderGeneric": "broader term (generic)", "broaderPartitive": "broader term (partitive)",
-    "broaderInstantial": "broader term (instance)", "related": "related term", "exact": "exact match",
+    "broaderInstantial": "broader term (instantial)", "related": "related term", "exact": "exact match",
     "close": "close match", "broad": "broader match", "narrow": "narrower match", "relMatch": "related match",
     "member": "member",
 }  # fmt: skip
 REASONS = {
     "UnknownResource": "no resource has this number",
     "WrongKind": "it isn't of the kind that is needed, or an IRI belongs to this thesaurus",
-    "NotLive": "the concept is no longer in use",
+    "NotLive": "the concept is deprecated",
     "SameResource": "both are the same concept",
     "OtherScheme": "they are in two schemes (or, for a match, in one)",
     "LabelThere": "the term is there already",
@@ -87,11 +87,13 @@ ROWS = {
     "into_itself": "{term} can't be merged into itself",
     "not_indexed": "“{record}” isn't indexed with {term}",
     "wrong_kind": "{number} is a {found}, and no {kind}",
-    "ended": "{number} ({term}) is no longer in use",
-    "merged": "{number} ({term}) is no longer in use: use {end} ({its_term})",
+    "ended": "{number} ({term}) is deprecated",
+    "merged": "{number} ({term}) is deprecated: use {end} ({its_term})",
     "several_have": "several have “{text}”: {concepts}; write the number of the one you mean",
-    "term_of_ended": "“{text}” is a term of what is no longer in use: {concepts}",
+    "term_of_ended": "“{text}” is a term of what is deprecated: {concepts}",
     "not_called": "no {kind} is called “{text}”",
+    "ring": "row {row} makes “{text}”, and needs what this row makes, too: leave one of these links out, and add it "
+    "later",
     "same_match": "{other} is {term}, too: one of them must go",
     "changed_since": "{term} was changed since this table was made; here: {here}; now: {now}",
     "seen_of_other": "what was seen is no longer beside its concept: it isn't that of {number} ({term})",
@@ -121,7 +123,7 @@ def sentence_of(request: dict, term: Callable[[int | str], str]) -> str:
     if do == "dropLabel":
         return f"{term(request['owner'])}: removes {KINDS[request['kind']]} {text}"
     if do == "relabel":
-        kept = ", keeps the old term as an alternative one" if request["keep"] else ""
+        kept = ", keeps the old term as a non-preferred one" if request["keep"] else ""
         return f"{term(request['owner'])}: renames to {text}{kept}"
     if do in ("link", "unlink"):
         verb = "adds" if do == "link" else "removes"
@@ -132,7 +134,7 @@ def sentence_of(request: dict, term: Callable[[int | str], str]) -> str:
         count = len(request["postings"])
         return f"splits {text} from {term(request['source'])}, with {count} record{'s' * (count != 1)}"
     if do == "deprecate":
-        return f"takes {term(request['concept'])} out of use"
+        return f"deprecates {term(request['concept'])}"
     if do == "post":
         return f"indexes “{request['record']}” with {term(request['concept'])}"
     return f"withdraws posting {request['posting']}"

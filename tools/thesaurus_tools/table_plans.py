@@ -10,8 +10,9 @@ from thesaurus_tools.concept_finder import RowError
 from thesaurus_tools.drafts import Draft, Reference
 from thesaurus_tools.exact_rows import IsSeen
 from thesaurus_tools.exchanges import Rename, Term, groups_of, ordered_renames, relabel
-from thesaurus_tools.headings import OF_FIELD, Column, fold_heading
+from thesaurus_tools.headings import LINKS, OF_FIELD, Column, fold_heading
 from thesaurus_tools.row_changes import BY_DEED, RowReader
+from thesaurus_tools.row_order import NamedEnd, RowOrder
 from thesaurus_tools.row_runner import RowPlan
 from thesaurus_tools.spreadsheets import Row
 from thesaurus_tools.store import Store
@@ -21,7 +22,7 @@ NOTATION = f"{OF_FIELD}notation"
 KINDS = {
     "new": ("new", "each row is a new concept: a preferred term; perhaps broader, other terms, notes and links"),
     "translations": ("translate", "terms and notes that concepts lack; a preferred term that is there stays"),
-    "renames": ("rename", "concept (or old) and new; the old term becomes an alternative one, unless --forget"),
+    "renames": ("rename", "concept (or old) and new; the old term becomes a non-preferred one, unless --forget"),
     "moves": ("move", "concept and broader: the new places; all others are left"),
     "merges": ("merge", "concept and into"),
     "postings": ("post", "record and concept; perhaps key"),
@@ -88,30 +89,53 @@ def deed_of(columns: list[Column], cells: list[str], options: TableOptions) -> s
 
 
 class TableReader:
-    """Turns the rows of a table into requests, in their order: those that exchange terms together, at the last one."""
+    """Turns the rows of a table into requests, in the order in which they are done: those that exchange terms together,
+    when the last one's turn is."""
 
     def __init__(self, reader: RowReader, rows: list[Row], options: TableOptions):
         self.reader, self.rows, self.options = reader, rows, options
         self.plans: dict[int, RowPlan] = {}
+        self.order = RowOrder(self.made(), {place: self.ends(row.cells) for place, row in enumerate(rows)})
 
     def read(self) -> list[RowPlan]:
         """Returns each row with its requests, or with the reason why it can't be done."""
-        groups = {its[-1].place: its for its in groups_of(self.renames())}
-        grouped = {it.place for its in groups.values() for it in its}
-        for place in range(len(self.rows)):
-            if place in groups:
-                self.read_group(groups[place])
-            elif place not in grouped:
+        group_of = {it.place: its for its in groups_of(self.renames()) for it in its}
+        reached = set[int]()
+        for place in self.order.places(len(self.rows)):
+            reached.add(place)
+            if place not in group_of:
                 self.read_row(place)
+            elif reached.issuperset(it.place for it in group_of[place]):
+                self.read_group(group_of[place])
         return [self.plans[it] for it in range(len(self.rows))]
 
-    def renames(self) -> Iterator[Rename]:
-        """Yields the preferred terms that rows change, as the store is before the table."""
+    def of_deeds(self, *deeds: str) -> Iterator[tuple[int, str, list[str]]]:
+        """Yields the rows that ask for something: the place, what it is, and the cells."""
         for place, row in enumerate(self.rows):
             with contextlib.suppress(RowError):
                 deed = deed_of(self.reader.columns, row.cells, self.options)
-                if deed in ("rename", "change"):
-                    yield from self.reader.renames(place, deed, row.cells)
+                if deed in deeds:
+                    yield place, deed, row.cells
+
+    def made(self) -> dict[str, int]:
+        """Returns the first rows that make concepts by the preferred terms that these get, and that none has."""
+        found: dict[str, int] = {}
+        for place, _, cells in self.of_deeds("new"):
+            for text in self.reader.new_terms_of(cells):
+                if not self.reader.holders(text):
+                    found.setdefault(text, place)
+        return found
+
+    def ends(self, cells: list[str]) -> list[NamedEnd]:
+        """Returns what the cells of links and merges say."""
+        roles = [it for it in (*LINKS, "into") if it in self.reader.roles]
+        return [NamedEnd(role, text) for role in roles for _, text in self.reader.values(role, cells)]
+
+    def renames(self) -> Iterator[Rename]:
+        """Yields the preferred terms that rows change, as the store is before the table."""
+        for place, deed, cells in self.of_deeds("rename", "change"):
+            with contextlib.suppress(RowError):
+                yield from self.reader.renames(place, deed, cells)
 
     def requests_of(self, place: int) -> list[dict]:
         """Returns the requests of a row. Raises RowError if it can't be done, and NewConceptsError."""
@@ -119,7 +143,15 @@ class TableReader:
         deed = deed_of(self.reader.columns, row.cells, self.options)
         if deed == "new" and not (self.options.scheme and self.options.lang):
             raise NewConceptsError
-        return self.reader.read(row.line, deed, row.cells)
+        self.reader.left_to_others = self.order.left_to_others(place)
+        try:
+            return self.reader.read(row.line, deed, row.cells)
+        except RowError as error:
+            needed = self.order.made.get(str(error.values.get("text"))) if error.key == "not_called" else None
+            if needed is None or needed in self.plans or needed not in self.order.needs(place):
+                raise
+            # (what a row needs is done before it, unless it needs the row itself)
+            raise RowError("ring", text=error.values["text"], row=self.rows[needed].line) from None
 
     def read_row(self, place: int) -> None:
         """Notes the requests of a row, or the reason why it can't be done."""
@@ -130,9 +162,8 @@ class TableReader:
 
     def note(self, place: int, requests: list[dict], error: RowError | None = None) -> None:
         row = self.rows[place]
-        self.plans[place] = RowPlan(
-            row.line, row.cells, requests, str(error or ""), error, by=0 if error else self.reader.part_of
-        )
+        by, turn = 0 if error else self.reader.part_of, len(self.plans)
+        self.plans[place] = RowPlan(row.line, row.cells, requests, str(error or ""), error, by=by, turn=turn)
 
     def read_group(self, renames: list[Rename]) -> None:
         """Notes what rows that exchange terms do, one by one if an earlier row has changed such a term."""
@@ -170,7 +201,8 @@ class TableReader:
             asked = [*(relabel(it, it.new[2], it.concept in kept) for it in own), *more]
             row = self.rows[place]
             is_last = row.line == last
-            self.plans[place] = RowPlan(row.line, row.cells, requests if is_last else [], asked=asked, by=last)
+            its, turn = requests if is_last else [], len(self.plans)
+            self.plans[place] = RowPlan(row.line, row.cells, its, asked=asked, by=last, turn=turn)
 
 
 def preferred_terms(draft: Draft, concept: Reference) -> set[Term]:

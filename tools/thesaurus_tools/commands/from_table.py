@@ -14,10 +14,10 @@ printed, and --columns corrects it.
 The first command prints in words what each row would do, tried on a copy. The second writes a script for tools/load.
 The third performs the rows, and writes those that are refused to a table again, with the reasons.
 
-A concept is named by its number, IRI, old code (a hidden term) or a term. What a row asks for is said by the kind of
+A concept is named by its number, IRI, old code (a hidden label) or a term. What a row asks for is said by the kind of
 the table, or by its column do: new, change, translate, rename, move, merge, deprecate, post, withdraw, split. What is
-there already is left as it is, so a table can be sent again. Rows that exchange terms are done together. | parts
-several values of a cell.
+there already is left as it is, so a table can be sent again. Rows may be in any order: a concept is made before those
+that name it. Rows that exchange terms are done together. | parts several values of a cell.
 
 Exit status: 0 done, 1 a row was refused (without --keep-going nothing is written), 2 usage, or FILE is no table, 3 a
 fault."""
@@ -37,7 +37,7 @@ from thesaurus_tools.limits import add_limit_options, limit_words
 from thesaurus_tools.store_options import add_store_arguments, open_store
 from thesaurus_tools.program import Performer, Script, copy_closed, find_program
 from thesaurus_tools.requests import encode
-from thesaurus_tools.row_runner import RowPlan, RowRunner, run_rows
+from thesaurus_tools.row_runner import RowPlan, RowRunner, run_rows, with_others
 from thesaurus_tools.table_messages import sentence_of
 from thesaurus_tools.spreadsheets import Row, read_table
 from thesaurus_tools.table_plans import KINDS, TableOptions, plan_table
@@ -134,7 +134,8 @@ def convert(given: argparse.Namespace) -> int:
     elif given.dry or given.perform and (given.keep_going or not unreadable):
         plans = perform(given, plans, words)
     elif given.keep_going or not unreadable:
-        write_output(b"".join(encode(it) for plan in plans for it in plan.requests), given.output)
+        in_turn = [it for rows in with_others(plans) for it in rows[-1].requests]
+        write_output(b"".join(map(encode, in_turn)), given.output)
     return report(given, heading, plans)
 
 
@@ -192,7 +193,7 @@ def arguments() -> argparse.Namespace:
         help="the encoding of CSV that isn't UTF-8 or UTF-16: cp1252 (that of Windows in the West), latin-1",
     )
     add("--sheet", default="", metavar="NAME", help="the sheet of an ODS or XLSX file (the first)")
-    add("--forget", action="store_true", help="renames don't keep the old term as an alternative one")
+    add("--forget", action="store_true", help="renames don't keep the old term as a non-preferred one")
     add(
         "--replace",
         action="store_true",

@@ -1,11 +1,11 @@
 """Writes the concepts of a thesaurus as authority records, for library systems: MARC 21, in MARCXML.
 
-A record has the preferred term of one language (150), its alternative terms (450), broader, narrower and related terms
-(550 with $w g, h or none), scope notes (680), the replacement of a merged concept (682), and terms of other languages
-and matches in other schemes of the store (750); 001 is the number, 024 and $0 have IRIs, 024 also those of exact
-matches elsewhere. With --desk or --journal it has what the desk keeps and everybody may see: definitions (677),
-examples and the office's fields (680), history notes (678), other notes (667), sources (670), and notations (083 of
-the code ddc, 080 of udc, 053 of lcc, else 065 with the code in $2). What MARC can't say is counted on standard error.
+A record has the preferred term of one language (150), its non-preferred terms (450), broader, narrower and related
+terms (550 with $w g, h or none), scope notes (680), the replacement of a merged concept (682), and terms of other
+languages and matches in other schemes of the store (750); 001 is the number, 024 and $0 have IRIs, 024 also those of
+exact matches elsewhere. With --desk or --journal it has what the desk keeps and everybody may see: definitions (677),
+examples and the office's fields (680), history notes (678), other notes (667), sources (670), and notations (083 of the
+code ddc, 080 of udc, 053 of lcc, else 065 with the code in $2). What MARC can't say is counted on standard error.
 
 A concept without a preferred term in the language is left out, and its number printed, unless --fallback has a language
 of its terms: then its record is in that one, which its 040 $b names. A record that ISO 2709 can't hold (99,999 bytes,

@@ -8,9 +8,10 @@ from flask import Blueprint, abort, request
 from werkzeug.exceptions import HTTPException
 
 from thesaurus_desk.auth.route_roles import role, takes_token
-from thesaurus_desk.journal import Request
+from thesaurus_desk.journal import Request, Step
+from thesaurus_desk.journal.references import REFERENCE
 from thesaurus_desk.store.model import Hit
-from thesaurus_desk.store.plan_outcome import Outcome
+from thesaurus_desk.store.plan_outcome import Outcome, requests_for
 from thesaurus_desk.store.program import LONGEST_PLAN
 from thesaurus_desk.web.context import person, the_desk, the_replica, the_rights
 
@@ -18,6 +19,8 @@ pages = Blueprint("api", __name__)
 # The action of its plans in the journal.
 ACTION = "api"
 MOST_FOUND, LONGEST_TEXT = 50, 300
+# The members of a request that sets a value of a field.
+VALUE_MEMBERS = {"do", "owner", "field", "tag", "old", "new"}
 WAIT = {"Retry-After": "5"}
 
 
@@ -67,10 +70,12 @@ def found_one(hit: Hit, lang: str | None) -> dict[str, Any]:
 def perform() -> Any:
     """Performs a plan, all of it or nothing."""
     desk, asked = the_desk(), read_requests()
-    # (the program alone knows what a request must have)
-    tried = desk.tried(asked)
+    steps = [Step(it) for it in asked]
+    # (the program alone knows what a request must have that it sees)
+    left, seen = requests_for(steps)
+    tried = desk.tried(seen) if seen else {"done": []}
     if "bad" in tried:
-        return tried, 400
+        return {**tried, "at": steps.index(left[tried["at"] - 1]) + 1} if "at" in tried else tried, 400
     if not tried or "fault" in tried:
         return {"fault": "NotNow"}, 503, WAIT
     requests = the_rights().completed(asked, person().role)
@@ -90,9 +95,37 @@ def read_requests() -> list[Request]:
     found = request.get_json()
     if not isinstance(found, list) or not 1 <= len(found) <= LONGEST_PLAN:
         abort(400, f"a plan is a list of 1 to {LONGEST_PLAN} requests")
-    if not all(isinstance(it, dict) and isinstance(it.get("do"), str) and it["do"] != "set" for it in found):
-        abort(400, "each request is an object with a text `do`, which isn’t `set`")
+    if not all(isinstance(it, dict) and isinstance(it.get("do"), str) for it in found):
+        abort(400, "each request is an object with a text `do`")
+    if not all(it["do"] != "set" or has_shape(it) for it in found):
+        abort(400, "`set` has an owner, a field, a tag, old and new")
     return found
+
+
+def has_shape(request: Request) -> bool:
+    """Whether a request `set` has its members, and each is of its type: the program doesn't see such a request."""
+    return (
+        set(request) == VALUE_MEMBERS
+        and is_number(request["owner"])
+        and all(isinstance(request[it], str) for it in ("field", "tag"))
+        and all(is_member(request[it]) for it in ("old", "new"))
+    )
+
+
+def is_number(value: Any) -> bool:
+    """Whether a value is a number of a resource, or refers to an earlier request."""
+    if isinstance(value, str):
+        return REFERENCE.fullmatch(value) is not None
+    return type(value) is int and 0 < value < 1 << 32
+
+
+def is_member(value: Any) -> bool:
+    """Whether something may be a value of a field: a text, a text with its source, resources, or none."""
+    if isinstance(value, dict):
+        return set(value) == {"text", "source"} and all(isinstance(it, str) for it in value.values())
+    if isinstance(value, list):
+        return bool(value) and all(map(is_number, value))
+    return value is None or isinstance(value, str)
 
 
 def answer_of(outcome: Outcome, count: int) -> Any:
