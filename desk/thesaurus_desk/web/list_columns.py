@@ -98,6 +98,12 @@ def usual_columns(more: Sequence[str] = ()) -> list[ListColumn]:
     ]
 
 
+def columns_to_translate(tag: str) -> list[ListColumn]:
+    """Returns the columns that a list of what has no term in a language has unless others are chosen."""
+    terms = [ListColumn(it, tag) for it in ("pref", "alt", "scope")]
+    return [*columns_named("number", "term", "language", "broader"), *terms, *columns_named("seen")]
+
+
 def column_groups() -> list[tuple[str, list[ListColumn]]]:
     """Returns the columns that may be chosen, in groups with their names."""
     terms = [ListColumn(kind, it) for it in tags()[:MOST_LANGUAGES] for kind in LABEL_KINDS]

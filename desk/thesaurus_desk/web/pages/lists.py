@@ -21,6 +21,7 @@ from thesaurus_desk.store.worklists import (
     make_list,
 )
 from thesaurus_desk.web.context import may_act, page_number, person, say, tags, the_desk, the_replica
+from thesaurus_desk.web.list_columns import columns_to_translate
 from thesaurus_desk.web.list_forms import in_other_form
 from thesaurus_desk.web.pages.search import number_of
 from thesaurus_desk.web.pages.values import counts_without
@@ -83,7 +84,8 @@ def work_list(kind: str) -> Any:
     schemes = replica.ordered(replica.numbers("scheme"), tags())
     scheme = number_of("scheme") if number_of("scheme") in schemes else None
     found = make_list(replica, kind, scheme, lang, tags())
-    if (other := in_other_form(kind, lambda: found.numbers)) is not None:
+    usual = columns_to_translate(lang) if kind == "untranslated" else None
+    if (other := in_other_form(kind, lambda: found.numbers, usual=usual)) is not None:
         return other
     page = page_number()
     size = GROUP_PAGE if kind in GROUPS else LIST_PAGE
