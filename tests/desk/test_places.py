@@ -331,6 +331,15 @@ def test_a_merge_that_breaks_a_rule_is_foreseen(reader: Reader, desk: Desk) -> N
     assert f"/c/{BOWED}" in page.html.split('id="merge-why"')[1].split("</form>")[0]
 
 
+def test_a_merge_of_which_the_program_cant_be_asked(
+    reader: Reader, desk: Desk, monkeypatch: pytest.MonkeyPatch
+) -> None:
+    monkeypatch.setattr(desk, "tried", lambda requests: {})
+    page = compare(reader, FIDDLES, "Violins")
+    assert page.status == 200 and "The program is being started again" in page.text
+    assert "will refuse" not in page.text and "moves to" not in page.text
+
+
 def test_a_merge_of_what_was_changed_asks_again(reader: Reader, desk: Desk) -> None:
     mine = compare(reader, FIDDLES, "Violins").form("merge")
     reader.send(reader.get(f"/c/{VIOLINS}").form("add-term"), kind="alt", tag="en", text="Fine violins")

@@ -231,3 +231,24 @@ def test_pages_while_an_import_runs(desk: Desk, monkeypatch: pytest.MonkeyPatch)
     assert view(desk, 5).postings == 1 and desk.history.recent()[0].user == "anna"
     assert done(desk, label("addLabel", 5, "alt", "Fiddles of old")).is_done
     assert_as_store(desk)
+
+
+def test_plans_are_tried_while_the_program_is_started_anew(desk: Desk) -> None:
+    """Each answer is that of the plan that was tried, or there is none."""
+    violins, fiddles = number(desk, "Violins"), number(desk, "Fiddles")
+    answers, has_ended = list[dict[str, Any]](), threading.Event()
+
+    def try_again() -> None:
+        while not has_ended.is_set():
+            answers.append(desk.tried([{"do": "merge", "source": fiddles, "target": violins}]))
+
+    threads = [threading.Thread(target=try_again) for _ in range(4)]
+    for it in threads:
+        it.start()
+    for _ in range(5):
+        desk.reload()
+    has_ended.set()
+    for it in threads:
+        it.join()
+    found = [it for it in answers if it]
+    assert found and all(it["done"] == [{"moved": 0}] for it in found) and desk.program.get("totals")["accepted"] == 0

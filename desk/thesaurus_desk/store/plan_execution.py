@@ -240,6 +240,8 @@ class Desk(OpenStore):
     def tried(self, requests: Sequence[Request]) -> Answer:
         """Returns what the program says that a plan would do now: its changes and answers, or the refusal; nothing if
         the program can't be asked."""
+        if self.is_opening:
+            return {}
         try:
             return self.program.ask({"try": list(requests)})
         except (NoAnswer, TooLong):

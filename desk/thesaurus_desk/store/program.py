@@ -141,7 +141,9 @@ class Program:
         os.set_blocking(self.child.stdin.fileno(), False)
         self.lines = 0
         try:
-            self.exchange(line_of({"get": "totals"}), OPENING_PATIENCE)
+            with self.lock:
+                # (nobody else takes its answer)
+                self.exchange(line_of({"get": "totals"}), OPENING_PATIENCE)
             return None
         except NoAnswer:
             status, said = self.child.wait(), self.said()
@@ -160,7 +162,18 @@ class Program:
         return self.errors.read().decode(errors="replace").strip()
 
     def stop(self) -> None:
-        """Ends the program by the end of its input. Each change that it answered is then in the store."""
+        """Ends the program by the end of its input. Each change that it answered is then in the store. Who waits for
+        an answer gets it first, as long as the program may take to end."""
+        if not self.lock.acquire(timeout=LAST_PATIENCE):
+            self.kill()
+            self.lock.acquire()
+        try:
+            self.end()
+        finally:
+            self.lock.release()
+
+    def end(self) -> None:
+        """Ends the program, with which nobody talks."""
         child, self.child = self.child, None
         if child is None:
             return

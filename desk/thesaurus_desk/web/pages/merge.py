@@ -102,7 +102,7 @@ def merge_page(source: View, target: View | None, state: FormState, status: int)
 def told_merge(source: View, target: View, answer: Answer) -> dict[str, Any]:
     """Returns what a page says of a merge by the program's answer to the question what it would do."""
     if "changes" not in answer:
-        return {"refused": reason_against(source, target, answer), "is_refused": bool(answer)}
+        return {"refused": reason_against(source, target, answer), "is_refused": "no" in answer}
     plan = preview_of(the_replica(), source.number, target.number, answer["changes"])
     return {
         "plan": plan,
