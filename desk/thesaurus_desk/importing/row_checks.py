@@ -54,7 +54,7 @@ class RowChecks:
 
     def has_term(self, owner: int, tag: str, text: str) -> bool:
         """Whether a resource has a term after the rows so far."""
-        found = self.values.mirror.get(owner) if owner > 0 else None
+        found = self.values.replica.get(owner) if owner > 0 else None
         is_there = found is not None and any(it[1:] == (tag, text) and it[0] != "scope" for it in found.labels)
         return self.terms.get((owner, tag, text), is_there)
 

@@ -50,7 +50,7 @@ class TermSources:
         """Whether a resource has a term after the plan."""
         if term in self.gone[owner] or term in self.new[owner]:
             return term in self.new[owner]
-        found = self.rules.mirror.get(owner) if owner not in self.rules.made else None
+        found = self.rules.replica.get(owner) if owner not in self.rules.made else None
         return found is not None and any(it[1:] == term and it[0] != "scope" for it in found.labels)
 
     def unknown(self) -> int | None:
