@@ -19,14 +19,14 @@ from rdflib import SKOS, Graph, Literal, URIRef
 from test_arrays import BOWED, CELLOS, VIOLINS
 from thesaurus_desk.journal.values import set_request
 from thesaurus_desk.store import saved_files
-from thesaurus_desk.store.exported import read_export
+from thesaurus_desk.store.export_replica import read_export
 from thesaurus_desk.store.release_export import make_release
 from thesaurus_desk.web.pages import downloads
 from thesaurus_tools.fields import Field
 from thesaurus_tools.file_forms import PDF, Choice, Part, page_text
 from thesaurus_tools.mads import MADS, skos_of_mads
 from thesaurus_tools.ntriples import Iri, Triple, parse_ntriples
-from thesaurus_tools.rdf_writing import ISO_THES
+from thesaurus_tools.rdf_writer import ISO_THES
 from thesaurus_tools.release_changes import changes_of_lines
 from thesaurus_tools.skos_xl import XL, plain_labels
 from thesaurus_tools.spreadsheets import read_table

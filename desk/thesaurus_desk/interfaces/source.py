@@ -12,7 +12,7 @@ from thesaurus_tools.fields import Field, time_node
 from thesaurus_tools.kinds import BROADER, CLASSES, LABEL_PROPERTIES, LINK_PROPERTIES, SYMMETRIC
 from thesaurus_tools.ntriples import DCTERMS, OWL, RDF, SKOS, XSD, Iri, Literal, Node, Triple
 from thesaurus_tools.public_values import PublicValue, term_source_triples, value_triples
-from thesaurus_tools.rdf_writing import ISO_THES
+from thesaurus_tools.rdf_writer import ISO_THES
 
 CLASS_OF = {kind: name for name, kind in CLASSES.items()}
 LABEL_OF = {kind: name for name, kind in LABEL_PROPERTIES.items()}

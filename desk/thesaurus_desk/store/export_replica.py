@@ -16,7 +16,7 @@ from thesaurus_desk.store.schema import COLUMNS, KIND_NUMBER, LABEL_NUMBER, LINK
 from thesaurus_tools.arrays import Places, no_places, number_places, places_of_triples
 from thesaurus_tools.export_store import store_of_export
 from thesaurus_tools.export_values import ExportFacts, read_facts
-from thesaurus_tools.exported_values import typed_links
+from thesaurus_tools.desk_export import typed_links
 from thesaurus_tools.fields import STANDARD, Field, text_fields
 from thesaurus_tools.ntriples import read_ntriples
 from thesaurus_tools.store import Store
