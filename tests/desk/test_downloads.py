@@ -19,12 +19,15 @@ from rdflib import SKOS, Graph, Literal, URIRef
 from test_arrays import BOWED, CELLOS, VIOLINS
 from thesaurus_desk.journal.values import set_request
 from thesaurus_desk.store import saved_files
+from thesaurus_desk.store.export_replica import read_export
 from thesaurus_desk.store.release_export import make_release
 from thesaurus_desk.web.pages import downloads
 from thesaurus_tools.fields import Field
 from thesaurus_tools.file_forms import PDF, Choice, Part, page_text
 from thesaurus_tools.mads import MADS, skos_of_mads
 from thesaurus_tools.ntriples import Iri, Triple, parse_ntriples
+from thesaurus_tools.rdf_writer import ISO_THES
+from thesaurus_tools.release_changes import changes_of_lines
 from thesaurus_tools.skos_xl import XL, plain_labels
 from thesaurus_tools.spreadsheets import read_table
 from thesaurus_tools.zthes import zthes_triples
@@ -241,8 +244,8 @@ def test_pdf(defined: Site) -> None:
 @pytest.mark.parametrize(
     ("display", "wanted"),
     [
-        ("alphabetical", "<b>BT</b> Bowed instruments"),
-        ("tree", "<li>Bowed instruments<ul><li>Bows</li><li>Cellos"),
+        ("alphabetical", "<b>BTG</b> Bowed instruments"),
+        ("tree", "Bowed instruments <small>G</small><ul><li>Bows"),
         ("rotated", "<p>instruments, Bowed</p>"),
     ],
 )
@@ -300,3 +303,38 @@ def test_too_many_at_once_and_what_fails(site: Site, monkeypatch: pytest.MonkeyP
     made.answer.is_made.set()
     answer = client.get(f"/save/file/{made.ticket}")
     assert answer.status_code == 409 and "Debian’s package python3-none" in answer.text
+
+
+@pytest.mark.parametrize("release", ["", "2026.1"])
+def test_types_of_hierarchical_links_go_out_and_come_in(
+    site: Site, patient: None, tmp_path: Path, release: str
+) -> None:
+    """In RDF, also of a release, by which another program, and a replica of the export, know them again."""
+    kinds = {"broaderGeneric", "broaderPartitive", "broaderInstantial"}
+    make_release(site.desk, "anna", "2026.1", "2026-11-30", "")
+    mirror, found = site.desk.public_view(), set()
+    for it in parse_ntriples(saved(site.client("rita"), "ntriples", release=release).data, "export"):
+        if it.predicate.startswith(ISO_THES + "broader"):
+            found.add((it.predicate.removeprefix(ISO_THES), str(it.subject), str(it.object)))
+    links = (
+        (kind, number, other) for number in mirror.numbers("concept") for kind, other in mirror.resource(number).typed()
+    )
+    wanted = {(kind, mirror.iri(one), mirror.iri(other)) for kind, one, other in links if kind in kinds}
+    assert found == wanted and {it[0] for it in found} == kinds
+    path = tmp_path / "export.nt"
+    path.write_bytes(site.client("rita").get("/export.nt").data)
+    again = read_export(path)
+    assert {it[1:] for it in again.all("SELECT typ, a, b FROM hier WHERE typ > 0")} == {
+        (int(one.removeprefix(BASE)), int(other.removeprefix(BASE))) for _, one, other in wanted
+    }
+    again.close()
+    ran = subprocess.run(
+        [ROOT / "tools/from-skos", path, "--lang", "en", "--own", "--drop"], capture_output=True, check=True
+    )
+    assert all(ran.stdout.count(f'"kind":"{it}"'.encode()) == sum(one[0] == it for one in wanted) for it in kinds)
+
+
+def test_a_release_without_types_is_no_change(site: Site) -> None:
+    old = [it for it in site.client("rita").get("/export.nt").text.splitlines() if ISO_THES not in it]
+    new = site.client("rita").get("/export.nt").text.splitlines()
+    assert old != new and not list(changes_of_lines(old, new))

@@ -115,6 +115,23 @@ def test_two_change_one_definition(hand: Hand) -> None:
     hand.sees("The smallest and highest of its family.")
 
 
+def test_name_the_source_of_a_term(hand: Hand) -> None:
+    hand.open("/c/3")
+    hand.press("Change preferred term Violins (en)")
+    hand.fill("Source of this term", "MIMO 2011")
+    hand.press("Rename")
+    hand.sees("Violins (MIMO 2011)")
+    hand.press("Change preferred term Violins (en)")
+    hand.fill("Preferred term (en)", "Violin")
+    hand.sees("keep the old one as a non-preferred term")
+    hand.press("Rename")
+    hand.sees("Violin (MIMO 2011)")
+    hand.press("Undo")
+    hand.press("Undo")
+    hand.open("/c/3")
+    hand.sees("Violins (MIMO 2011)")
+
+
 def test_see_what_was_on_a_day(hand: Hand) -> None:
     define(hand, 3, "A small bowed instrument.")
     hand.press("As it was on a day")

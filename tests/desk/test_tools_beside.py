@@ -14,13 +14,14 @@ from thesaurus_desk.store.snapshot import SnapshotServer
 from thesaurus_tools.desk_socket import folder_of
 from thesaurus_tools.values import set_request
 
-CALLS = {
+CALLS: dict[str, list[str]] = {
     "report": ["tops"],
     "to-rdf": ["--types"],
     "to-marc": ["--lang", "en"],
     "to-table": ["--columns", "number,pref@en,alt@de,broader,records"],
     "to-print": ["--scheme", "1", "--lang", "en"],
     "to-zthes": ["--langs", "de,en"],
+    "to-iso25964": [],
     "repost": ["--posting", "1", "--to", "7"],
 }
 

@@ -61,6 +61,7 @@ def test_each_tool_that_prints_writes_to_a_file(store: Path, export: Path, tmp_p
         ["to-table", "--db", store, "--columns", "number,pref@en"],
         ["to-print", "--db", store, "--scheme", 1, "--lang", "en"],
         ["to-zthes", "--db", store],
+        ["to-iso25964", "--db", store],
     ]
     environment = {"SOURCE_DATE_EPOCH": "1700000000"}
     os.environ.update(environment)
@@ -87,8 +88,8 @@ def test_names_of_options_agree(store: Path) -> None:
 
 # The tools that read a store, or may do so.
 READING = (
-    "from-table", "load", "number-postings", "report", "repost", "site", "to-marc", "to-print", "to-rdf", "to-table",
-    "to-zthes", "unmerge",
+    "from-table", "load", "number-postings", "report", "repost", "site", "to-iso25964", "to-marc", "to-print", "to-rdf",
+    "to-table", "to-zthes", "unmerge",
 )  # fmt: skip
 # These don't ask the program: it is theirs, or they serve it.
 OWN = ("backup", "desk", "look")
@@ -125,6 +126,7 @@ def test_a_server_answers_what_the_store_has(is_near: bool, store: Path, tmp_pat
         ["to-table", "--columns", "number,pref@en,alt@de,broader,records"],
         ["to-print", "--scheme", 1, "--lang", "en"],
         ["to-zthes", "--langs", "en"],
+        ["to-iso25964"],
     ]
     os.environ["SOURCE_DATE_EPOCH"] = "1700000000"
     of_file = [tool(str(name), *words, "--db", after) for name, *words in calls]
@@ -157,7 +159,8 @@ def without_locks(name: str, *words: object) -> subprocess.CompletedProcess[str]
 @pytest.mark.parametrize(
     "name",
     ["from-csv", "from-skos", "check-skos", "site", "picture", "report", "load", "to-rdf", "to-marc", "to-table"]
-    + ["from-table", "number-postings", "unmerge", "repost", "to-print", "to-zthes", "feed", "publish"],
+    + ["from-table", "number-postings", "unmerge", "repost", "to-print", "to-zthes", "to-iso25964"]
+    + ["feed", "publish"],
 )
 def test_each_tool_starts(name: str) -> None:
     ran = without_locks(name, "--help")

@@ -5,6 +5,7 @@ from __future__ import annotations
 import re
 from collections import defaultdict
 from collections.abc import Callable, Iterable, Iterator, Mapping, Sequence
+from functools import lru_cache
 from typing import Generic, TypeVar
 
 from thesaurus_tools import note_sources
@@ -134,6 +135,8 @@ def place_triples(places: Places[int], base: str, number: int, members: Sequence
 # --- reading RDF ---
 
 
+# (what is said of a resource comes together)
+@lru_cache(1 << 10)
 def list_owner(iri: str) -> str:
     """Returns the collection of which an IRI is a node of the list, or the resource about whose note it is a statement;
     another IRI itself."""

@@ -7,10 +7,11 @@ from collections.abc import Iterator, Mapping, Sequence
 
 from thesaurus_tools.arrays import number_places, places_of_triples
 from thesaurus_tools.export_store import ExportStore, number_of, store_of_export
-from thesaurus_tools.fields import Field, code_of
+from thesaurus_tools.fields import TERM_SOURCE, Field, code_of
 from thesaurus_tools.kinds import BROADER
 from thesaurus_tools.note_sources import note_sources
 from thesaurus_tools.ntriples import Iri, Literal, Triple
+from thesaurus_tools.public_values import term_sources
 from thesaurus_tools.rdf_writer import ISO_THES
 from thesaurus_tools.store import Link
 from thesaurus_tools.values import FieldValue
@@ -37,6 +38,10 @@ def field_values(triples: Sequence[Triple], fields: Mapping[str, Field], base: s
     """Yields the values of fields in an export, each with the source that a statement about it says."""
     sources = note_sources(triples)
     by_property = {it.property: it for it in fields.values() if it.property}
+    for subject, *term in term_sources(sources) if TERM_SOURCE in fields else ():
+        owner = number_of(subject, base)
+        if owner is not None:
+            yield FieldValue(owner, TERM_SOURCE, *term)
     for triple in triples:
         field, number = by_property.get(triple.predicate), number_of(triple.subject, base)
         if field is not None and number is not None:

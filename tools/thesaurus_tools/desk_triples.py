@@ -5,13 +5,13 @@ from __future__ import annotations
 import json
 import sqlite3
 from collections import defaultdict
-from collections.abc import Iterator, Sequence
+from collections.abc import Iterable, Iterator, Sequence
 from pathlib import Path
 
 from thesaurus_tools.arrays import triples_of_places
 from thesaurus_tools.desk_values import has_table, open_journal, place_rows, public_values, rdf_fields, stated_dates
-from thesaurus_tools.public_values import PublicValue, value_triples
-from thesaurus_tools.fields import time_node
+from thesaurus_tools.fields import TERM_SOURCE, time_node
+from thesaurus_tools.public_values import PublicValue, term_source_triples, value_triples
 from thesaurus_tools.ntriples import DCTERMS, Iri, Literal, Triple
 
 # When a plan ended; of one that an earlier desk has written it is known only when it began.
@@ -30,7 +30,7 @@ def journal_triples(journal: Path, base: str, export: Sequence[Triple]) -> list[
     no date."""
     with open_journal(journal) as tables:
         places = triples_of_places(place_rows(tables), export, base)
-        return [*read_dates(tables, base), *read_values(tables, base), *places]
+        return [*read_dates(tables, base), *read_values(tables, base, export), *places]
 
 
 def read_dates(tables: sqlite3.Connection, base: str) -> Iterator[Triple]:
@@ -49,8 +49,15 @@ def read_dates(tables: sqlite3.Connection, base: str) -> Iterator[Triple]:
             yield Triple(subject, Iri(DCTERMS + "creator"), Literal(user))
 
 
-def read_values(tables: sqlite3.Connection, base: str) -> Iterator[Triple]:
-    """Yields the triples of the values of fields that everybody may see."""
+def read_values(tables: sqlite3.Connection, base: str, export: Iterable[Triple]) -> Iterator[Triple]:
+    """Yields the triples of the values of fields that everybody may see, the sources of the terms of an export among
+    them."""
     fields = rdf_fields(tables)
+    of_terms: dict[str, list[PublicValue]] = defaultdict(list)
     for owner, name, tag, text, source in public_values(tables, fields):
-        yield from value_triples(Iri(f"{base}{owner}"), PublicValue(fields[name], tag, text, source), base)
+        subject, value = Iri(f"{base}{owner}"), PublicValue(fields[name], tag, text, source)
+        yield from value_triples(subject, value, base)
+        if name == TERM_SOURCE:
+            of_terms[subject].append(value)
+    for it in export if of_terms else ():
+        yield from term_source_triples(of_terms.get(it.subject, ()), [it])

@@ -9,7 +9,7 @@ from pathlib import Path
 
 from thesaurus_tools.arrays import places_of_values
 from thesaurus_tools.command_line import ToolError
-from thesaurus_tools.fields import DATES, HIDDEN, PLACE_FIELDS, Field, all_fields, in_rdf, text_fields
+from thesaurus_tools.fields import DATES, HIDDEN, PLACE_FIELDS, TERM_SOURCE, Field, all_fields, in_rdf, text_fields
 from thesaurus_tools.public_store import leave_out
 from thesaurus_tools.store import Store
 from thesaurus_tools.values import FieldValue
@@ -59,8 +59,11 @@ def read_fields(tables: sqlite3.Connection) -> dict[str, Field]:
 
 
 def public_fields(tables: sqlite3.Connection) -> dict[str, Field]:
-    """Returns the fields that everybody may see, by their names, but for what displays leave out."""
-    return {name: it for name, it in text_fields(read_fields(tables)).items() if it.is_public and name not in DATES}
+    """Returns the fields that everybody may see, by their names, but for what displays leave out; and that of the
+    sources of terms."""
+    every = read_fields(tables)
+    found = {**text_fields(every), TERM_SOURCE: every[TERM_SOURCE]}
+    return {name: it for name, it in found.items() if it.is_public and name not in DATES}
 
 
 def rdf_fields(tables: sqlite3.Connection) -> dict[str, Field]:

@@ -15,7 +15,7 @@ from thesaurus_tools.headings import LINKS, Column
 from thesaurus_tools.kinds import BROADER, LABEL_KINDS, MAPPINGS
 from thesaurus_tools.store import End
 from thesaurus_tools.table_writer import JOINT, TURNED, ends_of, shown_texts
-from thesaurus_tools.values import FieldValue, cell_of, member_of, set_request, texts_of
+from thesaurus_tools.values import FieldValue, as_in_cell, cell_of, member_of, member_of_cell, set_request, texts_of
 
 # Whether what a mark stands for is still as it was.
 IsSeen = Callable[[str], bool]
@@ -129,7 +129,7 @@ class ExactRows:
         if column.role in LABEL_KINDS:
             return [*shown_texts(self.store, concept, column.role, column.tag)]
         held = self.store.values_of.get(concept, ())
-        texts = [it.text for it in held if (it.field, it.tag) == (column.field, column.tag)]
+        texts = [as_in_cell(it) for it in held if (it.field, it.tag) == (column.field, column.tag)]
         # (as a cell of them is read)
         field = self.store.fields[column.field]
         return [*texts_of(field, cell_of(field, texts))]
@@ -201,8 +201,8 @@ class ExactRows:
         """Yields the requests for the values of a field; the source of what is changed stays."""
         field, tag = difference.column.field, difference.column.tag
         held = self.draft.held(owner, field, tag)
-        old = [it for it in held if it.text in difference.gone]
-        new = [str(it) for it in difference.new if it not in [its.text for its in held]]
+        old = [it for it in held if as_in_cell(it) in difference.gone]
+        new = [it for it in map(str, difference.new) if it not in map(as_in_cell, held)]
         yield from value_requests(owner, (field, tag), old, new)
 
     # --- links ---
@@ -268,4 +268,4 @@ def value_requests(owner: Reference, key: tuple[str, str], old: list[FieldValue]
     for before, text in zip_longest(old, new):
         source = before.source if before else ""
         member = member_of(before.text, source) if before else None
-        yield set_request(owner, *key, old=member, new=None if text is None else member_of(text, source))
+        yield set_request(owner, *key, old=member, new=None if text is None else member_of_cell(key[0], text, source))

@@ -8,11 +8,11 @@ from collections.abc import Iterator, Sequence
 from dataclasses import dataclass, field
 
 from thesaurus_tools.arrays import ABOVE, AROUND, number_at
-from thesaurus_tools.fields import BY_PROPERTY, STANDARD, TIME, Field, code_of, node_of, time_node
+from thesaurus_tools.fields import BY_PROPERTY, STANDARD, TERM_SOURCE, TIME, Field, code_of, node_of, time_node
 from thesaurus_tools.kinds import BROADER, LABEL_PROPERTIES, LINK_PROPERTIES
 from thesaurus_tools.note_sources import note_sources
 from thesaurus_tools.ntriples import DCTERMS, OWL, RDF, SKOS, XSD, Blank, Iri, Literal, Node, Triple
-from thesaurus_tools.public_values import PublicValue
+from thesaurus_tools.public_values import PublicValue, term_sources
 from thesaurus_tools.rdf_writer import ISO_THES
 
 # What is no value of a field: labels, links, places, and what became of a resource.
@@ -51,8 +51,10 @@ class ExportFacts:
         return sorted((it for it in changed if it[1]), key=lambda it: (it[1], -it[0]), reverse=True)
 
     def take(self, number: int, triple: Triple, base: str, source: str) -> None:
-        """Takes up what is said of a resource, with the source of a note."""
+        """Takes up what is said of a resource, with the source of a note or a term."""
         _, predicate, node = triple
+        for _, tag, text, _ in term_sources({triple: source}) if source else ():
+            self.values[number].append(PublicValue(STANDARD[TERM_SOURCE], tag, text, source))
         if predicate in OF_VOCABULARY or isinstance(node, Blank):
             return
         if predicate in DATES and is_time(node):

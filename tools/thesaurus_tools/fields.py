@@ -118,6 +118,8 @@ RELEASE = "release"
 WITH_PAGES = (*PLACE_FIELDS, RELEASE)
 # The fields that are shown beside the term of a concept.
 OF_WORK = ("status", *WORK)
+# Where a term comes from: a value is the term itself, with its language and its source. It is shown beside the term.
+TERM_SOURCE = "termSource"
 # The fields whose values may be IRIs.
 MAYBE_IRI = ("source", "creator", "publisher", "license")
 NOTES = ("definition", "example", "generalNote", "historyNote", "editorialNote", "changeNote")
@@ -134,6 +136,7 @@ STANDARD = {
         note_field("changeNote", is_public=False),
         Field("notation", "code", tag="code", is_unique=True, property=SKOS + "notation"),
         Field("source", "line", property=DCTERMS + "source"),
+        Field(TERM_SOURCE, "line", tag="language", has_source=True),
         *(Field(it, "time", is_many=False) for it in DATES),
         description_field("title", tag="language"),
         description_field("creator"),
@@ -157,8 +160,9 @@ BY_PROPERTY = {it.property: it for it in STANDARD.values() if it.property}
 
 
 def text_fields(fields: Mapping[str, Field]) -> dict[str, Field]:
-    """Returns the fields that say what a resource is: none of its places, of releases, and of what is to be done."""
-    return {name: it for name, it in fields.items() if name not in (*WITH_PAGES, *OF_WORK)}
+    """Returns the fields that say what a resource is: none of its terms and places, of releases, and of what is to be
+    done."""
+    return {name: it for name, it in fields.items() if name not in (*WITH_PAGES, *OF_WORK, TERM_SOURCE)}
 
 
 def in_rdf(fields: Mapping[str, Field]) -> dict[str, Field]:

@@ -19,8 +19,10 @@ from pathlib import Path
 
 from thesaurus_tools.command_line import DONE, FAULT, REFUSED, ToolError
 from thesaurus_tools.desk_export import store_with_values
+from thesaurus_tools.export_values import read_facts
 from thesaurus_tools.fields import Field
 from thesaurus_tools.iso2709 import iso2709
+from thesaurus_tools.iso25964 import Iso25964Writer
 from thesaurus_tools.marc import AuthorityWriter, Record, collection_lines
 from thesaurus_tools.ntriples import SKOS, Iri, Triple, read_ntriples
 from thesaurus_tools.pdf import to_pdf
@@ -30,6 +32,7 @@ from thesaurus_tools.reports import walk_down
 from thesaurus_tools.store import Resource, Store
 from thesaurus_tools.system_python import PackageError
 from thesaurus_tools.table_writer import TableWriter, columns_with_something, table_text
+from thesaurus_tools.term_dates import Dates, date_triples, from_json
 from thesaurus_tools.triple_export import WORDS, base_of, choose_branch, choose_scheme
 from thesaurus_tools.workbooks import ods, xlsx
 from thesaurus_tools.zthes import ZthesWriter
@@ -38,8 +41,9 @@ from thesaurus_tools.zthes import ZthesWriter
 NICENESS = 10
 # How many languages a web site has.
 MOST_EDITIONS = 12
-# The files of a folder: the export, what it lacks of values and types, the fields, and what is made of them.
-EXPORT, MORE, FIELDS, MADE = "export.nt", "more.nt", "fields.json", "made"
+# The files of a folder: the export, what it lacks of values, the fields, the dates of terms, and what is made
+# of them.
+EXPORT, MORE, FIELDS, TERMS, MADE = "export.nt", "more.nt", "fields.json", "terms.json", "made"
 
 
 @dataclass(frozen=True)
@@ -55,12 +59,14 @@ class Choice:
 class Part:
     """What of a thesaurus is written.
 
-    `more` are triples that RDF doesn't get: the types of hierarchical links, and values of fields without property."""
+    `more` are triples that RDF doesn't get: values of fields without property."""
 
     triples: list[Triple]
     choice: Choice
     more: list[Triple] = field(default_factory=list)
     fields: dict[str, Field] = field(default_factory=dict)
+    # When terms were made and changed.
+    dates: Dates = field(default_factory=dict)
 
     @cached_property
     def base(self) -> str:
@@ -104,7 +110,9 @@ class Part:
 
 def as_rdf(syntax: str, part: Part, words: str = "") -> bytes:
     """Returns RDF in a syntax, in the words of SKOS or in others."""
-    triples = WORDS[words](part.chosen) if words else part.chosen
+    triples = [*WORDS[words](part.chosen)] if words else part.chosen
+    if words == "skos-xl":
+        triples += date_triples(part.chosen, part.base, part.dates)
     return "".join(WRITERS[syntax](triples, part.base)).encode()
 
 
@@ -202,6 +210,12 @@ def as_zthes(part: Part) -> bytes:
     return ZthesWriter(part.store, [part.choice.lang, *part.languages()]).write(part.concepts(), title_of(part))
 
 
+def as_iso25964(part: Part) -> bytes:
+    """Returns ISO 25964-1 in XML."""
+    writer = Iso25964Writer(part.store, read_facts(part.triples, part.base), part.dates)
+    return writer.write(part.concepts(), is_whole=part.choice.top is None)
+
+
 @dataclass(frozen=True)
 class FileForm:
     """A form of files: the ends of their names, their type, and how one is written."""
@@ -227,6 +241,7 @@ FORMS = {
     "marc": FileForm("mrc", "application/marc", as_marc, True),
     "marcxml": FileForm("marc.xml", "application/marcxml+xml", as_marcxml, True),
     "zthes": FileForm("zthes.xml", XML, as_zthes, True),
+    "iso25964": FileForm("iso25964.xml", XML, as_iso25964),
     "xlsx": FileForm("xlsx", SHEET, partial(as_workbook, xlsx), True),
     "ods": FileForm("ods", "application/vnd.oasis.opendocument.spreadsheet", partial(as_workbook, ods), True),
     "csv": FileForm("csv", "text/csv; charset=utf-8", as_csv, True),
@@ -243,7 +258,8 @@ def read_part(folder: Path, choice: Choice) -> Part:
     """Returns what a folder has of a thesaurus."""
     export, more = ([*read_ntriples(folder / it)] for it in (EXPORT, MORE))
     fields = [Field(**it) for it in json.loads((folder / FIELDS).read_text(encoding="utf-8"))]
-    return Part(export, choice, more, {it.name: it for it in fields})
+    dates = from_json((folder / TERMS).read_text(encoding="utf-8"))
+    return Part(export, choice, more, {it.name: it for it in fields}, dates)
 
 
 def outcome_of(form: str, folder: Path, choice: Choice) -> dict[str, object]:

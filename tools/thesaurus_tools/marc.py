@@ -7,7 +7,7 @@ from datetime import datetime
 from typing import NamedTuple
 from xml.sax.saxutils import quoteattr
 
-from thesaurus_tools.fields import mark_of
+from thesaurus_tools.fields import TERM_SOURCE, mark_of
 from thesaurus_tools.kinds import BROADER, MAPPINGS
 from thesaurus_tools.marc_languages import marc_language
 from thesaurus_tools.store import End, Label, Resource, Store
@@ -194,6 +194,8 @@ class AuthorityWriter:
             field = self.store.fields[it.field]
             if field.tag == "language" and it.tag != lang:
                 self.lost[f"notes in {it.tag}"] += 1
+            elif field.name == TERM_SOURCE:
+                yield Field("670", "  ", (("a", it.source), ("b", it.text)))
             elif field.kind != "code":
                 tag = VALUE_FIELDS.get(field.name, "680")
                 text = " ".join(f"{mark_of(field, lang)}: {it.text}".split() if field.is_own else it.text.split())

@@ -19,11 +19,16 @@ Properties = Mapping[str, Sequence[Node]]
 def source_triples(note: Triple, source: Node) -> Iterator[Triple]:
     """Yields what says which source a note has. The statement's IRI depends on the note alone, so that exports can be
     compared line by line."""
-    named = hashlib.blake2b("\n".join((note.predicate, *note.object)).encode(), digest_size=6).hexdigest()
-    node = Iri(f"{note.subject}{NODE}{named}")
+    node = statement_iri(note)
     yield Triple(node, Iri(RDF + "type"), Iri(STATEMENT))
     yield from (Triple(node, Iri(name), it) for name, it in zip((SUBJECT, PREDICATE, OBJECT), note))
     yield Triple(node, Iri(SOURCE), source)
+
+
+def statement_iri(note: Triple) -> Iri:
+    """Returns the IRI of the statement about a note."""
+    named = hashlib.blake2b("\n".join((note.predicate, *note.object)).encode(), digest_size=6).hexdigest()
+    return Iri(f"{note.subject}{NODE}{named}")
 
 
 def sources_of(values: Mapping[str, Properties]) -> dict[Triple, str]:

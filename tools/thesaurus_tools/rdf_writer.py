@@ -5,6 +5,7 @@ import json
 import re
 from collections import Counter
 from collections.abc import Callable, Iterable, Iterator
+from functools import lru_cache
 from itertools import groupby
 from xml.sax.saxutils import quoteattr
 
@@ -33,11 +34,12 @@ XML_NAME = re.compile(r"(?<=[#/])[A-Za-z_][A-Za-z0-9_.-]*$")
 MADE_NAME = re.compile(r"[A-Za-z0-9_]([A-Za-z0-9_-]*[A-Za-z0-9_-])?")
 
 
+# (an export names each resource many times)
+@lru_cache(1 << 16)
 def iri_order(iri: str) -> tuple[str, int, str]:
     """Returns the sort key of an IRI: by its beginning, and then by the number at its end."""
-    digits = re.search("[0-9]*$", iri)
-    number = digits[0] if digits else ""
-    return iri[: len(iri) - len(number)], int(number or 0), iri
+    start = iri.rstrip("0123456789")
+    return start, int(iri[len(start) :] or 0), iri
 
 
 def node_order(node: Node) -> tuple:

@@ -42,17 +42,33 @@ class Change(NamedTuple):
 
 def changes_of_lines(old: Iterable[str], new: Iterable[str]) -> Iterator[Change]:
     """Yields the changes between two exports, line by line: only what differs is parsed."""
-    before, after = by_subject(old), by_subject(new)
+    before = by_subject(old)
+    after = by_subject(new if has_types(it for its in before.values() for it in its) else map(plain, new))
     for subject in dict.fromkeys((*after, *before)):
         one, other = before.get(subject), after.get(subject)
         if one != other:
             yield from changes_of(subject, properties_of(one or ()), properties_of(other or ()))
 
 
+def has_types(lines: Iterable[str]) -> bool:
+    """Whether an export has types of hierarchical links: those of earlier desks have none."""
+    return any(f"<{ISO_THES}broader" in it for it in lines)
+
+
+def plain(line: str) -> str:
+    """Returns a line of an export; nothing for the type of a link."""
+    return "" if f"<{ISO_THES}broader" in line or f"<{ISO_THES}narrower" in line else line
+
+
+def without_types(found: Properties) -> Properties:
+    """Returns the properties of a resource without the types of its links."""
+    return {name: it for name, it in found.items() if not plain(f"<{name}>") == ""}
+
+
 def by_subject(lines: Iterable[str]) -> dict[str, set[str]]:
     """Returns the lines of each resource; those of the list of its members are among them."""
     found: dict[str, set[str]] = defaultdict(set)
-    for it in lines:
+    for it in filter(None, lines):
         found[list_owner(it[1 : it.index(">")])].add(it.rstrip("\n"))
     return found
 

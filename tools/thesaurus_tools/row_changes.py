@@ -15,7 +15,7 @@ from thesaurus_tools.kinds import BROADER, CODES, LABEL_KINDS, MAPPINGS
 from thesaurus_tools.link_rules import IRI_FORM
 from thesaurus_tools.row_order import NamedEnd
 from thesaurus_tools.row_postings import PostingRows
-from thesaurus_tools.values import texts_of
+from thesaurus_tools.values import as_in_cell, texts_of
 
 # What a row can ask for, with other words for it in the column `do`.
 DEEDS = {
@@ -231,9 +231,9 @@ class RowReader:
         is added."""
         for (name, tag), texts in self.values_of_fields(cells).items():
             held = self.draft.held(owner, name, tag)
-            new = [it for it in texts if it not in [one.text for one in held]]
+            new = [it for it in texts if it not in map(as_in_cell, held)]
             is_whole = self.deed == "change" or not self.draft.store.fields[name].is_many
-            old = [it for it in held if it.text not in texts] if is_whole else []
+            old = [it for it in held if as_in_cell(it) not in texts] if is_whole else []
             # (the source of what is changed stays)
             yield from value_requests(owner, (name, tag), old, new)
 

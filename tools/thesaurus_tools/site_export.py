@@ -11,7 +11,7 @@ from thesaurus_tools.arrays import Places, places_of_triples
 from thesaurus_tools.command_line import REFUSED, ToolError
 from thesaurus_tools.desk_values import hidden_concepts, open_journal, public_fields, public_values
 from thesaurus_tools.export_values import ExportFacts
-from thesaurus_tools.fields import Field
+from thesaurus_tools.fields import Field, text_fields
 from thesaurus_tools.kinds import BROADER
 from thesaurus_tools.ntriples import DCTERMS, OWL, RDF, SKOS, Iri, Literal, Triple, read_ntriples
 from thesaurus_tools.public_triples import public_triples
@@ -97,7 +97,7 @@ class Thesaurus:
         """Takes up the values of fields that everybody may see, of the journal of the desk that has made the export."""
         by_number = {number_of_iri(iri): it for iri, it in self.resources.items()}
         with open_journal(journal) as tables:
-            fields = public_fields(tables)
+            fields = text_fields(public_fields(tables))
             for value in public_values(tables, fields):
                 if (it := by_number.get(str(value.owner))) is not None:
                     it.take(fields[value.field], value)

@@ -9,12 +9,13 @@ from typing import Any
 
 from thesaurus_tools.arrays import ABOVE, AROUND, places_of_triples
 from thesaurus_tools.fields import DATES, DESCRIPTION, MAYBE_IRI, ORDER, STANDARD, SUPERORDINATE
-from thesaurus_tools.fields import Field, code_of, has_form, tidy
+from thesaurus_tools.fields import TERM_SOURCE, Field, code_of, has_form, tidy
 from thesaurus_tools.fields import WITHIN as WITHIN_FIELD
 from thesaurus_tools.kinds import BROADER, LABEL_PROPERTIES
 from thesaurus_tools.link_rules import OUTSIDE
 from thesaurus_tools.mads import mads_name
 from thesaurus_tools.note_sources import OF_STATEMENT, sources_of, note_statements
+from thesaurus_tools.public_values import term_sources
 from thesaurus_tools.ntriples import DCTERMS, OWL, RDF, SKOS, Blank, Iri, Literal, Triple
 from thesaurus_tools.skos_kinds import (
     DC_ELEMENTS,
@@ -120,6 +121,7 @@ class SkosReader:
             self.read_rest(subject)
         self.read_places()
         self.vocabulary.check(self.given.lang, bool(self.given.qualify))
+        self.read_term_sources()
         self.vocabulary.check_places()
         self.vocabulary.check_unique_values()
         self.compare_entailed()
@@ -426,6 +428,15 @@ class SkosReader:
         if isinstance(node, Blank) or field.name not in MAYBE_IRI and isinstance(node, Iri) != (field.kind == "link"):
             return False
         return field.kind in FREE or has_form(field, tidy(node.text if isinstance(node, Literal) else node, field.kind))
+
+    def read_term_sources(self) -> None:
+        """Adds the sources of the terms that resources have, if values of fields are wanted."""
+        for subject, tag, text, source in term_sources(self.sources) if self.given.own else ():
+            its, key = self.vocabulary.resources.get(subject), (tag or (self.given.lang or "").lower(), text)
+            if its is not None and key in its.names():
+                self.vocabulary.add_value(its, FieldValue(TERM_SOURCE, *key, source))
+            else:
+                self.lose(subject, f"the source of {text!r}, {source}")
 
     def value_of(self, field: Field, node: Any) -> tuple[str, str]:
         """Returns the tag and the text of a value: its language, or the code that its datatype names."""

@@ -9,7 +9,7 @@ from typing import NamedTuple
 
 from thesaurus_tools.command_line import REFUSED, ToolError
 from thesaurus_tools.arrays import Places, no_places
-from thesaurus_tools.fields import Field
+from thesaurus_tools.fields import TERM_SOURCE, Field
 from thesaurus_tools.kinds import BROADER, LABEL_KINDS, SYMMETRIC
 from thesaurus_tools.values import FieldValue
 
@@ -118,8 +118,9 @@ class Store:
     has_types = has_plain = True
 
     def values_in(self, number: int, lang: str) -> Iterator[tuple[Field, FieldValue]]:
-        """Yields the values of a resource in a language or in none, in the order of the fields."""
-        held = self.values_of.get(number, ())
+        """Yields the values of a resource in a language or in none, in the order of the fields, but for the sources of
+        its terms."""
+        held = [it for it in self.values_of.get(number, ()) if it.field != TERM_SOURCE]
         for field in self.fields.values() if held else ():
             for it in held:
                 if it.field == field.name and (field.tag != "language" or it.tag == lang):

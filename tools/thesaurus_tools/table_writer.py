@@ -13,7 +13,7 @@ from thesaurus_tools.headings import TAG, Fields
 from thesaurus_tools.kinds import BROADER, LABEL_KINDS, MAPPINGS
 from thesaurus_tools.link_rules import IRI_FORM
 from thesaurus_tools.store import End, Resource, Store
-from thesaurus_tools.values import cell_of
+from thesaurus_tools.values import as_in_cell, cell_of
 
 NUMBERED = ("number", "iri", "records")
 LINKED = (*BROADER, "narrower", "related", *MAPPINGS, "member")
@@ -104,7 +104,8 @@ class TableWriter:
             return JOINT.join(shown)
         if name not in LINKED:
             values = self.store.values_of.get(number, ())
-            return cell_of(self.store.fields[kind], [it.text for it in values if (it.field, it.tag) == (kind, tag)])
+            shown = [as_in_cell(it) for it in values if (it.field, it.tag) == (kind, tag)]
+            return cell_of(self.store.fields[kind], shown)
         return JOINT.join(self.named(it) for it in ends_of(self.store, number, kind))
 
     def named(self, end: End) -> str:

@@ -5,12 +5,15 @@ import re
 from collections.abc import Sequence
 from typing import Any, NamedTuple
 
-from thesaurus_tools.fields import Field, tidy
+from thesaurus_tools.fields import TERM_SOURCE, Field, tidy
 
 # What parts several values of a cell: those of several lines have it alone on a line between them.
 SIGN = "|"
 SIGNS_ALONE = re.compile(r"^\|+$", re.MULTILINE)
 ONE_SIGN = re.compile(r"(?<!\|)\|(?!\|)")
+# What parts a term and its source in a cell; within a term it is doubled.
+EQUALS = "="
+ONE_EQUALS = re.compile("(?<!=)=(?!=)")
 
 
 class FieldValue(NamedTuple):
@@ -43,6 +46,20 @@ def source_of(member: Any) -> str:
 def set_request(owner: int | str, field: str, tag: str, *, old: Any = None, new: Any = None) -> dict[str, Any]:
     """Returns the request that adds, changes or removes a value."""
     return {"do": "set", "owner": owner, "field": field, "tag": tag, "old": old, "new": new}
+
+
+def as_in_cell(it: FieldValue) -> str:
+    """Returns a value as a cell has it: a term with its source, of others the text alone."""
+    return f"{it.text.replace(EQUALS, EQUALS * 2)} {EQUALS} {it.source}" if it.field == TERM_SOURCE else it.text
+
+
+def member_of_cell(field: str, text: str, source: str = "") -> str | dict[str, str]:
+    """Returns the value of a cell as a request has it: a term with the source that the cell names, others with the one
+    that is given."""
+    if field != TERM_SOURCE:
+        return member_of(text, source)
+    term, *rest = ONE_EQUALS.split(text, maxsplit=1)
+    return member_of(term.strip().replace(EQUALS * 2, EQUALS), "".join(rest).strip())
 
 
 def cell_of(field: Field, texts: Sequence[str]) -> str:

@@ -6,7 +6,7 @@ from collections.abc import Iterable, Mapping
 from dataclasses import dataclass, field
 from typing import Any, NamedTuple
 
-from thesaurus_tools.fields import ORDER, STANDARD, SUPERORDINATE, WITHIN, Field, is_tag, is_value, tidy
+from thesaurus_tools.fields import ORDER, STANDARD, SUPERORDINATE, TERM_SOURCE, WITHIN, Field, is_tag, is_value, tidy
 from thesaurus_tools.finding_messages import FINDINGS, TABLE_FINDINGS
 from thesaurus_tools.kinds import BROADER, LABEL_KINDS
 from thesaurus_tools.link_rules import LINK_ORDER, LinkRules
@@ -136,7 +136,9 @@ class Vocabulary:
     def add_value(self, owner: Resource, value: FieldValue) -> None:
         """Adds a value of a field, unless the field doesn't take it, or another concept of the scheme has it."""
         its = self.fields[value.field]
-        fitted = value._replace(text=tidy(value.text, its.kind), source=tidy(value.source, "line"))
+        # (a term is as its resource has it)
+        text = value.text if value.field == TERM_SOURCE else tidy(value.text, its.kind)
+        fitted = value._replace(text=text, source=tidy(value.source, "line"))
         said = {"property": value.field, "text": value.text, "tag": value.tag}
         if its.tag == "language" and not is_tag(its, fitted.tag):
             self.find("BadTag", owner.name, "value_tag" if fitted.tag else "value_without_tag", **said)

@@ -13,6 +13,7 @@ from xml.etree import ElementTree
 from xml.etree.ElementTree import Element, SubElement
 
 from thesaurus_tools.command_line import REFUSED, ToolError
+from thesaurus_tools.fields import TERM_SOURCE
 from thesaurus_tools.ntriples import DCTERMS, RDF, SKOS, Iri, Literal, Node, Triple
 from thesaurus_tools.rdf_writer import ISO_THES
 from thesaurus_tools.store import Resource, Store
@@ -125,7 +126,8 @@ class ZthesWriter:
     def add_notes(self, term: Element, number: int) -> None:
         """Adds the notes and the notations of a concept."""
         found = [("scope", tag, text) for tag, text in self.terms(number, "scope")]
-        values = ((self.store.fields[it.field], it) for it in self.store.values_of.get(number, ()))
+        held = [it for it in self.store.values_of.get(number, ()) if it.field != TERM_SOURCE]
+        values = ((self.store.fields[it.field], it) for it in held)
         found += [("notation" if field.kind == "code" else field.name, it.tag, it.text) for field, it in values]
         for label, tag, text in found:
             lang = {XML_LANG: tag} if label != "notation" and tag else {}

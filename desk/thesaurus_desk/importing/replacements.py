@@ -100,7 +100,8 @@ def requests_of(cells: Sequence[str], keeps_old: bool, replica: Replica, values:
         return [*gone, {"do": "relabel", **label, "text": new, "keep": keeps_old}]
     is_there = place != "scope" and there or (place, tag, new) in (found.labels if found is not None else ())
     added = [] if is_there else [{"do": "addLabel", **label, "kind": place, "text": new}]
-    return [{"do": "dropLabel", **label, "kind": place, "text": old}, *added]
+    # (the source of what is removed goes to what comes directly before)
+    return [*added, {"do": "dropLabel", **label, "kind": place, "text": old}]
 
 
 def replaced_value(owner: int, field: str, tag: str, texts: tuple[str, str], values: Values) -> Request:

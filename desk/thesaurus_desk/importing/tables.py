@@ -75,8 +75,9 @@ class TableRun:
     # end that it no longer has, and what is left out of it.
     vocabulary: list[dict[str, Any]] = field(default_factory=list)
     ends_gone: bool = False
-    # Of an export: the requests that set all its values.
+    # Of an export: the requests that set all its values, and the fields of an office that no field is any more.
     exported: list[dict[str, Any]] = field(default_factory=list)
+    lacking: list[dict[str, Any]] = field(default_factory=list)
     report: list[ReportRow] = field(default_factory=list)
 
     @property

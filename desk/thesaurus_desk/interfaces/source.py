@@ -9,12 +9,14 @@ from thesaurus_desk.store.model import Resource
 from thesaurus_desk.store.replica import Replica
 from thesaurus_tools.arrays import Places, no_places, place_triples
 from thesaurus_tools.fields import Field, time_node
-from thesaurus_tools.kinds import CLASSES, LABEL_PROPERTIES, LINK_PROPERTIES, SYMMETRIC
+from thesaurus_tools.kinds import BROADER, CLASSES, LABEL_PROPERTIES, LINK_PROPERTIES, SYMMETRIC
 from thesaurus_tools.ntriples import DCTERMS, OWL, RDF, SKOS, XSD, Iri, Literal, Node, Triple
-from thesaurus_tools.public_values import PublicValue, value_triples
+from thesaurus_tools.public_values import PublicValue, term_source_triples, value_triples
+from thesaurus_tools.rdf_writer import ISO_THES
 
 CLASS_OF = {kind: name for name, kind in CLASSES.items()}
 LABEL_OF = {kind: name for name, kind in LABEL_PROPERTIES.items()}
+TYPES = BROADER[1:]
 MATCH_OF = {kind: name for name, kind in LINK_PROPERTIES.items()}
 
 
@@ -110,7 +112,9 @@ class Source:
             subject = Iri(replica.iri(number))
             found = [Triple(subject, Iri(name), node) for name, node in properties(replica, it)] if it else []
             found += place_triples(self.places(), replica.base, number, sorted(it.members)) if it else []
-        found += [triple for it in self.values(number) for triple in value_triples(subject, it, replica.base)]
+        values = list(self.values(number))
+        found += term_source_triples(values, list(found))
+        found += [triple for it in values for triple in value_triples(subject, it, replica.base)]
         if it is not None and it.kind == "scheme":
             found += version_triples(subject, *self.edition())
         for name, at in zip(("created", "modified"), self.dates(number)):
@@ -126,7 +130,7 @@ def version_triples(scheme: Iri, name: str, day: str) -> list[Triple]:
 
 
 def properties(replica: Replica, it: Resource) -> Iterator[tuple[str, Node]]:
-    """Yields the properties of a resource, as the program's export has them."""
+    """Yields the properties of a resource as the program's export has them, and the types of its hierarchical links."""
     yield RDF + "type", Iri(SKOS + CLASS_OF[it.kind])
     for kind, tag, text in it.labels:
         yield SKOS + LABEL_OF[kind], Literal(text, tag)
@@ -138,6 +142,11 @@ def properties(replica: Replica, it: Resource) -> Iterator[tuple[str, Node]]:
         yield SKOS + "hasTopConcept", Iri(replica.iri(other))
     for name, others in (("broader", it.broader), ("narrower", it.narrower), ("related", it.related)):
         yield from ((SKOS + name, Iri(replica.iri(other))) for other in others)
+    for name, typed in (("broader", it.broader), ("narrower", it.narrower)):
+        for other, kinds in typed.items():
+            for kind in sorted(kinds):
+                if kind in TYPES:
+                    yield ISO_THES + kind.replace("broader", name), Iri(replica.iri(other))
     yield from ((SKOS + "member", Iri(replica.iri(other))) for other in it.members)
     for link in it.matches:
         # A symmetric match is stated at both ends, a broader or narrower one where it was made.

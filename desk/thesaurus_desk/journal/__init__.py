@@ -18,6 +18,7 @@
   values          definitions, notes, notations and other values of fields, which plans set beside the store
   releases        frozen exports with a name
   value_rules     why a value is refused
+  term_sources    what becomes of the sources of terms by a plan
   consistency     the journal compared with the store, and values with the steps that set them
   chain           digests of plans, each over the one before
   forgotten_users a user's name taken out of the journal

@@ -10,6 +10,7 @@ from dataclasses import dataclass
 from typing import Any
 
 from thesaurus_desk.journal.entries import Batch, Journal, Plan, Step
+from thesaurus_desk.journal.term_sources import follows
 
 # The most bytes of what is left of a file, as it is kept until the file is done.
 MOST_LEFT = 32 << 20
@@ -107,10 +108,10 @@ class Batches:
         return unpack(found["rest"]) if found and found["rest"] else None
 
     def done(self, batch: Batch) -> list[Step]:
-        """Returns the steps of a file that were done, in their order."""
+        """Returns the steps of a file that were done, in their order, without those that the desk has added."""
         first = self.journal.plan(batch.plan) if batch.plan else None
         parts = self.journal.parts(first) if first else []
-        return [step for part in parts if part.state == "done" for step in part.steps]
+        return [step for part in parts if part.state == "done" for step in part.steps if not follows(step)]
 
     def rows_done(self, batch: Batch) -> set[int]:
         """Returns the lines of the rows of a table that were done."""

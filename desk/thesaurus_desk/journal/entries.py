@@ -375,9 +375,10 @@ class Journal(Database):
     def steps_about(self, plan: int, number: int) -> list[Step]:
         """Returns the steps of a plan that concern a resource. Those alone are read that have its number anywhere: a
         plan may have hundreds, with long texts."""
-        has_number = " OR ".join(f"{it} GLOB ?2" for it in ("request", *PARTS_OF_STEP[:3]))
+        # (what hasn't its digits is passed over at once)
+        has_number = " OR ".join(f"(instr({it}, ?3) AND {it} GLOB ?2)" for it in ("request", *PARTS_OF_STEP[:3]))
         query = f"SELECT * FROM step WHERE plan = ?1 AND ({has_number}) ORDER BY place"
-        found = map(step_of, self.all(query, plan, f"*[^0-9]{number}[^0-9]*"))
+        found = map(step_of, self.all(query, plan, f"*[^0-9]{number}[^0-9]*", str(number)))
         return [it for it in found if number in it.numbers]
 
     def plan_of(self, row: sqlite3.Row, its: Sequence[Step] = ()) -> Plan:

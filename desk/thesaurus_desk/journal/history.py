@@ -126,11 +126,17 @@ class History:
             " FROM plan JOIN concern ON plan = id WHERE number = ? AND changes = 1 AND state = 'done'",
             number,
         )
-        plan = self.journal.plan(found["first"]) if found and found["first"] else None
-        if not found or not plan:
+        if not found or not found["first"]:
             return Dates(None, None)
-        made = {it.answer.get("ok") for it in plan.steps if it.answer and it.request["do"] != "post"}
-        return Dates(found["created"] if abs(number) in made else None, found["modified"])
+        # (of a plan with many steps only one is read as JSON)
+        made = self.journal.one(
+            "SELECT 1 FROM step WHERE plan = ?1 AND instr(answer, ?2) AND json_extract(answer, '$.ok') = ?3"
+            " AND json_extract(request, '$.do') <> 'post'",
+            found["first"],
+            f'"ok":{abs(number)}',
+            abs(number),
+        )
+        return Dates(found["created"] if made else None, found["modified"])
 
     def all_dates(self) -> dict[int, Dates]:
         """Returns the dates of all resources, read at once."""

@@ -9,7 +9,7 @@ from thesaurus_desk.auth.roles import Role
 from thesaurus_desk.journal.entries import NAMED, Journal, Plan, Request, Step
 from thesaurus_desk.journal.history import ENDING
 from thesaurus_desk.journal.rights import MAKING, Rights, made_by, read_rights
-from thesaurus_desk.journal.values import Value, Values, inverse_of, set_request, text_of
+from thesaurus_desk.journal.values import Value, Values, inverse_of, set_request, source_of, text_of
 from thesaurus_desk.store.model import Link
 from thesaurus_desk.store.replica import Replica
 from thesaurus_tools.fields import ORDER, PLACE_FIELDS
@@ -125,8 +125,8 @@ class Builder:
 
     def __init__(self, replica: Replica, values: Values, plan: Plan, label: tuple[str, str] | None) -> None:
         self.replica, self.values, self.label = replica, values, label
-        # The values of fields, by their owners, as the requests so far leave them: tags and texts.
-        self.held: dict[tuple[int, str], list[tuple[str, str]]] = {}
+        # The values of fields, by their owners, as the requests so far leave them: tags, texts, sources.
+        self.held: dict[tuple[int, str], list[tuple[str, str, str]]] = {}
         self.made = TakeBack(plan)
         self.remarked: set[Remark] = set()
         self.keys: set[str] = set()
@@ -195,6 +195,7 @@ class Builder:
     def take_back_value(self, request: Request) -> None:
         """Adds the request that takes a value back; none where the value has changed since."""
         owner, field, tag = request["owner"], request["field"], request["tag"]
+        ends = request["old"], request["new"]
         if field == "status" and owner in self.own:
             return
         if field in PLACE_FIELDS:
@@ -206,13 +207,14 @@ class Builder:
             self.remark("has ended", owner)
         else:
             if (owner, field) not in self.held:
-                self.held[owner, field] = [(it.tag, it.text) for it in self.values.held(owner, field)]
+                self.held[owner, field] = [(it.tag, it.text, it.source) for it in self.values.held(owner, field)]
             held = self.held[owner, field]
-            old, new = text_of(request["old"]), text_of(request["new"])
-            if old is not None and (tag, old) not in held or new is not None and new != old and (tag, new) in held:
-                self.remark("value changed", owner, old or new or "")
+            old, new = (None if it is None else (tag, text_of(it) or "", source_of(it)) for it in ends)
+            others = [it[:2] for it in held if it != old]
+            if old is not None and old not in held or new is not None and new[:2] in others:
+                self.remark("value changed", owner, (old or new or ("", ""))[1])
                 return
-            held[:] = [it for it in held if it != (tag, old)] + ([(tag, new)] if new is not None else [])
+            held[:] = [it for it in held if it != old] + ([new] if new is not None else [])
             self.add(request)
 
     def take_back_place(self, request: Request) -> None:

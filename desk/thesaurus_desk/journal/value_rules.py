@@ -10,6 +10,7 @@ from thesaurus_tools.fields import (
     HIDDEN,
     LONGEST_LINE,
     SUPERORDINATE,
+    TERM_SOURCE,
     WITHIN,
     Field,
     has_form,
@@ -30,7 +31,8 @@ class ValueRules:
     of such a resource); NotLive; NoSuchValue (the old value isn't there); Retired (the field gets no new values);
     BadValue; ValueThere; OnlyOne (the field has one value at most); ValueTaken (another one of the scheme has it);
     BadSuperordinate, BadWithin, BadOrder (a collection can't be there, or have that in it); NestedRing (a collection
-    would be within itself); BelowCandidate (a concept is approved, and one above it isn't)."""
+    would be within itself); BelowCandidate (a concept is approved, and one above it isn't). `TermSources` has one more:
+    UnknownTerm (the plan leaves a source of a term that the resource hasn't)."""
 
     def __init__(self, replica: Replica, values: Values) -> None:
         self.replica, self.values = replica, values
@@ -135,7 +137,8 @@ class ValueRules:
         if field.is_retired and it["old"] is None:
             return "Retired"
         is_list = isinstance(it["new"], list) and all(isinstance(one, int) for one in it["new"])
-        if is_list != names_resources(field) or not is_value(field, *new) or not is_source(field, source_of(it["new"])):
+        source = source_of(it["new"])
+        if is_list != names_resources(field) or not is_value(field, *new) or not is_source(field, source):
             return "BadValue"
         if new in others:
             return "ValueThere"
@@ -199,7 +202,9 @@ def value_of(request: Request) -> Value:
 
 def is_source(field: Field, source: str) -> bool:
     """Whether a field takes a source."""
-    return source == "" or field.has_source and len(source) <= LONGEST_LINE and has_form(SOURCE, source)
+    if not source:
+        return field.name != TERM_SOURCE
+    return field.has_source and len(source) <= LONGEST_LINE and has_form(SOURCE, source)
 
 
 SOURCE = Field("source of a note", "line")

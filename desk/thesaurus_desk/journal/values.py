@@ -256,10 +256,12 @@ class Values:
         asked = " ".join(f'"{it}" *' for it in fold(words).replace('"', " ").split())
         if not asked:
             return []
+        # (what begins with two letters has no best)
+        order = "rank" if any(len(it) >= PART for it in fold(words).split()) else "value_words.rowid"
         found = self.journal.all(
             "SELECT value.id, owner, field, tag, text, source, plan FROM value_words"
             " JOIN value ON value.id = value_words.rowid"
-            f" WHERE value_words MATCH ? AND field IN ({marks_of(fields)}) ORDER BY rank LIMIT ?",
+            f" WHERE value_words MATCH ? AND field IN ({marks_of(fields)}) ORDER BY {order} LIMIT ?",
             asked,
             *fields,
             most,

@@ -1,5 +1,5 @@
-"""Makes a replica of an export, for what only reads: it has no postings and no types of hierarchical links, but the
-places of collections, the values of fields, and dates."""
+"""Makes a replica of an export, for what only reads: it has no postings, but the types of hierarchical links, places of
+collections, the values of fields, and dates."""
 from __future__ import annotations
 
 import contextlib
@@ -16,6 +16,7 @@ from thesaurus_desk.store.schema import COLUMNS, KIND_NUMBER, LABEL_NUMBER, LINK
 from thesaurus_tools.arrays import Places, no_places, number_places, places_of_triples
 from thesaurus_tools.export_store import store_of_export
 from thesaurus_tools.export_values import ExportFacts, read_facts
+from thesaurus_tools.desk_export import typed_links
 from thesaurus_tools.fields import STANDARD, Field, text_fields
 from thesaurus_tools.ntriples import read_ntriples
 from thesaurus_tools.store import Store
@@ -53,6 +54,7 @@ def read_export(path: Path) -> ExportReplica:
     """Reads an export of the program. Raises ToolError for another file."""
     triples = list(read_ntriples(path))
     store = store_of_export(str(path), triples)
+    store.links |= {*typed_links(triples, store.base)}
     replica = ExportReplica(rows_of(store), read_facts(triples, store.base))
     replica.places = number_places(places_of_triples(triples), store.base)
     return replica

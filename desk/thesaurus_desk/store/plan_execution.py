@@ -12,6 +12,7 @@ from thesaurus_desk.journal.batches import pack
 from thesaurus_desk.journal.recovery import changed_by, mark_steps
 from thesaurus_desk.journal.references import resolve_request
 from thesaurus_desk.journal.schema import fault_of
+from thesaurus_desk.journal.term_sources import TermSources
 from thesaurus_desk.journal.undo import TakeBack
 from thesaurus_desk.journal.value_rules import ValueRules
 from thesaurus_desk.store.changes import Change
@@ -25,6 +26,8 @@ from thesaurus_tools.command_line import ToolError
 log = logging.getLogger("desk")
 # The action of a plan that takes another one back.
 TAKE_BACK = "take back"
+# The action of a plan that imports a vocabulary: it says itself what becomes of the sources of terms.
+WHOLE = "skos"
 
 
 def unsent(requests: Sequence[Request], fault: str | None) -> Outcome:
@@ -82,7 +85,7 @@ class Desk(OpenStore):
                 # (what an earlier part made has its number by now)
                 names = [*whole.numbers(), *(f"${place}" for place in range(1, LONGEST_PLAN + 1))]
                 steps = [Step(resolve_request(it, names)) for it in requests[first : first + LONGEST_PLAN]]
-                before = whole.plan or (batch.plan if batch else None)
+                count, before = len(steps), whole.plan or (batch.plan if batch else None)
                 is_first = batch if batch and not batch.plan else None
                 lines = batch.lines if batch else ()
                 part = self.perform_part(
@@ -90,7 +93,8 @@ class Desk(OpenStore):
                 )
                 if is_first and part.plan:
                     self.batches.begun(is_first, part.plan, part.is_done)
-                whole.steps += part.steps
+                # (references count what was asked for, without what the desk has added)
+                whole.steps += part.steps[:count]
                 whole.plan = whole.plan or part.plan
                 whole.state, whole.answer, whole.at = part.state, part.answer, part.at and first + part.at
                 if not part.is_done:
@@ -153,7 +157,13 @@ class Desk(OpenStore):
             note_destroyed(self.journal.rows, self.journal.path, draft.steps, trial)
         rules = ValueRules(self.replica, self.values)
         refused = rules.refusal_of_plan(trial.requests, [it.foreseen or {} for it in draft.steps])
-        return (draft.steps[refused[0] - 1], {"no": refused[1]}) if refused else (None, None)
+        sources = TermSources(rules, draft.steps, trial.requests, trial.changes)
+        if refused is None and draft.takes_back is None and draft.action != WHOLE and (place := sources.unknown()):
+            refused = place, "UnknownTerm"
+        if refused:
+            return draft.steps[refused[0] - 1], {"no": refused[1]}
+        draft.steps += sources.following() if draft.action != WHOLE else []
+        return None, None
 
     def send(self, outcome: Outcome, changes: Sequence[Change]) -> None:
         """Has the program perform a plan that was tried."""

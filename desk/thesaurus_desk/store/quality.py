@@ -7,6 +7,7 @@ from collections import Counter
 from thesaurus_desk.store.model import Link
 from thesaurus_desk.store.replica import Replica
 from thesaurus_desk.store.schema import LINK_NUMBER
+from thesaurus_tools.fields import TERM_SOURCE
 from thesaurus_tools.kinds import BROADER, MAPPINGS
 
 # How many levels there may be above a concept, and how many narrower ones it may have, before it is listed.
@@ -44,6 +45,11 @@ DEAD_ENDS = """
 SELECT r.num FROM resource r WHERE r.kind = 2 AND r.live = 0 AND r.replaced IS NULL AND (?1 IS NULL OR r.scheme = ?1)
 AND (EXISTS (SELECT 1 FROM posting WHERE at = r.num AND withdrawn = 1)
 OR EXISTS (SELECT 1 FROM move WHERE source = r.num))
+"""
+# What has a source of a term that it hasn't any more: another program has renamed or removed the term.
+LOST_SOURCES = f"""
+SELECT DISTINCT r.num FROM value JOIN {LIVE} AND r.num = value.owner AND value.field = '{TERM_SOURCE}'
+AND NOT EXISTS (SELECT 1 FROM label WHERE owner = r.num AND kind < 4 AND tag = value.tag AND text = value.text)
 """
 RELATED_SIBLINGS = f"""
 SELECT k.a, k.b FROM link k CROSS JOIN resource r ON r.num = k.a

@@ -62,7 +62,10 @@ def frozen_source(replica: Replica, name: str, day: str) -> ReleaseSource:
 
 def release_lines(source: Source) -> Iterator[str]:
     """Yields the N-Triples of all that everybody sees."""
-    for number in numbers_of_export(source, None):
+    numbers = numbers_of_export(source, None)
+    # (of what it names it is asked of what kind it is)
+    source.replica().look_at(numbers)
+    for number in numbers:
         yield from write_ntriples(source.triples(number), source.replica().base)
 
 

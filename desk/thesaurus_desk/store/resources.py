@@ -136,6 +136,9 @@ class Resources(ReadTransactions):
     @in_one_transaction
     def iri(self, number: int) -> str:
         """Returns the IRI of a resource."""
+        head = self.transaction.heads.get(number)
+        if head is not None and KINDS[head[1]] != "outside":
+            return f"{self.base}{number}"
         return self.value("SELECT iri FROM outside WHERE num = ?", number) or f"{self.base}{number}"
 
     @in_one_transaction

@@ -14,6 +14,7 @@ import threading
 from collections import OrderedDict
 from collections.abc import Iterable, Iterator
 from dataclasses import asdict, dataclass, replace
+from functools import partial
 from pathlib import Path
 from typing import Any
 
@@ -24,9 +25,9 @@ from thesaurus_desk.store.plan_execution import Desk
 from thesaurus_desk.store.release_export import frozen_source, release_lines
 from thesaurus_tools import file_forms
 from thesaurus_tools.fields import in_rdf, node_of
-from thesaurus_tools.kinds import BROADER
 from thesaurus_tools.ntriples import Iri, Triple
-from thesaurus_tools.rdf_writer import ISO_THES, ntriple
+from thesaurus_tools.rdf_writer import ntriple
+from thesaurus_tools.term_dates import term_dates, to_json
 
 # How many files are kept, how many requests may wait for theirs, and the seconds that a process may take.
 MOST_KEPT, MOST_WAITING, LONGEST = 24, 6, 600
@@ -155,12 +156,15 @@ def write_input(folder: Path, desk: Desk, source: Source, release: Release | Non
     """Writes what everybody sees, now or in a release, for the process that makes files of it."""
     whole = [replace(it, property=it.property or OWN + name) for name, it in in_rdf(desk.values.fields()).items()]
     (folder / file_forms.FIELDS).write_text(json.dumps([asdict(it) for it in whole]), encoding="utf-8")
+    dates = partial(term_dates, desk.journal.all)
     if release is not None:
+        (folder / file_forms.TERMS).write_text(to_json(dates(release.plan)), encoding="utf-8")
         (folder / file_forms.EXPORT).write_bytes(desk.releases.text(release))
         (folder / file_forms.MORE).touch()
         return
     replica = source.replica()
     with replica.reading():
+        (folder / file_forms.TERMS).write_text(to_json(dates()), encoding="utf-8")
         frozen = frozen_source(replica, *source.edition()).source
         write_lines(folder / file_forms.EXPORT, release_lines(frozen))
         write_lines(folder / file_forms.MORE, (f"{ntriple(it)}\n" for it in more_triples(frozen)))
@@ -173,13 +177,10 @@ def write_lines(path: Path, lines: Iterable[str]) -> None:
 
 
 def more_triples(source: Source) -> Iterator[Triple]:
-    """Yields what RDF doesn't have of concepts: the types of hierarchical links, and values without a property."""
+    """Yields what RDF doesn't have of concepts: values without a property."""
     replica = source.replica()
     for number in replica.numbers("concept"):
-        view, subject = replica.view(number), Iri(replica.iri(number))
-        for kind, other in view.typed if view else ():
-            if kind in BROADER:
-                yield Triple(subject, Iri(ISO_THES + kind), Iri(replica.iri(other)))
+        subject = Iri(replica.iri(number))
         for it in source.values(number):
             if not it.field.property:
                 yield Triple(subject, Iri(OWN + it.field.name), node_of(it.field, it.tag, it.text, replica.base))

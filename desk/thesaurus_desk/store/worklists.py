@@ -106,6 +106,7 @@ LISTS: dict[str, Finder] = {
     "unused": by_query(UNUSED),
     "busiest": busiest,
     "dead_ends": by_query(quality.DEAD_ENDS),
+    "lost_sources": by_query(quality.LOST_SOURCES),
 }
 # Of each list of concepts whose terms are mistaken for one another, the groups; and of each of links, the links.
 GROUPS: dict[str, Callable[[Replica, int | None], list[Group]]] = {
@@ -131,7 +132,7 @@ MADE_OF = {
     **dict.fromkeys(GROUPS, ("labels", "resources")),
 }
 # The lists of which values are a part, too: they are made for each page.
-OF_VALUES = ("undefined",)
+OF_VALUES = ("undefined", "lost_sources")
 
 
 def find(store: Replica, kind: str, scheme: int | None, lang: str) -> list[Any]:

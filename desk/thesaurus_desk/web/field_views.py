@@ -8,12 +8,12 @@ from thesaurus_desk.journal.values import Value
 from thesaurus_desk.store.model import View
 from thesaurus_desk.store.text_keys import has_language
 from thesaurus_desk.web.context import person, the_desk, the_fields
-from thesaurus_tools.fields import DATES, OF_WORK, WITH_PAGES, Field, text_fields
+from thesaurus_tools.fields import DATES, TERM_SOURCE, Field, text_fields
 
 
 def shown_fields(view: View) -> list[Field]:
     """Returns the fields of a resource that the reader sees."""
-    found = (it for it in the_fields().values() if it.name not in (*OF_WORK, *WITH_PAGES))
+    found = text_fields(the_fields()).values()
     return [it for it in found if view.kind in it.owners and (it.is_public or person().name)]
 
 
@@ -21,6 +21,13 @@ def shown_values(view: View) -> dict[str, list[Value]]:
     """Returns the values of a resource that the reader sees, by field."""
     names = {it.name for it in shown_fields(view)}
     return {name: held for name, held in the_desk().values.of(view.number).items() if name in names}
+
+
+def term_sources(number: int) -> dict[tuple[str, str], str]:
+    """Returns the sources of a resource's terms that the reader sees, by language and text."""
+    if not (the_fields()[TERM_SOURCE].is_public or person().name):
+        return {}
+    return {(it.tag, it.text): it.source for it in the_desk().values.held(number, TERM_SOURCE)}
 
 
 def public_values(number: int, lang: str) -> Iterator[tuple[Field, Value]]:

@@ -7,12 +7,13 @@ from typing import Any
 
 from markupsafe import Markup, escape
 
-from thesaurus_desk.journal.values import text_of
+from thesaurus_desk.journal.values import source_of, text_of
 from thesaurus_desk.store.replica import Replica
 from thesaurus_desk.web.refusals import Links, label_of
 from thesaurus_desk.web.refusals.postings import record_link
 from thesaurus_desk.words import Words
 from thesaurus_desk.words.field_words import value_words
+from thesaurus_tools.fields import TERM_SOURCE
 
 Row = dict[str, Any]
 # How many resources of a value a sentence names.
@@ -57,6 +58,10 @@ class RequestText:
             return value_words(text_of(value) or "")
         shown = [self.named(one) for one in value[:MOST_NAMED]]
         return Markup(", ").join(shown) + (Markup(" …") if len(value) > MOST_NAMED else "")
+
+    def sourced(self, value: Any) -> Markup:
+        """Returns a term with its source."""
+        return Markup("{} ({})").format(self.value(value), source_of(value))
 
     def made(self) -> Markup:
         """Returns a link to what the request made, or its label."""
@@ -158,7 +163,7 @@ def write_set(it: RequestText) -> Markup:
         status = it.words(f"status.{it.request['new'] or 'approved'}")
         return it.say("status", owner=it.link("owner"), status=status)
     kind = it.links.field(name)
-    old, new = (it.value(it.request[one]) for one in ("old", "new"))
+    old, new = ((it.sourced if name == TERM_SOURCE else it.value)(it.request[one]) for one in ("old", "new"))
     key = "set_new" if it.request["old"] is None else "set_gone" if it.request["new"] is None else "set_changed"
     return it.say(key, owner=it.link("owner"), kind=f"{kind} ({tag})" if tag else kind, old=old, new=new)
 

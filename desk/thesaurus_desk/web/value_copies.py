@@ -7,7 +7,7 @@ from dataclasses import dataclass, replace
 from thesaurus_desk.journal.entries import Request
 from thesaurus_desk.journal.values import Value, set_request
 from thesaurus_desk.web.context import the_desk, the_fields
-from thesaurus_tools.fields import OF_WORK
+from thesaurus_tools.fields import text_fields
 
 # What may be ticked: a value that is copied, that comes beside another of its language, or that moves.
 TAKEN = ("copied", "beside", "moves")
@@ -45,7 +45,8 @@ def values_of(number: int) -> list[Value]:
     """Returns the values of a concept that can be given to another one."""
     fields = the_fields()
     found = (it for held in the_desk().values.of(number).values() for it in held)
-    shared = [name for name, it in fields.items() if not it.is_retired and name not in OF_WORK]
+    # (the sources of terms go with their terms)
+    shared = [name for name, it in text_fields(fields).items() if not it.is_retired]
     return [it for it in found if it.field in shared]
 
 

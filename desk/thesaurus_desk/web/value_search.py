@@ -5,6 +5,7 @@ from collections.abc import Iterator
 
 from thesaurus_desk.journal.values import Value
 from thesaurus_desk.web.context import person, the_desk, the_fields, the_replica
+from thesaurus_tools.fields import TERM_SOURCE
 
 # How many values a search shows, of each sort.
 MOST = 50
@@ -15,7 +16,7 @@ def found_values(query: str) -> list[Value]:
     belongs to a resource that is there."""
     if len(query) < 2:
         return []
-    shown = (it for it in the_fields().values() if it.name not in ("status", "person", "due"))
+    shown = (it for it in the_fields().values() if it.name not in ("status", "person", "due", TERM_SOURCE))
     seen = [it.name for it in shown if it.is_public or person().name]
     values = the_desk().values
     notations = values.beginning("notation", query, MOST)

@@ -41,9 +41,12 @@ from thesaurus_tools.files import write_output
 from thesaurus_tools.ntriples import Iri, Triple
 from thesaurus_tools.public_triples import public_triples
 from thesaurus_tools.rdf_writer import WRITERS, ntriple, triple_order, write_rdfxml
+from thesaurus_tools.term_dates import date_triples, read_term_dates
 from thesaurus_tools.xml_texts import said_of
 
 TOOL = "to-rdf"
+# The words that have labels as resources.
+XL = "skos-xl"
 
 
 def arguments() -> argparse.Namespace:
@@ -141,7 +144,9 @@ def write(given: argparse.Namespace) -> int:
         text = changes(given, triples, base)
     else:
         chosen = choose(given, triples, base)
-        chosen = list(WORDS[given.words](chosen)) if given.words else chosen
+        dates = read_term_dates(given.journal) if given.journal and given.words == XL else {}
+        dated = list(date_triples(chosen, base, dates))
+        chosen = [*WORDS[given.words](chosen), *dated] if given.words else chosen
         is_xml = given.format == "rdfxml"
         written = write_rdfxml(chosen, base, no_xml) if is_xml else WRITERS[given.format or "turtle"](chosen, base)
         text = "".join(written)

@@ -102,6 +102,7 @@ def resource_page(number: int, state: FormState, status: int = 200) -> Any:
     all_terms = terms_by_tag(view)
     # (a form that is shown again may be that of any term)
     shown_terms = all_terms if "terms" in request.args or state.name else first_terms(all_terms)
+    sources, terms = field_views.term_sources(number), {*view.pref, *view.alt, *view.hidden}
     return (
         render_template(
             "resource/page.html",
@@ -109,6 +110,8 @@ def resource_page(number: int, state: FormState, status: int = 200) -> Any:
             state=state,
             near=near_tree(view) if view.kind == "concept" else None,
             terms_by_tag=shown_terms,
+            term_sources=sources,
+            lost_sources={term: it for term, it in sources.items() if term not in terms},
             more_languages=len(all_terms) - len(shown_terms),
             hierarchy_links=hierarchy_rows(view),
             links=link_rows(view),

@@ -25,7 +25,7 @@ PATIENCE, PACE = 4.0, 3
 # The forms in the groups of the page.
 GROUPS = {
     "rdf": ("turtle", "rdfxml", "jsonld", "ntriples", "skosxl"),
-    "thesauri": ("zthes",),
+    "thesauri": ("iso25964", "zthes"),
     "catalogues": ("marc", "marcxml", "madsrdf"),
     "tables": ("xlsx", "ods", "csv"),
     "paper": ("alphabetical", "systematic", "rotated", "page"),

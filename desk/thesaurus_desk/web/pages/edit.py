@@ -17,7 +17,9 @@ from thesaurus_desk.web.forms import FormState
 from thesaurus_desk.web.pages.concept import resource_page
 from thesaurus_desk.web.paths import concept_path
 from thesaurus_tools.entities import entity_address
+from thesaurus_tools.fields import TERM_SOURCE
 from thesaurus_tools.kinds import BROADER, LABEL_KINDS, MAPPINGS
+from thesaurus_tools.values import member_of, set_request
 
 pages = Blueprint("edit", __name__)
 
@@ -87,27 +89,43 @@ def add_term(number: int) -> Any:
     kind, tag = form_text("kind", LABEL_KINDS), given_tag()
     if is_slip(tag):
         return show_again(number, problem_in(form_text("form"), "tag", say("refusals.BadTag.text", tag=tag)), 409)
-    label = {"do": "addLabel", "owner": number, "kind": kind, "tag": tag, "text": given_text()}
+    text = given_text()
+    label = {"do": "addLabel", "owner": number, "kind": kind, "tag": tag, "text": text}
     then = next_or(f"{concept_path(number)}#at-add-term")
-    return submit("add_term", [label], then=then, show=partial(show_again, number))
+    requests = [label, *source_requests(number, tag, ("", ""), (text, given_source(kind)))]
+    return submit("add_term", requests, then=then, show=partial(show_again, number))
 
 
 @pages.post("/c/<int:number>/terms/change")
 @role("editor")
 def change_term(number: int) -> Any:
-    """Renames the preferred term, or changes another term or a note."""
+    """Renames the preferred term, or changes another term or a note; or the source of a term."""
     resource(number)
     kind, tag, old, text = form_text("kind", LABEL_KINDS), given_tag(), request.form.get("old", ""), given_text()
-    if old == text:
-        return redirect(f"{concept_path(number)}#terms", 303)
-    requests: list[Request]
-    if kind == "pref":
-        requests = [{"do": "relabel", "owner": number, "tag": tag, "text": text, "keep": "keep" in request.form}]
-    else:
-        label = {"owner": number, "kind": kind, "tag": tag}
+    keep, label = kind == "pref" and "keep" in request.form, {"owner": number, "kind": kind, "tag": tag}
+    requests: list[Request] = []
+    if old != text and kind == "pref":
+        requests = [{"do": "relabel", "owner": number, "tag": tag, "text": text, "keep": keep}]
+    elif old != text:
         requests = [{"do": "addLabel", **label, "text": text}, {"do": "dropLabel", **label, "text": old}]
-    action = "rename" if kind == "pref" else "change_term"
+    # (a term that is kept keeps its source)
+    before = "" if keep and old != text else given_source(kind, "old_source")
+    requests += source_requests(number, tag, (old, before), (text, given_source(kind)))
+    if not requests:
+        return redirect(f"{concept_path(number)}#terms", 303)
+    action = "value" if old == text else "rename" if kind == "pref" else "change_term"
     return submit(action, requests, then=f"{concept_path(number)}#terms", show=partial(show_again, number))
+
+
+def given_source(kind: str, name: str = "source") -> str:
+    """Returns the source of a term; a note has none."""
+    return given_text(name) if kind != "scope" else ""
+
+
+def source_requests(owner: int, tag: str, before: tuple[str, str], after: tuple[str, str]) -> list[Request]:
+    """Returns the request that puts a term with its source in the place of another one; none if it is the same."""
+    old, new = (member_of(*it) if it[1] else None for it in (before, after))
+    return [set_request(owner, TERM_SOURCE, tag, old=old, new=new)] if old != new else []
 
 
 @pages.post("/c/<int:number>/terms/prefer")

@@ -42,6 +42,7 @@ CURES = {
     "unmapped": ("concept.show", "?open=add-match#at-add-match", "editor"),
     "busiest": ("split.split", "", "split"),
     "dead_ends": ("concept.show", "#history", "reader"),
+    "lost_sources": ("concept.show", "#terms", "editor"),
 }
 # What the sentence about a list names.
 BOUNDS = {"deep": MOST_LEVELS, "wide": MOST_NARROWER}

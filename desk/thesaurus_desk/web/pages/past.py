@@ -22,6 +22,7 @@ from thesaurus_desk.web.pages.releases import counts_of, row_of, table_rows
 from thesaurus_desk.web.pages.search import number_of
 from thesaurus_desk.web.pages.tree import MOST_TOPS, branches
 from thesaurus_desk.web.spreadsheets import is_table_asked, sheet_of_rows
+from thesaurus_tools.fields import TERM_SOURCE
 from thesaurus_tools.release_changes import KINDS, Change, changes_of, gather
 
 pages = Blueprint("past", __name__)
@@ -93,6 +94,7 @@ def resource_page(
         view=view,
         terms=terms_by_tag(view) if view else (),
         links=links_of(view) if view else (),
+        term_sources={(it.tag, it.text): it.source for it in values.get(TERM_SOURCE, ())},
         values={name: its for name, its in values.items() if name in fields},
         changes=changes,
         unknown=tell_plans(unknown or (), number),

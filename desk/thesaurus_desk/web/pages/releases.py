@@ -29,7 +29,15 @@ from thesaurus_tools.fields import LONGEST, tidy
 from thesaurus_tools.kinds import LABEL_PROPERTIES, LINK_PROPERTIES
 from thesaurus_tools.ntriples import SKOS, Literal, Node, parse_ntriples
 from thesaurus_tools.rdf_writer import WRITERS
-from thesaurus_tools.release_changes import KINDS, Change, changes_of, gather, properties_of_subjects
+from thesaurus_tools.release_changes import (
+    KINDS,
+    Change,
+    changes_of,
+    gather,
+    has_types,
+    properties_of_subjects,
+    without_types,
+)
 
 pages = Blueprint("releases", __name__)
 
@@ -171,10 +179,10 @@ def present_changes(last: Release) -> list[Change]:
     desk, source = the_desk(), the_source()
     replica = source.replica()
     numbers = [it for it in desk.releases.changed_since(last) if replica.kind(it) != "outside"]
-    before = properties_of_subjects(
-        desk.releases.text(last).decode().split("\n")[:-1], {replica.iri(it) for it in numbers}
-    )
-    pairs = ((replica.iri(it), gather(source.triples(it))) for it in numbers)
+    lines = desk.releases.text(last).decode().split("\n")[:-1]
+    before = properties_of_subjects(lines, {replica.iri(it) for it in numbers})
+    now = [(replica.iri(it), gather(source.triples(it))) for it in numbers]
+    pairs = now if has_types(lines) else [(iri, without_types(its)) for iri, its in now]
     return [change for iri, now in pairs for change in changes_of(iri, before.get(iri, {}), now)]
 
 

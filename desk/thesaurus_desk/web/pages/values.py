@@ -21,6 +21,12 @@ from thesaurus_tools.fields import DATES, OFFERED, WITH_PAGES, Field, text_field
 pages = Blueprint("values", __name__)
 
 PAGE = 500
+# The concepts in use that have a value of a field, and those that have none.
+WITH, WITHOUT = (
+    "SELECT num FROM resource WHERE kind = 2 AND live = 1"
+    f" AND {test} (SELECT 1 FROM value WHERE owner = num AND field = ?) ORDER BY num"
+    for test in ("EXISTS", "NOT EXISTS")
+)
 
 
 @pages.post("/c/<int:number>/values")
@@ -70,9 +76,7 @@ def field_list(name: str) -> Any:
     if field is None or "concept" not in field.owners:
         abort(404)
     is_without = request.args.get("have") != "yes"
-    owners = the_desk().values.owners(name)
-    found = [it for it in replica.numbers("concept", None, True) if (it in owners) != is_without]
-    numbers = replica.ordered(found, tags())
+    numbers = replica.ordered(replica.numbers_of(WITHOUT if is_without else WITH, name), tags())
     if (other := in_other_form(name, lambda: numbers)) is not None:
         return other
     page = page_number()

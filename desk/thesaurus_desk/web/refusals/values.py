@@ -32,7 +32,7 @@ def explain_candidate(case: Case) -> Markup:
 
 
 PLACE_NAMES = ("BadSuperordinate", "BadWithin", "BadOrder", "NestedRing")
-OF_VALUES = ("UnknownField", "NoSuchValue", "Retired", "BadValue", "ValueThere", "OnlyOne", "ValueTaken")
+OF_VALUES = ("UnknownField", "NoSuchValue", "Retired", "BadValue", "ValueThere", "OnlyOne", "ValueTaken", "UnknownTerm")
 NAMES = (*OF_VALUES, "BelowCandidate")
 EXPLAIN: dict[str, Callable[[Case], Markup]] = {
     **dict.fromkeys(OF_VALUES, explain_value),
