@@ -41,8 +41,9 @@ import os, runpy, signal, sys
 tool, last = sys.argv[1], int(sys.argv[2])
 sys.argv = sys.argv[1:2] + sys.argv[3:]
 sys.path.insert(0, os.path.dirname(tool))
-from thesaurus_tools import backups, holding
-own = tool, backups.__file__, holding.__file__
+from thesaurus_tools import backups, program_hold
+from thesaurus_tools.commands import backup
+own = backup.__file__, backups.__file__, program_hold.__file__
 executed = set()
 def step(frame, event, _):
     if frame.f_code.co_filename not in own:
@@ -64,9 +65,9 @@ BLIND = """
 import os, runpy, sys
 del sys.argv[0]
 sys.path.insert(0, os.path.dirname(sys.argv[0]))
-from thesaurus_tools import holding
-holding.files_of = lambda process: {}
-holding.SECONDS_TO_ANSWER = 5
+from thesaurus_tools import program_hold
+program_hold.files_of = lambda process: {}
+program_hold.SECONDS_TO_ANSWER = 5
 runpy.run_path(sys.argv[0], run_name="__main__")
 """
 
