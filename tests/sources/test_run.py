@@ -1,5 +1,5 @@
 """tests/run: names of files become paths, in each folder that has one, and the expressions of -k and -m stay as they
-are, however long."""
+are, however long; a name that no file has is said."""
 from __future__ import annotations
 
 import subprocess
@@ -33,3 +33,10 @@ def test_an_expression_is_no_name(expression: str) -> None:
 
 def test_a_name_in_two_folders() -> None:
     assert collected("journal") == {"tests/desk/test_journal.py", "tests/office/test_journal.py"}
+
+
+def test_a_name_that_no_file_has() -> None:
+    call = [str(ROOT / "tests" / "run"), "-n", "0", "--collect-only", "helps", "exitz"]
+    ran = subprocess.run(call, capture_output=True, text=True, timeout=120, check=False)
+    assert (ran.returncode, ran.stdout) == (2, "")
+    assert ran.stderr == "tests/run: no file of tests is called exitz\n"
