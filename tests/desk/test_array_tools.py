@@ -25,11 +25,14 @@ from whole import resources
 
 BASE = "https://thesaurus.example/id/"
 ABOUT_PLACES = (ISO_THES, "memberList", "OrderedCollection", "rdf-syntax-ns#first", "rdf-syntax-ns#rest")
+# (words of ISO-THES, too: the types of links between concepts)
+ABOUT_TYPES = (f"{ISO_THES}broader", f"{ISO_THES}narrower")
 
 
 def of_places(triples: list[Triple]) -> set[Triple]:
     """The triples that say where collections are, and their orders."""
-    return {it for it in triples if any(name in f"{it.predicate} {it.object}" for name in ABOUT_PLACES)}
+    found = (it for it in triples if any(name in f"{it.predicate} {it.object}" for name in ABOUT_PLACES))
+    return {it for it in found if not it.predicate.startswith(ABOUT_TYPES)}
 
 
 def run(tool: str, *words: str | Path) -> str:
