@@ -216,7 +216,7 @@ def test_one_process_does_all(program: str, store: Path, users: Path) -> None:
     with running("--db", store, "--users", users, "--program", program, "--workers", "0") as desk:
         assert children(desk.process.pid) == [] and come_in(desk).get("/c/5")[0] == 200
     ran = run_desk("--db", store, "--alone", "anna", "--workers", "2")
-    assert ran.returncode == 2 and "--alone is served by one process" in ran.stderr
+    assert ran.returncode == 2 and "--alone and --sample are served by one process" in ran.stderr
 
 
 # The addresses, but for changes, that a process that makes pages passes on. ARCHITECTURE names them.
