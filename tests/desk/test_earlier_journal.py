@@ -314,7 +314,7 @@ def test_a_page_shows_what_was_in_its_time(
 def test_steps_that_do_not_say_what_was(
     earlier: Path, program: str, users: Path, open_desk: Callable[[Path], Desk]
 ) -> None:
-    """A plan of which a step has noted nothing is named, with its time, and what it changed is shown as it was after."""
+    """A plan of which a step has noted nothing is named, with its time, and what it changed is shown as after it."""
     on_days(earlier, MERGED - 1, ENDED - 1)
     perform(program, earlier, CUT)
     with closing(sqlite3.connect(journal_of(earlier), isolation_level=None)) as tables:
