@@ -14,14 +14,16 @@ import sys
 from collections import Counter
 from collections.abc import Callable, Iterable
 from contextlib import closing
+from dataclasses import replace
 from pathlib import Path
 from typing import Any
 
 import pytest
 from asking import assert_as_store
-from clients import site_of, text_of
+from clients import Site, site_of, text_of
 from thesaurus_desk.journal import journal_of
 from thesaurus_desk.journal.consistency import check
+from thesaurus_desk.journal.past_replica import after_plan
 from thesaurus_desk.journal.recovery import BY_OTHERS
 from thesaurus_desk.journal.schema import APPLICATION, VERSION
 from thesaurus_desk.store.plan_execution import Desk
@@ -229,3 +231,98 @@ def test_its_changes_are_taken_back(
     )
     assert vocabulary_of(earlier) - left == vocabulary_of(instruments_store)
     assert left <= vocabulary_of(earlier)
+
+
+# --- what was, in its time ---
+
+# Plans that made a concept, merged one, and ended one; and resources.
+NEW_CONCEPT, MERGED, ENDED = 8, 25, 27
+THEORBOS, GUITARS, HARPS, TRUMPETS = 41, 10, 11, 21
+
+
+def vocabulary_after(desk: Desk, plan: int) -> dict[int, Any]:
+    """Returns what each resource said after a plan, but for records."""
+    with after_plan(desk.replica, plan) as past, past.reading():
+        views = (past.view(it) for it in range(1, desk.replica.counts()["resources"] + 1))
+        return {it.number: replace(it, postings=0) for it in views if it is not None}
+
+
+def test_what_was_before_it_began(
+    earlier: Path, program: str, instruments_store: Path, open_desk: Callable[[Path], Desk], tmp_path: Path
+) -> None:
+    """All that its plans have changed is taken back: what the store held when the journal began."""
+    perform(program, earlier, CUT)
+    desk = open_desk(earlier)
+    before = tmp_path / "before" / "museum.db"
+    before.parent.mkdir()
+    before.write_bytes(instruments_store.read_bytes())
+    assert vocabulary_after(desk, 0) == vocabulary_after(open_desk(before), 0)
+    assert_as_store(desk)
+
+
+def test_what_was_after_each_of_its_plans(earlier: Path, program: str, open_desk: Callable[[Path], Desk]) -> None:
+    """What each plan changed, and nothing else, differs from what was before it."""
+    perform(program, earlier, CUT)
+    desk = open_desk(earlier)
+    last = vocabulary_after(desk, 0)
+    for number in range(1, LAST + 1):
+        now, plan = vocabulary_after(desk, number), desk.journal.plan(number)
+        assert plan is not None
+        differing = {it for it in now if now[it] != last.get(it)}
+        concerned = set[int]().union(*(it.numbers for it in plan.steps if it.state == "done"))
+        assert differing <= concerned, number
+        changes = desk.journal.all("SELECT number FROM concern WHERE plan = ? AND changes = 1", number)
+        assert {it["number"] for it in changes} <= differing, number
+        last = now
+
+
+def on_days(earlier: Path, *plans: int) -> None:
+    """Has plans up to each of some be of one day, the first of them 1 March 2026."""
+    with closing(sqlite3.connect(journal_of(earlier), isolation_level=None)) as tables:
+        for day, (first, last) in enumerate(zip((0, *plans), (*plans, LAST)), 1):
+            tables.execute(
+                f"UPDATE plan SET at = '2026-03-0{day}' || substr(at, 11) WHERE id > ? AND id <= ?", (first, last)
+            )
+
+
+def page_text(site: Site, path: str) -> str:
+    return " ".join(text_of(site.client("anna").get(path)).split())
+
+
+def test_a_page_shows_what_was_in_its_time(
+    earlier: Path, program: str, users: Path, open_desk: Callable[[Path], Desk]
+) -> None:
+    on_days(earlier, NEW_CONCEPT - 1, NEW_CONCEPT, MERGED - 1, ENDED - 1)
+    perform(program, earlier, CUT)
+    site = site_of(open_desk(earlier), users)
+    assert "It wasn’t there yet." in page_text(site, f"/c/{THEORBOS}/past?day=2026-03-01")
+    text = page_text(site, f"/c/{THEORBOS}/past?day=2026-03-02")
+    assert "Chitarrones" in text and "Lutes with two pegboxes." in text and "isn’t known" not in text
+    for day, is_merged in (("2026-03-03", False), ("2026-03-04", True)):
+        page = site.client("anna").get(f"/c/{HARPS}/past?day={day}").text
+        assert (f'href="/c/{GUITARS}/past?' in page) is not is_merged, "they were related"
+        assert ("Gitarren" in page) is is_merged, "a term of the one that was merged"
+    assert "merged" not in page_text(site, f"/c/{GUITARS}/past?day=2026-03-03")
+    assert "merged" in page_text(site, f"/c/{GUITARS}/past?day=2026-03-04")
+    for day, is_there in (("2026-03-04", True), ("2026-03-05", False)):
+        tree = site.client("anna").get(f"/tree/past?day={day}&at=20").text
+        assert (f'href="/c/{TRUMPETS}/past?day={day}"' in tree) is is_there and "isn’t known" not in tree
+    table = site.client("anna").get("/tree/past?day=2026-03-03&until=2026-03-04&format=csv").text
+    assert ("merged", str(GUITARS)) in {tuple(it[:2]) for it in csv.reader(io.StringIO(table.removeprefix("\ufeff")))}
+
+
+def test_steps_that_do_not_say_what_was(
+    earlier: Path, program: str, users: Path, open_desk: Callable[[Path], Desk]
+) -> None:
+    """A plan of which a step has noted nothing is named, with its time, and what it changed is shown as after it."""
+    on_days(earlier, MERGED - 1, ENDED - 1)
+    perform(program, earlier, CUT)
+    with closing(sqlite3.connect(journal_of(earlier), isolation_level=None)) as tables:
+        tables.execute("UPDATE step SET kept = NULL WHERE plan = ?", (MERGED,))
+    site = site_of(open_desk(earlier), users)
+    for path in (f"/c/{GUITARS}/past", "/tree/past"):
+        text = page_text(site, f"{path}?day=2026-03-01")
+        assert "isn’t known" in text and "It is known from 2026-03-02" in text, path
+        assert "isn’t known" not in page_text(site, f"{path}?day=2026-03-02")
+    assert "merged" in page_text(site, f"/c/{GUITARS}/past?day=2026-03-01")
+    assert "isn’t known" not in page_text(site, f"/c/{THEORBOS}/past?day=2026-03-01")

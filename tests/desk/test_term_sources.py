@@ -102,6 +102,19 @@ def test_a_merge_and_a_split_take_sources_along(desk: Desk) -> None:
     assert_sound(desk)
 
 
+def test_the_page_of_a_merge_says_which_sources_go_along(desk: Desk, site: Site) -> None:
+    """Those of terms that the target has without a source, too, and no others."""
+    done(desk, *(label("addLabel", it, "alt", text) for it in (FIDDLES, VIOLINS) for text in ("Kits", "Rebecs")))
+    done(desk, *(set_source(FIDDLES, it, f"New Grove, {it}") for it in ("Fiddles", "Kits", "Rebecs")))
+    done(desk, set_source(VIOLINS, "Rebecs", "MIMO 2011"))
+    text = text_of(site.client("anna").get(f"/c/{FIDDLES}/merge?other_number={VIOLINS}"))
+    for term, goes in (("Fiddles", True), ("Kits", True), ("Rebecs", False)):
+        assert (f"Its source goes along: New Grove, {term}" in text) is goes, term
+    done(desk, {"do": "merge", "source": FIDDLES, "target": VIOLINS})
+    held = {it: f"New Grove, {it}" for it in ("Fiddles", "Kits")} | {"Rebecs": "MIMO 2011"}
+    assert sources(desk, VIOLINS) == held
+
+
 def test_a_split_off_concept_has_the_source_of_its_term(desk: Desk) -> None:
     done(desk, label("addLabel", VIOLINS, "alt", "Kit violins"), set_source(VIOLINS, "Kit violins", "Baines"))
     done(desk, {"do": "split", "source": VIOLINS, "tag": "en", "text": "Kit violins", "postings": []})

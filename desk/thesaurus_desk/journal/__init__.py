@@ -11,6 +11,7 @@
   record_texts    what the catalogue says of records: titles, texts, links
   recovery        plans whose answer never came, and changes made by other means
   old_journals    what journals of earlier desks have in place of the changes of rows
+  earlier_steps   what steps of earlier desks say of what they have changed
   rights          who may do what, as the head settles it
   watches         what people watch, and what has happened to it
   visitor_proposals  what visitors propose

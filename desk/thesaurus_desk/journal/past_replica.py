@@ -8,8 +8,11 @@ import json
 import sqlite3
 from collections.abc import Iterable, Iterator, Sequence
 from functools import cached_property
+from itertools import groupby
 from typing import TYPE_CHECKING, Any
 
+from thesaurus_desk.journal.earlier_steps import are_determined, changes_of_step
+from thesaurus_desk.journal.entries import step_of
 from thesaurus_desk.journal.values import Values, inverse_of, source_of, text_of
 from thesaurus_desk.store.changes import Change
 from thesaurus_desk.store.read_transactions import ReadTransaction, connect
@@ -71,14 +74,24 @@ LATER_VALUES = (
     "SELECT request FROM step WHERE plan > ? AND state = 'done' AND json_extract(request, '$.do') = 'set'"
     " ORDER BY plan DESC, place DESC"
 )
-# The plans after one of which the journal doesn't know what was before them: of other programs, and of earlier desks.
-UNKNOWN = """
+# The requests that change no terms and links.
+OTHERS = ("set", "post", "withdraw", "import")
+# The steps after a plan that change terms or links, and of which the journal has no changes of rows: those of earlier
+# desks, the last plan first.
+EARLIER = f"""
+SELECT step.* FROM plan JOIN step ON step.plan = plan.id
+WHERE plan.id > ? AND plan.state = 'done' AND step.state = 'done'
+AND NOT EXISTS (SELECT 1 FROM change WHERE change.plan = plan.id)
+AND json_extract(request, '$.do') NOT IN {OTHERS} ORDER BY step.plan DESC, place
+"""
+# The plans after one that have changed terms or links, and of which the journal has no changes of rows: of other
+# programs, and of earlier desks.
+WITHOUT_ROWS = f"""
 SELECT * FROM plan WHERE id > ?1 AND state IN ('done', 'unknown')
 AND id IN (SELECT plan FROM concern WHERE changes = 1 AND (?2 IS NULL OR number = ?2))
 AND NOT EXISTS (SELECT 1 FROM change WHERE change.plan = plan.id)
 AND (user = '' OR EXISTS (
-  SELECT 1 FROM step WHERE step.plan = plan.id
-  AND json_extract(request, '$.do') NOT IN ('set', 'post', 'withdraw', 'import'))) ORDER BY id
+  SELECT 1 FROM step WHERE step.plan = plan.id AND json_extract(request, '$.do') NOT IN {OTHERS})) ORDER BY id
 """
 
 
@@ -173,6 +186,7 @@ def after_plan(replica: Replica, plan: int) -> Iterator[PastReplica]:
         for (text,) in past.rows.execute(LATER_ROWS, (plan,)):
             changes: list[Change] = json.loads(text)
             take_back_rows(past.rows, [it for it in reversed(changes) if not is_of_record(it)])
+        take_back_earlier(past, plan)
         requests = past.rows.execute(LATER_VALUES, (plan,)).fetchall()
         take_back_values(past.rows, (json.loads(it) for it, in requests))
         yield past
@@ -180,7 +194,21 @@ def after_plan(replica: Replica, plan: int) -> Iterator[PastReplica]:
 
 def unknown_after(journal: Journal, plan: int, number: int | None = None) -> list[Plan]:
     """Returns the plans after one of which it isn't known what was before them: of a resource, or of all."""
-    return journal.plans(UNKNOWN, plan, number)
+    return [it for it in journal.plans(WITHOUT_ROWS, plan, number) if not is_known(it)]
+
+
+def is_known(plan: Plan) -> bool:
+    """Whether the steps of a plan without changes of rows say what was before it."""
+    changing = [it for it in plan.steps if it.state == "done" and it.request["do"] not in OTHERS]
+    return plan.state == "done" and bool(changing) and are_determined(changing)
+
+
+def take_back_earlier(past: PastReplica, plan: int) -> None:
+    """Takes back what plans of earlier desks after one have changed, as far as their steps say that."""
+    for _, rows in groupby(JournalSnapshot(past).all(EARLIER, plan), lambda it: it["plan"]):
+        steps = [step_of(it) for it in rows]
+        for step in reversed(steps) if are_determined(steps) else ():
+            take_back_rows(past.rows, reversed(changes_of_step(past, step)))
 
 
 def is_of_record(change: Change) -> bool:

@@ -24,6 +24,7 @@ from thesaurus_desk.web.paths import concept_path
 from thesaurus_desk.web.refusals import explain, label_of
 from thesaurus_desk.web.value_copies import copies_to, copy_requests
 from thesaurus_desk.web.work_views import work_of
+from thesaurus_tools.fields import TERM_SOURCE
 
 pages = Blueprint("merge", __name__)
 
@@ -122,23 +123,31 @@ class Terms:
     """What becomes of the source's terms in a language."""
 
     tag: str
-    # The labels, each with the key of what is said of it.
-    rows: list[tuple[str, str]]
+    # The labels, each with the key of what is said of it, and with its source if the target gets that.
+    rows: list[tuple[str, str, str]]
     # Whether the source has a preferred term in it, and the target has none.
     lacks_preferred: bool
 
 
 def terms_by_language(source: View, target: View, plan: MergePreview) -> list[Terms]:
     """Returns what becomes of the source's terms, by their languages, the reader's first."""
-    rows: dict[str, list[tuple[str, str]]] = {}
-    for kind, tag, text in plan.labels:
-        rows.setdefault(tag, []).append((f"becomes_{kind}", text))
-    for _, tag, text in plan.dropped_labels:
-        rows.setdefault(tag, []).append(("label_there", text))
+    rows: dict[str, list[tuple[str, str, str]]] = {}
+    sources = sources_along(source.number, target.number)
+    becoming = [(f"becomes_{kind}", tag, text) for kind, tag, text in plan.labels]
+    for what, tag, text in (*becoming, *(("label_there", tag, text) for _, tag, text in plan.dropped_labels)):
+        rows.setdefault(tag, []).append((what, text, sources.get((tag, text), "")))
     lacking = {tag for tag, _ in source.pref} - {tag for tag, _ in target.pref}
     places = {tag: place for place, tag in enumerate(tags())}
     order = sorted(rows, key=lambda it: (places.get(it, len(places)), it))
     return [Terms(tag, rows[tag], tag in lacking) for tag in order]
+
+
+def sources_along(source: int, target: int) -> dict[tuple[str, str], str]:
+    """Returns the sources of the source's terms, by languages and texts, that go with them: those of terms that have
+    none at the target."""
+    own, there = (the_desk().values.held(it, TERM_SOURCE) for it in (source, target))
+    known = {(it.tag, it.text) for it in there}
+    return {(it.tag, it.text): it.source for it in own if (it.tag, it.text) not in known}
 
 
 def told_candidates(source: View, target: View) -> list[str]:
