@@ -45,6 +45,11 @@ def done(client: Client, page: Any) -> Any:
     ("path", "names"),
     [
         ("/search?q=violins&all=1&format=ticks", {"Violins"}),
+        ("/search?q=iolin&all=1&format=ticks", {"Violins"}),
+        ("/search?q=plucked-lexically&all=1&format=ticks", {"Lutes"}),
+        ("/search?q=sh85059101&all=1&format=ticks", {"Drums"}),
+        ("/tree?scheme=1&format=ticks", {*BOWED, "Drums"}),
+        ("/changed-since?since=2000-01-01&format=ticks", {"Harps"}),
         ("/az?letter=v&format=ticks", {"Violins", "Violas"}),
         ("/lists/unused?scheme=1&format=ticks", {"Harps", "Drums"}),
         ("/lists/field/definition?format=ticks", {"Violins", "Harps", "Drums"}),
@@ -61,7 +66,10 @@ def test_each_list_has_ticks(site: Site, anna: Client, path: str, names: set[str
         "old": None,
         "new": "candidate",
     }
-    assert site.desk.perform("anna", "work", [status]).is_done
+    note = {**status, "owner": number(site, "Lutes"), "field": "generalNote", "tag": "en", "new": "plucked-lexically"}
+    outside = {"do": "outside", "iri": "http://id.loc.gov/authorities/subjects/sh85059101"}
+    mapping = {"do": "link", "kind": "exact", "a": number(site, "Drums"), "b": "$3"}
+    assert site.desk.perform("anna", "work", [status, note, outside, mapping]).is_done
     page = anna.get(path)
     assert page.status_code == 200
     found = set(re.findall(r'name="concept" value="[0-9]+"> <span dir="auto">([^<]+)</span>', page.text))

@@ -35,6 +35,7 @@ def test_a_concept_elsewhere_has_its_name_in_the_readers_language(reader: Reader
     assert f"exact match Harp {HARP}" in page.text and f'href="{HARP}"' in page.html
     assert "Harp" in reader.get(f"/c/{number}").text
     assert "Harp" in reader.get("/changes").text, "also where a plan is told"
+    assert f"Harps exact match Harp {HARP}" in reader.get(f"/search?q={HARP}&all=1").text
     reader.get("/language?terms=de&next=/")
     assert f"exact match Harfe {HARP}" in reader.get(f"/c/{HARPS}").text
 

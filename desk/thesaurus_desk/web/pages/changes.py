@@ -17,9 +17,10 @@ from thesaurus_desk.journal.undo import Remark, TakeBack
 from thesaurus_desk.web.context import go, own_path, page_number, person, say, the_desk, the_replica, the_rights, words
 from thesaurus_desk.web.forms import FormState, Problem
 from thesaurus_desk.web.journal_text import LINKS, tell_outcome, tell_plan, tell_plans
+from thesaurus_desk.web.list_forms import in_other_form
 from thesaurus_desk.web.paths import concept_path, path_to
 from thesaurus_desk.web.request_text import sentence_of
-from thesaurus_desk.web.spreadsheets import is_table_asked, sheet, sheet_of_rows
+from thesaurus_desk.web.spreadsheets import sheet_of_rows
 
 pages = Blueprint("changes", __name__)
 PAGE = 50
@@ -132,8 +133,8 @@ def changed_since() -> Any:
     span = span_of(since.strip())
     found = the_desk().history.changed_since(span[0]) if span else []
     known = [it for it, _ in found if the_replica().kind(it)]
-    if is_table_asked():
-        return sheet("changed", known)
+    if (other := in_other_form("changed", lambda: known)) is not None:
+        return other
     page, begin = page_number(), span[0] if span else ""
     shown = known[page * CHANGED_PAGE :][:CHANGED_PAGE]
     # (with one plan more of each than the page shows)

@@ -11,7 +11,17 @@ from flask import Blueprint, jsonify, redirect, render_template, request
 
 from thesaurus_desk.auth.route_roles import public
 from thesaurus_desk.store.model import OPPOSITE, Hit
-from thesaurus_desk.web.context import page_number, person, record_title, say, status_words, tags, term, the_replica
+from thesaurus_desk.web.context import (
+    link_elsewhere,
+    page_number,
+    person,
+    record_title,
+    say,
+    status_words,
+    tags,
+    term,
+    the_replica,
+)
 from thesaurus_desk.web.list_forms import in_other_form
 from thesaurus_desk.web.paths import concept_path, path_to
 from thesaurus_desk.web.record_views import concepts_of, records_found
@@ -141,7 +151,7 @@ def search() -> Any:
         prefer=tags()[0],
         most=MOST_FOUND,
     )
-    if (other := in_other_form("search", lambda: [it.number for it in hits])) is not None:
+    if (other := in_other_form("search", lambda: resources_found(query, hits))) is not None:
         return other
     records = records_found(query, MOST_RECORDS) if person().name and len(query) > 1 else []
     whole = [it for it in hits if is_named(it, query)]
@@ -175,6 +185,7 @@ def search() -> Any:
         within=within,
         chosen=lang,
         is_full=len(hits) >= MOST_FOUND,
+        link_elsewhere=link_elsewhere,
         path=f"{path_to('search.search')}?q={quote(query)}&all=1",
     )
 
@@ -188,12 +199,21 @@ def found_within(query: str, hits: list[Hit]) -> list[Hit]:
     return [it for it in the_replica().containing(query, MOST_WITHIN) if it.number not in known]
 
 
+def resources_found(query: str, hits: list[Hit]) -> list[int]:
+    """Returns all resources that the page of a search names, in its order."""
+    found = [it.number for it in (*hits, *found_within(query, hits))]
+    found += [it.concept for it in matches_of(query)]
+    return [*dict.fromkeys([*found, *(it.owner for it in found_values(query))])]
+
+
 @dataclass(frozen=True)
 class Match:
-    """A concept with a match whose address was found: the kind of the match, and whether it is the whole address."""
+    """A concept with a match whose address was found: the kind of the match, the number and the address of what it is
+    matched with, and whether that is the whole address."""
 
     concept: int
     kind: str
+    number: int
     address: str
     is_whole: bool
 
@@ -208,7 +228,7 @@ def matches_of(query: str) -> list[Match]:
             continue
         for kind, concept in view.mappings:
             if replica.is_live(concept):
-                found.append(Match(concept, OPPOSITE.get(kind, kind), view.iri, view.iri == address))
+                found.append(Match(concept, OPPOSITE.get(kind, kind), number, view.iri, view.iri == address))
     return found[:MOST_FOUND]
 
 

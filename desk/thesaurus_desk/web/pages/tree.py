@@ -10,6 +10,7 @@ from flask import Blueprint, abort, render_template
 from thesaurus_desk.auth.route_roles import public
 from thesaurus_desk.store.arrays import numbers_below, parts_of
 from thesaurus_desk.web.context import say, tags, the_replica, the_places
+from thesaurus_desk.web.list_forms import in_other_form
 from thesaurus_desk.web.pages.search import number_of
 from thesaurus_desk.web.spreadsheets import is_table_asked, sheet
 
@@ -101,8 +102,8 @@ def tree() -> Any:
     path = replica.path_up(at, tags()) if at and is_there else []
     # (what has ended is nowhere in the tree)
     path = tops if len(tops) == 1 and path[:1] != tops else path
-    if is_table_asked():
-        return sheet("tree", whole_tree(tops))
+    if (other := in_other_form("tree", lambda: whole_tree(tops))) is not None:
+        return other
     shown = tops[:MOST_TOPS]
     return render_template(
         "tree.html",
