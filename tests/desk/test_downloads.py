@@ -23,7 +23,8 @@ from thesaurus_desk.store.export_replica import read_export
 from thesaurus_desk.store.release_export import make_release
 from thesaurus_desk.web.pages import downloads
 from thesaurus_tools.fields import Field
-from thesaurus_tools.file_forms import PDF, Choice, Part, page_text
+from thesaurus_tools import marc
+from thesaurus_tools.file_forms import PDF, Choice, Part, outcome_of, page_text
 from thesaurus_tools.mads import MADS, skos_of_mads
 from thesaurus_tools.ntriples import Iri, Triple, parse_ntriples
 from thesaurus_tools.rdf_writer import ISO_THES
@@ -233,6 +234,21 @@ def test_marc_in_both_forms(defined: Site, tmp_path: Path) -> None:
     assert fields(xml) == fields(again) and len(fields(xml)) > 5
     violins = next(it for it in fields(xml) if ("001", None, None, str(VIOLINS)) in it or it[0][2] == str(VIOLINS))
     assert ("677", " ", "", ("a", "=A bowed instrument")) in violins
+
+
+@pytest.mark.parametrize("form", ["marc", "marcxml"])
+def test_a_concept_whose_record_is_too_long_is_named(
+    site: Site, patient: None, monkeypatch: pytest.MonkeyPatch, form: str
+) -> None:
+    """No file is without the record, as if there were none."""
+    monkeypatch.setattr(marc, "LONGEST_RECORD", 1000)
+    # (in this process)
+    monkeypatch.setattr(saved_files, "run_form", lambda wish, folder: outcome_of(wish.form, folder, wish.choice))
+    done(site.desk, *(label("addLabel", VIOLINS, "alt", f"Violins of the kind {it}") for it in range(30)))
+    answer = site.client("rita").get(f"/save/file?form={form}&lang=en")
+    assert answer.status_code == 409 and "99,999 bytes" in text_of(answer)
+    assert f'href="/c/{VIOLINS}"' in answer.text and f"({VIOLINS})" in text_of(answer)
+    assert site.client("rita").get("/save/file?form=zthes&lang=en").status_code == 200
 
 
 @pytest.mark.needs("weasyprint")

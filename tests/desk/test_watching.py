@@ -133,6 +133,13 @@ def test_the_public_feed(desk: Desk, users: Path, site: Site) -> None:
     assert "ben" not in answer.text and "Secret" not in answer.text and f"/c/{VIOLINS}" in answer.text
 
 
+def test_a_feed_is_xml_whatever_terms_have(desk: Desk, users: Path, site: Site) -> None:
+    """And says what it leaves out."""
+    done(desk, {"do": "relabel", "owner": VIOLINS, "tag": "en", "text": "Violins\ufffe", "keep": False})
+    text = site_of(desk, users, is_public=True).client().get("/feed.xml").text
+    assert entries(text) == ["Violins"] and "XML doesn't have are left out: 1 U+FFFE -->" in text
+
+
 def test_the_feed_of_a_watch_has_a_secret_address(site: Site, desk: Desk, rita: Client) -> None:
     watch(rita, "concept", VIOLINS)
     rename(desk, VIOLINS, "After <b>")

@@ -248,7 +248,12 @@ def test_a_language_that_no_term_has(store: Path) -> None:
 
 
 ODD = "Odd\ufffe\uffff\ufdd0 \U0001fffe<&> name"
-XML_FORMS = (("to-marc", "--lang", "en"), ("to-rdf", "--format", "rdfxml", "--program", built()))
+XML_FORMS: tuple[tuple[str | Path, ...], ...] = (
+    ("to-marc", "--lang", "en"),
+    ("to-rdf", "--format", "rdfxml", "--program", built()),
+    ("to-zthes",),
+    ("to-iso25964",),
+)
 
 
 @pytest.fixture(scope="module")
@@ -262,19 +267,21 @@ def odd(store: Path, tmp_path_factory: pytest.TempPathFactory) -> Path:
 
 
 def test_what_xml_doesnt_have_is_left_out_and_told(odd: Path) -> None:
-    """Both forms of XML are read by a parser; Turtle has all characters."""
-    said = b"characters that XML doesn't have are left out: 1 U+1FFFE, 1 U+FDD0, 1 U+FFFE, 1 U+FFFF"
+    """By the tool, and at the end of each form of XML, which is read by a parser; Turtle has all characters."""
+    # (Zthes names a term again where it refers to it)
+    said = rb"characters that XML doesn't have are left out: \d U\+1FFFE, \d U\+FDD0, \d U\+FFFE, \d U\+FFFF"
     for form in XML_FORMS:
         ended = tool(form[0], "--db", odd, *form[1:])
-        assert ended.status == 0 and said in ended.err
+        assert ended.status == 0 and re.search(said, ended.err), ended.err
+        assert re.search(said + rb" -->\n\Z", ended.out), ended.out[-200:]
         assert "Odd <&> name" in "".join(ElementTree.fromstring(ended.out).itertext())
     turtle = tool("to-rdf", "--db", odd, "--program", built())
     assert ODD in turtle.out.decode() and not turtle.err
 
 
 @pytest.mark.needs("xmllint")
-@pytest.mark.parametrize("form", XML_FORMS, ids=["MARCXML", "RDF/XML"])
-def test_xmllint_takes_each_form_of_xml(odd: Path, form: tuple[str, ...]) -> None:
+@pytest.mark.parametrize("form", XML_FORMS, ids=["MARCXML", "RDF/XML", "Zthes", "ISO 25964"])
+def test_xmllint_takes_each_form_of_xml(odd: Path, form: tuple[str | Path, ...]) -> None:
     document = tool(form[0], "--db", odd, *form[1:]).out
     ran = subprocess.run(["xmllint", "--nonet", "--noout", "-"], input=document, capture_output=True, check=False)
     assert ran.returncode == 0 and not ran.stderr, ran.stderr

@@ -116,11 +116,22 @@ def as_rdf(syntax: str, part: Part, words: str = "") -> bytes:
     return "".join(WRITERS[syntax](triples, part.base)).encode()
 
 
-def marc_records(part: Part) -> Iterable[Record]:
-    """Returns the records of MARC 21, each in the first language that its concept has."""
+class LongRecordError(Exception):
+    """That MARC 21 can't hold the records of some concepts."""
+
+    def __init__(self, numbers: Iterable[int]) -> None:
+        super().__init__("records that are too long")
+        self.numbers = [*numbers]
+
+
+def marc_records(part: Part) -> list[Record]:
+    """Returns the records of MARC 21, each in the first language that its concept has. Raises LongRecordError."""
     moment = datetime.now(timezone.utc)
     writer = AuthorityWriter(part.store, [part.choice.lang, *part.languages()], "local", "", moment)
-    return writer.records(part.concepts(with_ended=True))
+    found = [*writer.records(part.concepts(with_ended=True))]
+    if writer.faults:
+        raise LongRecordError(writer.faults)
+    return found
 
 
 def as_marcxml(part: Part) -> bytes:
@@ -269,6 +280,8 @@ def outcome_of(form: str, folder: Path, choice: Choice) -> dict[str, object]:
         return {}
     except PackageError as error:
         return {"needs": error.package}
+    except LongRecordError as error:
+        return {"too_long": error.numbers}
     except ToolError as error:
         return {"said": str(error)}
 

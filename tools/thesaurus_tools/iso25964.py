@@ -6,6 +6,7 @@ role says what that is to the other: BT, BTG (generic), BTP (partitive) or BTI (
 mappings, for notes of arrays and groups, and for what is no longer in use: they aren't written."""
 from __future__ import annotations
 
+from collections import Counter
 from collections.abc import Iterable, Sequence
 from xml.etree import ElementTree
 from xml.etree.ElementTree import Element
@@ -18,7 +19,8 @@ from thesaurus_tools.skos_xl import label_iri
 from thesaurus_tools.store import Link, Resource, Store
 from thesaurus_tools.term_dates import Dates, TermDates
 from thesaurus_tools.values import FieldValue
-from thesaurus_tools.zthes import XML_LANG, plain
+from thesaurus_tools.xml_texts import document_of
+from thesaurus_tools.zthes import XML_LANG
 
 NAMESPACE = "http://iso25964.org/"
 ROLES = dict(zip(BROADER, ("BT", "BTG", "BTP", "BTI")))
@@ -32,12 +34,15 @@ ELSEWHERE = (*NOTES, *CUSTOM_NOTES, *DATES, "notation", "status", TERM_SOURCE)
 
 
 class Iso25964Writer:
-    """Writes thesauri with some of their concepts. `facts` has dates and the version, `terms` the dates of terms."""
+    """Writes thesauri with some of their concepts. `facts` has dates and the version, `terms` the dates of terms.
+
+    `lost` counts the characters that XML doesn't have."""
 
     def __init__(self, store: Store, facts: ExportFacts | None = None, terms: Dates | None = None) -> None:
         self.store, self.facts, self.terms = store, facts or ExportFacts(), terms or {}
         self.root = Element(f"{{{NAMESPACE}}}ISO25964Interchange")
         self.there: set[int] = set()
+        self.lost: Counter[str] = Counter()
 
     def write(self, concepts: Sequence[Resource], is_whole: bool = True) -> bytes:
         """Returns the document. Of a part of a thesaurus it has the arrays below its concepts, and no groups."""
@@ -46,8 +51,7 @@ class Iso25964Writer:
         for scheme in dict.fromkeys(it.scheme for it in living if it.scheme):
             self.add_thesaurus(scheme, [it.number for it in living if it.scheme == scheme], is_whole)
         ElementTree.register_namespace("", NAMESPACE)
-        ElementTree.indent(self.root)
-        return ElementTree.tostring(self.root, encoding="utf-8", xml_declaration=True) + b"\n"
+        return document_of(self.root, self.lost)
 
     def add_thesaurus(self, scheme: int, numbers: Sequence[int], is_whole: bool) -> None:
         """Adds a thesaurus."""
@@ -201,7 +205,7 @@ class Iso25964Writer:
         for it in self.values(number, (name,)):
             its = element(parent, name, it.text)
             if it.tag:
-                its.set("notationType", plain(it.tag))
+                its.set("notationType", it.tag)
 
     def add_dates(self, parent: Element, number: int) -> None:
         """Adds when a resource was made and last changed, as far as that is known."""
@@ -214,5 +218,5 @@ def element(parent: Element, name: str, text: str | None = None, tag: str = "") 
     its = Element(f"{{{NAMESPACE}}}{name}", {XML_LANG: tag} if tag else {})
     if text != "":
         parent.append(its)
-    its.text = None if text is None else plain(text)
+    its.text = text
     return its

@@ -11,7 +11,7 @@ from thesaurus_tools.fields import TERM_SOURCE, mark_of
 from thesaurus_tools.kinds import BROADER, MAPPINGS
 from thesaurus_tools.marc_languages import marc_language
 from thesaurus_tools.store import End, Label, Resource, Store
-from thesaurus_tools.xml_texts import xml_text
+from thesaurus_tools.xml_texts import closing_comment, xml_text
 
 NAMESPACE = "http://www.loc.gov/MARC21/slim"
 # The most bytes of a record and of a field in ISO 2709, and what each of them has beside its fields or subfields: a
@@ -249,8 +249,9 @@ def record_lines(record: Record, lost: Counter[str]) -> Iterator[str]:
 
 
 def collection_lines(records: Iterator[Record], lost: Counter[str]) -> Iterator[str]:
-    """Yields records as a collection of MARCXML. `lost` counts the characters that XML doesn't have."""
+    """Yields records as a collection of MARCXML. `lost` counts the characters that XML doesn't have, and a comment at
+    the end names them."""
     yield f'<?xml version="1.0" encoding="utf-8"?>\n<collection xmlns="{NAMESPACE}">\n'
     for it in records:
         yield from record_lines(it, lost)
-    yield "</collection>\n"
+    yield "</collection>\n" + closing_comment(lost)

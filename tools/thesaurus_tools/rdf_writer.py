@@ -10,7 +10,7 @@ from itertools import groupby
 from xml.sax.saxutils import quoteattr
 
 from thesaurus_tools.ntriples import DCTERMS, OWL, RDF, SKOS, XSD, Iri, Literal, Node, Triple
-from thesaurus_tools.xml_texts import said_of, xml_text
+from thesaurus_tools.xml_texts import closing_comment, xml_text
 
 ISO_THES = "http://purl.org/iso25964/skos-thes#"
 PREFIXES = {"dct": DCTERMS, "iso-thes": ISO_THES, "owl": OWL, "rdf": RDF, "skos": SKOS, "xsd": XSD}
@@ -183,9 +183,7 @@ def write_rdfxml(triples: Iterable[Triple], base: str, lost: Counter[str] | None
             for node in nodes:
                 yield f"    {element(f'{prefix}:{predicate.removeprefix(start)}', node, lost)}\n"
         yield "  </rdf:Description>\n"
-    yield "</rdf:RDF>\n"
-    if lost:
-        yield f"<!-- {said_of(lost)} -->\n"
+    yield "</rdf:RDF>\n" + closing_comment(lost)
 
 
 def split_property(iri: str) -> tuple[str, str]:

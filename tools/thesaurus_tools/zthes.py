@@ -6,6 +6,7 @@ from __future__ import annotations
 
 import hashlib
 import re
+from collections import Counter
 from collections.abc import Iterator, Sequence
 from dataclasses import dataclass, field
 from urllib.parse import quote
@@ -17,7 +18,7 @@ from thesaurus_tools.fields import TERM_SOURCE
 from thesaurus_tools.ntriples import DCTERMS, RDF, SKOS, Iri, Literal, Node, Triple
 from thesaurus_tools.rdf_writer import ISO_THES
 from thesaurus_tools.store import Resource, Store
-from thesaurus_tools.xml_texts import NO_CHARACTERS
+from thesaurus_tools.xml_texts import document_of
 
 DC = "http://purl.org/dc/elements/1.1/"
 XML_LANG = "{http://www.w3.org/XML/1998/namespace}lang"
@@ -46,32 +47,29 @@ DATES = {"termCreatedDate": "created", "termModifiedDate": "modified"}
 KNOWN = {"termId", "termName", "termType", "termLanguage", "termNote", "relation", *DATES}
 
 
-def plain(text: str) -> str:
-    """Returns a text without the characters that XML doesn't have."""
-    return NO_CHARACTERS.sub("", text)
-
-
 # --- writing ---
 
 
 class ZthesWriter:
-    """Writes concepts as terms; each has its name in the first of some languages that it has."""
+    """Writes concepts as terms; each has its name in the first of some languages that it has.
+
+    `lost` counts the characters that XML doesn't have."""
 
     def __init__(self, store: Store, langs: Sequence[str]) -> None:
         self.store, self.langs = store, langs
         self.root = Element("Zthes")
+        self.lost: Counter[str] = Counter()
 
     def write(self, concepts: Sequence[Resource], title: str) -> bytes:
         """Returns the document."""
         about = SubElement(self.root, "thes")
-        SubElement(about, f"{{{DC}}}title").text = plain(title)
+        SubElement(about, f"{{{DC}}}title").text = title
         self.there = {it.number for it in concepts if it.is_live}
         for it in concepts:
             if it.is_live:
                 self.add_concept(it.number)
         ElementTree.register_namespace("dc", DC)
-        ElementTree.indent(self.root)
-        return ElementTree.tostring(self.root, encoding="utf-8", xml_declaration=True) + b"\n"
+        return document_of(self.root, self.lost)
 
     def terms(self, number: int, kind: str) -> list[tuple[str, str]]:
         """Returns the tags and texts of the labels of a kind."""
@@ -120,7 +118,7 @@ class ZthesWriter:
         """Adds a term."""
         term = SubElement(self.root, "term")
         for element, value in (("termId", name), ("termName", text), ("termType", kind), ("termLanguage", tag)):
-            SubElement(term, element).text = plain(value)
+            SubElement(term, element).text = value
         return term
 
     def add_notes(self, term: Element, number: int) -> None:
@@ -132,7 +130,7 @@ class ZthesWriter:
         for label, tag, text in found:
             lang = {XML_LANG: tag} if label != "notation" and tag else {}
             note = SubElement(term, "termNote", {"label": label, **lang})
-            note.text = plain(text)
+            note.text = text
 
     def relate(self, term: Element, relation: str, other: object) -> None:
         """Adds a relation to another concept, if it is among those that are written."""
@@ -149,7 +147,7 @@ def add_relation(term: Element, kind: str, name: str, text: str) -> None:
     """Adds a relation to a term."""
     relation = SubElement(term, "relation")
     for element, value in (("relationType", kind), ("termId", name), ("termName", text)):
-        SubElement(relation, element).text = plain(value)
+        SubElement(relation, element).text = value
 
 
 # --- reading ---

@@ -51,7 +51,8 @@ class FileOrder:
 
 @dataclass
 class SavedFile:
-    """A file that is being made, or is there. `needs` names a package that is lacking, `fault` what else failed."""
+    """A file that is being made, or is there. `needs` names a package that is lacking, `too_long` has the concepts
+    whose records its form can't hold, `fault` says what else failed."""
 
     ticket: str
     wish: FileOrder
@@ -59,6 +60,7 @@ class SavedFile:
     answer: Answer
     needs: str = ""
     fault: str = ""
+    too_long: tuple[int, ...] = ()
 
     def is_there(self, seconds: float) -> bool:
         """Whether it is made, or has failed, within some seconds."""
@@ -136,6 +138,7 @@ class SavedFiles:
         folder = self.input_of(it.wish)
         outcome = run_form(it.wish, folder)
         it.needs, it.fault = outcome.get("needs", ""), outcome.get("said", "")
+        it.too_long = tuple(outcome.get("too_long", ()))
         made = folder / file_forms.MADE
         if not outcome:
             with made.open("rb") as file:

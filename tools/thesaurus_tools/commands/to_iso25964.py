@@ -11,7 +11,7 @@ from __future__ import annotations
 import argparse
 from pathlib import Path
 
-from thesaurus_tools.command_line import DONE, REFUSED, ToolError, natural, parser_of, run
+from thesaurus_tools.command_line import DONE, REFUSED, ToolError, natural, parser_of, run, say
 from thesaurus_tools.desk_triples import read_dates
 from thesaurus_tools.desk_values import journal_of, open_journal
 from thesaurus_tools.export_values import ExportFacts, read_facts
@@ -20,6 +20,7 @@ from thesaurus_tools.iso25964 import Iso25964Writer
 from thesaurus_tools.store_options import add_journal_argument, add_store_arguments, open_store
 from thesaurus_tools.store import Store
 from thesaurus_tools.term_dates import Dates, read_term_dates
+from thesaurus_tools.xml_texts import said_of
 
 TOOL = "to-iso25964"
 
@@ -50,8 +51,11 @@ def main() -> int:
         if given.scheme and getattr(store.resources.get(given.scheme), "kind", "") != "scheme":
             raise ToolError(f"{store.name}: no scheme has the number {given.scheme}", REFUSED)
         concepts = [it for it in store.live_concepts() if given.scheme in (None, it.scheme)]
-        text = Iso25964Writer(store, *known(given, store)).write(concepts)
+        writer = Iso25964Writer(store, *known(given, store))
+        text = writer.write(concepts)
     write_output(text, given.output)
+    if writer.lost:
+        say(TOOL, said_of(writer.lost))
     return DONE
 
 

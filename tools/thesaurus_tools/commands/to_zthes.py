@@ -13,9 +13,10 @@ from __future__ import annotations
 import argparse
 from pathlib import Path
 
-from thesaurus_tools.command_line import DONE, REFUSED, ToolError, natural, parser_of, run
+from thesaurus_tools.command_line import DONE, REFUSED, ToolError, natural, parser_of, run, say
 from thesaurus_tools.files import write_output
 from thesaurus_tools.store_options import add_journal_argument, add_store_arguments, open_store
+from thesaurus_tools.xml_texts import said_of
 from thesaurus_tools.zthes import ZthesWriter
 
 TOOL = "to-zthes"
@@ -41,8 +42,11 @@ def main() -> int:
         chosen = [given.scheme] if given.scheme else schemes
         concepts = [it for it in store.live_concepts() if it.scheme in chosen]
         title = " · ".join(store.term(it, given.langs) for it in chosen)
-        text = ZthesWriter(store, given.langs or [store.main_language]).write(concepts, title)
+        writer = ZthesWriter(store, given.langs or [store.main_language])
+        text = writer.write(concepts, title)
     write_output(text, given.output)
+    if writer.lost:
+        say(TOOL, said_of(writer.lost))
     return DONE
 
 

@@ -141,7 +141,7 @@ def later(page: str, status: int, path: str = "") -> Response:
 
 def file_answer(it: SavedFile) -> AnyResponse:
     """Returns a file that is made, or says why there is none."""
-    if it.needs or it.fault:
+    if it.needs or it.fault or it.too_long:
         return make_response(render_template("downloads/state.html", file=it), 409)
     response = response_of(it.answer, FORMS[it.wish.form].media)
     response.headers["Content-Disposition"] = f'attachment; filename="{it.name}"'

@@ -1,6 +1,7 @@
 """What has happened to what the reader watches, and feeds of it and of everything public."""
 from __future__ import annotations
 
+from collections import Counter
 from dataclasses import dataclass
 from datetime import UTC, datetime, timedelta
 from typing import Any
@@ -16,6 +17,7 @@ from thesaurus_desk.web.journal_text import tell_plans
 from thesaurus_desk.web.pages.edit import form_text, given_number
 from thesaurus_desk.web.paths import concept_path, path_to
 from thesaurus_desk.words import Words
+from thesaurus_tools.xml_texts import closing_comment, xml_characters
 
 pages = Blueprint("for_me", __name__)
 # How far back feeds go, and how many entries they have.
@@ -143,6 +145,8 @@ def entries_of(news: News) -> list[Entry]:
 
 
 def feed(entries: list[Entry], path: str) -> Any:
-    """Returns a feed (Atom)."""
+    """Returns a feed (Atom), which says at its end which characters it leaves out."""
+    lost: Counter[str] = Counter()
     text = render_template("feed.xml", entries=entries, root=request.url_root.rstrip("/"), path=path, at=now())
+    text = f"{xml_characters(text, lost)}\n{closing_comment(lost)}"
     return text, 200, {"Content-Type": "application/atom+xml; charset=utf-8"}
