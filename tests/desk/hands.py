@@ -317,4 +317,13 @@ def come_in_as(hand: Hand, name: str) -> Hand:
     return hand
 
 
+def try_skos(hand: Hand, path: Path, text: str) -> None:
+    """Writes a file in SKOS, and has the desk try it on a copy, which takes all of it."""
+    path.write_text(text, encoding="utf-8")
+    hand.open("/bring-in")
+    hand.send_file("skos-file", path)
+    hand.press("Try it on a copy")
+    hand.sees("The copy has taken all of it.")
+
+
 HANDS: dict[str, type[Hand]] = {"mouse": Mouse, "keyboard": Keyboard}

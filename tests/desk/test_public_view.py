@@ -316,6 +316,7 @@ def test_what_a_tool_writes_beside_the_store(desk: Desk, users: Path, candidate:
         desk.db,
         "--journal",
         desk.journal.path,
+        "--types",
         "--format",
         "ntriples",
         "--program",

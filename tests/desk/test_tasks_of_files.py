@@ -5,7 +5,7 @@ from __future__ import annotations
 from pathlib import Path
 
 import pytest
-from hands import Hand
+from hands import Hand, try_skos
 from rdflib import Graph
 
 pytestmark = pytest.mark.needs("chromedriver", "selenium", "rdflib", "weasyprint")
@@ -30,12 +30,7 @@ FORMS = {
 
 def test_2_bring_in_definitions_notes_and_notations(hand: Hand, tmp_path: Path) -> None:
     """Nothing of the file is left out."""
-    path = tmp_path / "places.ttl"
-    path.write_text(SKOS, encoding="utf-8")
-    hand.open("/bring-in")
-    hand.send_file("skos-file", path)
-    hand.press("Try it on a copy")
-    hand.sees("The copy has taken all of it.")
+    try_skos(hand, tmp_path / "places.ttl", SKOS)
     hand.sees("Nothing is lost.")
     hand.press("Import it")
     hand.open("/search?q=charter")

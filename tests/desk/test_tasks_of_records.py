@@ -4,7 +4,7 @@ from __future__ import annotations
 from pathlib import Path
 
 import pytest
-from hands import HANDS, Hand, come_in
+from hands import HANDS, Hand, come_in, try_skos
 from processes import Running, run_desk
 from selenium.webdriver.chrome.webdriver import WebDriver
 
@@ -35,12 +35,7 @@ def test_6_bring_in_a_spreadsheet(hand: Hand, tmp_path: Path) -> None:
 
 
 def test_7_bring_in_a_thesaurus_from_skos(hand: Hand, tmp_path: Path) -> None:
-    path = tmp_path / "places.ttl"
-    path.write_text(SKOS, encoding="utf-8")
-    hand.open("/bring-in")
-    hand.send_file("skos-file", path)
-    hand.press("Try it on a copy")
-    hand.sees("The copy has taken all of it.")
+    try_skos(hand, tmp_path / "places.ttl", SKOS)
     hand.press("Import it")
     hand.open("/")
     hand.sees("Places")

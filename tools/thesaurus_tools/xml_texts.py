@@ -3,9 +3,13 @@ from __future__ import annotations
 
 import re
 from collections import Counter
+from pathlib import Path
 from xml.etree import ElementTree
 from xml.etree.ElementTree import Element
 from xml.sax.saxutils import escape
+
+from thesaurus_tools.command_line import DONE, say
+from thesaurus_tools.files import write_output
 
 ENDS = "".join(f"{chr(plane << 16 | 0xFFFE)}{chr(plane << 16 | 0xFFFF)}" for plane in range(17))
 NO_CHARACTERS = re.compile(f"[\ufdd0-\ufdef{ENDS}]")
@@ -25,6 +29,14 @@ def xml_characters(text: str, lost: Counter[str]) -> str:
 def said_of(lost: Counter[str]) -> str:
     """Returns what is said of the characters that were left out."""
     return "characters that XML doesn't have are left out: " + ", ".join(f"{lost[it]} {it}" for it in sorted(lost))
+
+
+def write_document(tool: str, document: bytes, lost: Counter[str], output: Path | None) -> int:
+    """Writes a document to a file or to standard output, says what it leaves out, and returns the exit status."""
+    write_output(document, output)
+    if lost:
+        say(tool, said_of(lost))
+    return DONE
 
 
 def closing_comment(lost: Counter[str]) -> str:

@@ -11,16 +11,15 @@ from __future__ import annotations
 import argparse
 from pathlib import Path
 
-from thesaurus_tools.command_line import DONE, REFUSED, ToolError, natural, parser_of, run, say
+from thesaurus_tools.command_line import REFUSED, ToolError, natural, parser_of, run
 from thesaurus_tools.desk_triples import read_dates
 from thesaurus_tools.desk_values import journal_of, open_journal
 from thesaurus_tools.export_values import ExportFacts, read_facts
-from thesaurus_tools.files import write_output
 from thesaurus_tools.iso25964 import Iso25964Writer
 from thesaurus_tools.store_options import add_journal_argument, add_store_arguments, open_store
 from thesaurus_tools.store import Store
 from thesaurus_tools.term_dates import Dates, read_term_dates
-from thesaurus_tools.xml_texts import said_of
+from thesaurus_tools.xml_texts import write_document
 
 TOOL = "to-iso25964"
 
@@ -35,7 +34,7 @@ def arguments() -> argparse.Namespace:
     return parser.parse_args()
 
 
-def known(given: argparse.Namespace, store: Store) -> tuple[ExportFacts, Dates]:
+def dates_of(given: argparse.Namespace, store: Store) -> tuple[ExportFacts, Dates]:
     """Returns the dates of resources and of terms, if the options name a journal."""
     beside = journal_of(Path(store.name)) if given.desk else None
     journal = given.journal or (beside if beside is not None and beside.is_file() else None)
@@ -51,12 +50,9 @@ def main() -> int:
         if given.scheme and getattr(store.resources.get(given.scheme), "kind", "") != "scheme":
             raise ToolError(f"{store.name}: no scheme has the number {given.scheme}", REFUSED)
         concepts = [it for it in store.live_concepts() if given.scheme in (None, it.scheme)]
-        writer = Iso25964Writer(store, *known(given, store))
+        writer = Iso25964Writer(store, *dates_of(given, store))
         text = writer.write(concepts)
-    write_output(text, given.output)
-    if writer.lost:
-        say(TOOL, said_of(writer.lost))
-    return DONE
+    return write_document(TOOL, text, writer.lost, given.output)
 
 
 def command() -> None:

@@ -13,10 +13,9 @@ from __future__ import annotations
 import argparse
 from pathlib import Path
 
-from thesaurus_tools.command_line import DONE, REFUSED, ToolError, natural, parser_of, run, say
-from thesaurus_tools.files import write_output
+from thesaurus_tools.command_line import REFUSED, ToolError, natural, parser_of, run
 from thesaurus_tools.store_options import add_journal_argument, add_store_arguments, open_store
-from thesaurus_tools.xml_texts import said_of
+from thesaurus_tools.xml_texts import write_document
 from thesaurus_tools.zthes import ZthesWriter
 
 TOOL = "to-zthes"
@@ -44,10 +43,7 @@ def main() -> int:
         title = " · ".join(store.term(it, given.langs) for it in chosen)
         writer = ZthesWriter(store, given.langs or [store.main_language])
         text = writer.write(concepts, title)
-    write_output(text, given.output)
-    if writer.lost:
-        say(TOOL, said_of(writer.lost))
-    return DONE
+    return write_document(TOOL, text, writer.lost, given.output)
 
 
 def command() -> None:
