@@ -291,7 +291,9 @@ def test_a_vocabulary_is_removed_and_what_was_decided_stays(desk: Desk, reader: 
     wait_for(desk, reader)
     done(desk, {"do": "outside", "iri": iri("violin")}, link("link", "exact", VIOLINS, "$1"))
     desk.decisions.decide("ben", "VOC", HARPS, "rejected", iri("octet"))
-    form = reader.get("/mapping").form("remove-1")
+    page = reader.get("/mapping")
+    assert page.text.count("Remove “VOC”") == 2 and SAY("mapping.remove") not in page.text
+    form = page.form("remove-1")
     fields = {name: value for name, value in form.fields if name != "sure"}
     assert reader.read(reader.client.post("/mapping/1/remove", data=fields)).status == 409
     assert [it.name for it in desk.vocabularies.each()] == ["VOC"]
