@@ -10,6 +10,7 @@ from typing import Any
 import pytest
 from clients import Client, Site, text_of
 from test_changes import number
+from thesaurus_desk.journal.rights import Rights, write_rights
 
 BOWED = ("Violins", "Violas", "Cellos")
 
@@ -144,15 +145,22 @@ def test_what_is_refused_is_shown_for_each(site: Site, anna: Client) -> None:
 
 @pytest.mark.parametrize("act", ["merge", "deprecate"])
 def test_rights_are_those_of_the_single_acts(site: Site, act: str) -> None:
-    """An editor merges no concept with records."""
+    """An editor merges no concept with records; the button is there where those without may be merged."""
     ben, ticked = site.client("ben"), some(site, "Harps")
     if act == "merge":
         post = {"do": "post", "key": "b1", "record": "Harp", "concept": ticked[0]}
         assert site.desk.perform("anna", "index", [post]).is_done
+    assert (f'value="{act}"' in ben.get("/bulk?below=9").text) == (act == "merge")
+    write_rights(site.desk.journal, Rights(without_records=False))
     assert f'value="{act}"' not in ben.get("/bulk?below=9").text
+    write_rights(site.desk.journal, Rights())
     page = send(ben, ticked, act=act, into="Guitars")
     assert "Your role doesn’t do this here" in text_of(page) and "/bring-in/table/perform" not in page.text
     assert send(site.client("ina"), ticked, act="move", above="Drums").status_code == 403
+    if act == "merge":
+        merged = some(site, "Lutes")
+        assert "1 row was done." in done(ben, send(ben, [*ticked, *merged], act=act, into="Guitars")).text
+        assert [site.desk.replica.is_live(it) for it in (*ticked, *merged)] == [True, False]
 
 
 def test_terms_notes_fields_statuses_and_collections(site: Site, anna: Client) -> None:

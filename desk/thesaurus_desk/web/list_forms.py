@@ -6,7 +6,7 @@ from typing import Any
 
 from flask import render_template, request
 
-from thesaurus_desk.web.context import field_words, person, say, tags, the_fields, the_replica
+from thesaurus_desk.web.context import field_words, may_act, person, say, tags, the_fields, the_replica, the_rights
 from thesaurus_desk.web.forms import FormState
 from thesaurus_desk.web.list_columns import ListColumn
 from thesaurus_desk.web.spreadsheets import is_table_asked, sheet
@@ -46,6 +46,8 @@ def ticks_page(numbers: Iterable[int], state: FormState, status: int) -> Any:
         statuses=[(it, say(f"status.{it}")) for it in (APPROVED, *STATUSES)],
         texts=[("scope", say("kinds.label.scope")), *((it, field_words(it)) for it in fields_to_set())],
         terms=[(it, say(f"kinds.label.{it}")) for it in TERMS],
+        # (where editors merge concepts without records, a row that would move some is refused by itself)
+        may_merge=may_act("merge") or the_rights().without_records,
     )
     return page, status
 
