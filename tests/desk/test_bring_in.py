@@ -542,9 +542,30 @@ def test_homographs_and_second_terms_are_kept_if_that_is_wanted(anna: Client) ->
     assert "Nothing is lost." in text_of(page), text_of(page)
 
 
+BOM = b"\xef\xbb\xbf"
+QUADS = b"".join(
+    f"<http://old.example/a> <{name}> {node} <http://graph.example/> .\n".encode()
+    for name, node in (
+        ("http://www.w3.org/1999/02/22-rdf-syntax-ns#type", "<http://www.w3.org/2004/02/skos/core#Concept>"),
+        ("http://www.w3.org/2004/02/skos/core#prefLabel", '"Europe"@en'),
+        ("http://www.w3.org/2004/02/skos/core#inScheme", "<http://old.example/s>"),
+        ("http://www.w3.org/2004/02/skos/core#topConceptOf", "<http://old.example/s>"),
+    )
+) + b'<http://old.example/s> <http://www.w3.org/2004/02/skos/core#prefLabel> "Places"@en <http://graph.example/> .\n'
+
+
 @pytest.mark.needs("rdflib")
-def test_a_packed_vocabulary(anna: Client) -> None:
-    page = send(anna, "/bring-in/skos", gzip.compress(SKOS.encode()), "Places.TTL.gz", tag="en")
+@pytest.mark.parametrize(
+    ("name", "data"),
+    [
+        ("Places.TTL.gz", gzip.compress(SKOS.encode())),
+        ("bom.ttl", BOM + SKOS.encode()),
+        ("quads.nq", QUADS),
+        ("bom.nq.gz", gzip.compress(BOM + QUADS)),
+    ],
+)
+def test_marks_of_utf_8_graphs_and_packed_vocabularies(anna: Client, name: str, data: bytes) -> None:
+    page = send(anna, "/bring-in/skos", data, name, tag="en")
     assert page.status_code == 200 and "The copy has taken all of it." in text_of(page)
 
 

@@ -341,6 +341,10 @@ def test_a_stub_without_a_label_is_an_outside_concept_also_if_its_scheme_is_desc
         ("http://old.example/lc", "prefLabel 'LCSH'@en"),
         ("http://old.example/sh1", "inScheme http://old.example/lc"),
     ]
+    member = UNLABELLED + ':k a skos:Collection ; skos:inScheme :s ; skos:prefLabel "By size"@en ; skos:member :sh1 .'
+    status, script, report = from_skos("--drop", write_turtle(room / "member.ttl", member))
+    assert not status and links_of(script) == {"a exact sh1"}
+    assert ("lost", "http://old.example/k") in [finding(it)[:2] for it in report[:-1]]
     own = UNLABELLED + ':sh2 a skos:Concept ; skos:inScheme :lc ; skos:prefLabel "Fishes"@en .'
     status, script, report = from_skos("--drop", write_turtle(room / "own.ttl", own))
     assert not status and links_of(script) == {"a exact sh1"}
@@ -635,6 +639,13 @@ def test_old_iris_are_kept(options_file: Path, room: Path) -> None:
     assert not status
     assert "outside http://old.example/c" in load(room / "options.db", script)
     assert over(room / "options.db", "export").out.count(b"#exactMatch> <http://old.example/") == 3
+
+
+@needs_rdflib
+def test_the_old_iri_of_what_is_left_out_is_no_further_loss(room: Path) -> None:
+    file = write_turtle(room / "gone.ttl", SOUND + ":z a skos:Concept ; skos:inScheme :s .")
+    status, _, report = from_skos("--keep-iris", "--drop", file)
+    assert not status and [finding(it)[:2] for it in report[:-1]] == [("NoLabel", "http://old.example/z")]
 
 
 DEAD = """

@@ -34,6 +34,9 @@ class LinkRules:
         held = (kind, b, a) if is_turned else (kind, a, b)
         if held in self.seen or kind == "broader" and any((it, a, b) in self.seen for it in BROADER):
             return False
+        if b == OUTSIDE + a and a not in self.vocabulary.resources:
+            # (that a concept is left out is a finding already, and its own old IRI with it)
+            return False
         why = self.refusal_of_ends(kind, a, b) or self.refusal(kind, a, b)
         if why:
             ring = self.chain(*self.low_and_high(kind, a, b)[::-1]) if why == "Cycle" else []

@@ -80,26 +80,26 @@ def outside_concepts(values: Values) -> set[str]:
     """Returns the concepts of other vocabularies for which a file has no more than a stub: they have no place in it,
     and match a concept that has one.
 
-    Such a stub is a concept that no link joins to others but matches, and that is no top concept and no member. If it
-    has a preferred label, it has no scheme that the file describes, and what it matches has a place: a link, or such a
+    Such a stub is a concept that no link joins to others but matches, and that is no top concept, and no member if it
+    has a preferred label. If it has one, it has no scheme that the file describes, and what it matches has a place: a link, or such a
     scheme. If it has none, what it matches isn't of such a scheme of its own."""
     kinds = kinds_of(values)
     described = {it for it in values if any(values[it].get(name) for name in (SKOS + "prefLabel", *TITLES, HAS_TOP))}
     placed: set[str] = set()
     schemes: dict[str, set[str]] = defaultdict(set)
     matches: dict[str, set[str]] = defaultdict(set)
+    labelled = {it for it in values if values[it].get(SKOS + "prefLabel")}
     for subject, predicate, node in triples_of(values):
         kind = LINKS.get(predicate, ("",))[0]
         if predicate == IN_SCHEME:
             schemes[subject].add(node)
         elif kind in WITHIN or predicate in (TOP_OF, HAS_TOP):
             placed |= {subject, node}
-        elif kind == "member":
+        elif kind == "member" and node in labelled:
             placed.add(node)
         elif kind in MAPPING and not isinstance(node, Literal):
             matches[subject].add(node)
             matches[node].add(subject)
-    labelled = {it for it in values if values[it].get(SKOS + "prefLabel")}
     placed |= {it for it in kinds if it in labelled and schemes[it] & described}
 
     def is_stub(it: str) -> bool:
