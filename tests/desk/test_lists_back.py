@@ -22,11 +22,12 @@ from thesaurus_tools.values import set_request
 LISTS = (
     *("/search?q=instruments&all=1&format=csv", "/az?letter=v&format=csv", "/tree?format=csv", "/schemes?format=csv"),
     *("/collections?format=csv", "/print/4?format=csv", "/c/32/members.csv", "/changed-since?since=2026&format=csv"),
-    *(f"/lists/{it}?in=de&format=csv" for it in ("orphans", "alike", "busiest", "unused", "untranslated")),
+    *(f"/lists/{it}?in=de&format=csv" for it in ("orphans", "alike", "busiest", "unused")),
     "/lists/field/definition?format=csv",
 )
-# Lists with columns of their own: of work, and of what has changed since a release.
+# Lists with columns of their own: of work, of what a language lacks, and of what has changed since a release.
 OTHERS = (
+    "/lists/untranslated?in=de&format=csv",
     *(f"/lists/work/{it}?format=csv" for it in ("mine", "due", "candidates", "revise")),
     "/releases/present?format=csv",
 )

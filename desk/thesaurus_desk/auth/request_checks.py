@@ -31,7 +31,7 @@ HEADERS = {
     "Cache-Control": "private, no-cache",
 }
 # The blueprints whose forms have passwords, and their fields, which no page sends back.
-OF_PASSWORDS, PASSWORDS = ("coming_in", "people"), ("password", "old", "new", "again")
+OF_PASSWORDS, PASSWORDS = ("account", "users"), ("password", "old", "new", "again")
 BEARER = {"WWW-Authenticate": "Bearer"}
 PLAIN = {"Content-Type": "text/plain; charset=utf-8"}
 RELOAD = (
