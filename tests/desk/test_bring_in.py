@@ -543,15 +543,18 @@ def test_homographs_and_second_terms_are_kept_if_that_is_wanted(anna: Client) ->
 
 
 BOM = b"\xef\xbb\xbf"
-QUADS = b"".join(
-    f"<http://old.example/a> <{name}> {node} <http://graph.example/> .\n".encode()
-    for name, node in (
-        ("http://www.w3.org/1999/02/22-rdf-syntax-ns#type", "<http://www.w3.org/2004/02/skos/core#Concept>"),
-        ("http://www.w3.org/2004/02/skos/core#prefLabel", '"Europe"@en'),
-        ("http://www.w3.org/2004/02/skos/core#inScheme", "<http://old.example/s>"),
-        ("http://www.w3.org/2004/02/skos/core#topConceptOf", "<http://old.example/s>"),
+QUADS = (
+    b"".join(
+        f"<http://old.example/a> <{name}> {node} <http://graph.example/> .\n".encode()
+        for name, node in (
+            ("http://www.w3.org/1999/02/22-rdf-syntax-ns#type", "<http://www.w3.org/2004/02/skos/core#Concept>"),
+            ("http://www.w3.org/2004/02/skos/core#prefLabel", '"Europe"@en'),
+            ("http://www.w3.org/2004/02/skos/core#inScheme", "<http://old.example/s>"),
+            ("http://www.w3.org/2004/02/skos/core#topConceptOf", "<http://old.example/s>"),
+        )
     )
-) + b'<http://old.example/s> <http://www.w3.org/2004/02/skos/core#prefLabel> "Places"@en <http://graph.example/> .\n'
+    + b'<http://old.example/s> <http://www.w3.org/2004/02/skos/core#prefLabel> "Places"@en <http://graph.example/> .\n'
+)
 
 
 @pytest.mark.needs("rdflib")

@@ -81,8 +81,8 @@ def outside_concepts(values: Values) -> set[str]:
     and match a concept that has one.
 
     Such a stub is a concept that no link joins to others but matches, and that is no top concept, and no member if it
-    has a preferred label. If it has one, it has no scheme that the file describes, and what it matches has a place: a link, or such a
-    scheme. If it has none, what it matches isn't of such a scheme of its own."""
+    has a preferred label. If it has one, it has no scheme that the file describes, and what it matches has a place: a
+    link, or such a scheme. If it has none, what it matches isn't of such a scheme of its own."""
     kinds = kinds_of(values)
     described = {it for it in values if any(values[it].get(name) for name in (SKOS + "prefLabel", *TITLES, HAS_TOP))}
     placed: set[str] = set()
