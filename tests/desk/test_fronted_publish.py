@@ -55,6 +55,7 @@ def test_what_is_passed_on(site: Site) -> None:
     assert fields["Access-Control-Allow-Origin"] == "*" and "nginx/" not in fields.get("Server", "")
     assert f"https://{HOST}/reconcile/preview".encode() in site.ask("GET", "/reconcile")[1]
     assert site.ask("GET", "/export.nt")[0] == 200 and site.ask("GET", "/rest/v1/vocabularies")[0] == 200
+    assert b"<repositoryName>" in site.ask("GET", "/oai?verb=Identify")[1]
     assert site.ask("GET", "/login")[0] == 404 and site.ask_plainly("/id/5", HOST)[0] == 301
 
 
