@@ -271,7 +271,7 @@ def test_what_xml_doesnt_have_is_left_out_and_told(odd: Path) -> None:
     # (Zthes names a term again where it refers to it)
     said = rb"characters that XML doesn't have are left out: \d U\+1FFFE, \d U\+FDD0, \d U\+FFFE, \d U\+FFFF"
     for form in XML_FORMS:
-        ended = tool(form[0], "--db", odd, *form[1:])
+        ended = tool(str(form[0]), "--db", odd, *form[1:])
         assert ended.status == 0 and re.search(said, ended.err), ended.err
         assert re.search(said + rb" -->\n\Z", ended.out), ended.out[-200:]
         assert "Odd <&> name" in "".join(ElementTree.fromstring(ended.out).itertext())
@@ -282,6 +282,6 @@ def test_what_xml_doesnt_have_is_left_out_and_told(odd: Path) -> None:
 @pytest.mark.needs("xmllint")
 @pytest.mark.parametrize("form", XML_FORMS, ids=["MARCXML", "RDF/XML", "Zthes", "ISO 25964"])
 def test_xmllint_takes_each_form_of_xml(odd: Path, form: tuple[str | Path, ...]) -> None:
-    document = tool(form[0], "--db", odd, *form[1:]).out
+    document = tool(str(form[0]), "--db", odd, *form[1:]).out
     ran = subprocess.run(["xmllint", "--nonet", "--noout", "-"], input=document, capture_output=True, check=False)
     assert ran.returncode == 0 and not ran.stderr, ran.stderr
