@@ -323,7 +323,7 @@ def try_skos(hand: Hand, path: Path, text: str) -> None:
     hand.open("/bring-in")
     hand.send_file("skos-file", path)
     hand.press("Try it on a copy")
-    hand.sees("The copy has taken all of it.")
+    hand.sees("The copy accepted all of it.")
 
 
 HANDS: dict[str, type[Hand]] = {"mouse": Mouse, "keyboard": Keyboard}

@@ -48,7 +48,7 @@ def test_the_prover_is_named_for_the_program_that_runs_alone(
 ) -> None:
     anna, path = site.client("anna"), tmp_path / "PROVED"
     monkeypatch.setattr(about, "PATH", path)
-    assert "No file beside this program says that it was proved." in words_of(anna, "/about")
+    assert "No file next to this program states that it was proved." in words_of(anna, "/about")
     digest = hashlib.sha256(Path(program).read_bytes()).hexdigest()
     lines = [
         "commit 12ab",
@@ -64,17 +64,18 @@ def test_the_prover_is_named_for_the_program_that_runs_alone(
         "RATTLE-K-9",
         "12ab",
         "2 libraries of the program are proved.",
-        "It is the very program that runs here.",
+        "It is exactly the program that is running here.",
     ):
         assert said in page, said
     path.write_text("\n".join(lines).replace(digest, "0" * 64), encoding="utf-8")
-    assert "another program runs here" in words_of(anna, "/about") and "very program" not in words_of(anna, "/about")
+    assert "a different program is running" in words_of(anna, "/about")
+    assert "exactly the program" not in words_of(anna, "/about")
 
 
 @pytest.mark.parametrize(
     ("found", "said"),
     [
-        (StartReport(), "The store was what the journal knows of it."),
+        (StartReport(), "The store matched the journal."),
         (StartReport(is_changed=True, changed=(5, 6)), "changed by another program: 2 concepts"),
         (StartReport(is_changed=True, restored="2026-01-02"), "A backup had been restored."),
     ],
@@ -82,7 +83,7 @@ def test_the_prover_is_named_for_the_program_that_runs_alone(
 def test_what_the_start_found(site: Site, found: StartReport, said: str) -> None:
     site.desk.found = found
     page = words_of(site.client("rita"), "/about")
-    assert said in page and ("what the journal knows" in page) is not found.is_changed
+    assert said in page and ("matched the journal" in page) is not found.is_changed
 
 
 def test_a_record_says_which_merge_and_split_moved_it(site: Site) -> None:

@@ -98,7 +98,7 @@ def test_a_service_without_an_answer(site: Site, service: Service, wrong: str, m
     settle(site, "http://127.0.0.1:1/v1/projects/x" if wrong == "gone" else service.address)
     start = time.monotonic()
     answer = ask(site.client("ina"))
-    assert answer.status_code == 502 and answer.json["said"] == "The service gives no suggestions now."
+    assert answer.status_code == 502 and answer.json["said"] == "The service offers no suggestions now."
     assert time.monotonic() - start < 10
 
 

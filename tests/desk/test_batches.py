@@ -243,7 +243,7 @@ def test_a_part_of_an_older_import_on_which_a_later_one_rests(site: Site, anna: 
     later = site.desk.perform("anna", "skos", [{"do": "concept", "scheme": 1, "tag": "en", "text": "Big kotos"}, kotos])
     last = str(site.desk.journal.last_plan())
     back = anna.post(f"/changes/{first.plan}/back", {"form": "back", "last": last})
-    assert back.status_code == 409 and "Later parts of the same import rest on this one." in text_of(back)
+    assert back.status_code == 409 and "Later parts of the same import depend on this one." in text_of(back)
     assert anna.post(f"/changes/{later.plan}/back", {"form": "back", "last": last}).status_code == 303
     last = str(site.desk.journal.last_plan())
     assert anna.post(f"/changes/{first.plan}/back", {"form": "back", "last": last}).status_code == 303

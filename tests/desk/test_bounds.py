@@ -65,7 +65,7 @@ def test_a_key_is_good_once(desk: Desk) -> None:
     key, first, second = entry.key, site.client(), site.client()
     assert first.get(f"/enter?key={key}").status_code == 200 and "anna" in first.get("/me").text
     assert second.get(f"/enter?key={key}").headers["Location"] == "/login"
-    assert "the address that it printed last" in second.get("/login").text
+    assert "the last address that it printed" in second.get("/login").text
     assert second.get("/me").status_code == 303, "the key was good once"
     assert first.get(f"/enter?key={key}").headers["Location"] == "/", "who is in may load the page again"
     assert len(new) == 1 and second.get(f"/enter?key={new[0]}").status_code == 200

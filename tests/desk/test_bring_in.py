@@ -125,7 +125,7 @@ def test_a_file_and_typed_rows_together(site: Site, anna: Client, form: str) -> 
     assert (
         page.status_code == 409 and f'id="{form}-typed-why"' in page.text and f'id="{form}-file-why"' not in page.text
     )
-    assert "A file and typed rows came together, so neither was read." in text_of(page)
+    assert "A file and typed rows arrived together, so neither was read." in text_of(page)
     assert f"{rows}</textarea>" in page.text and '<details class="more" open>' in page.text
     assert not site.desk.history.recent() and not site.desk.replica.postings.of_record("Pedal harp t2")
     alone = result_of(anna, anna.post(f"/bring-in/{form}", {"form": form, "tag": "en", "typed": rows}))
@@ -228,7 +228,7 @@ def test_rows_that_exchange_terms(is_refused: bool, site: Site, anna: Client) ->
         ('"Ly\tres",,', "without control characters"),
         (f"{'x' * 257},,", "is one character too long"),
         (f"Lyres,,{'x' * 2001}", "is one character too long"),
-        ("Violins,Violin,", "is there already"),
+        ("Violins,Violin,", "is already there"),
     ],
 )
 def test_a_preview_promises_nothing_that_is_refused(site: Site, anna: Client, cells: str, reason: str) -> None:
@@ -267,7 +267,7 @@ def test_an_editor_merges_no_records_by_a_table(site: Site) -> None:
     posted = {"do": "post", "key": "s1", "record": "Old violin", "concept": violins}
     assert site.desk.perform("anna", "index", [posted]).is_done
     page = send(ben, "/bring-in/table", data)
-    assert "Your role doesn’t do this here" in text_of(page) and "/bring-in/table/perform" not in page.text
+    assert "Your role may not do this here" in text_of(page) and "/bring-in/table/perform" not in page.text
     ends = b"concept,do,alt@en\nViolins,deprecate,\nHarps,change,Arched harps\n"
     done = perform(ben, send(ben, "/bring-in/table", ends), "/bring-in/table/perform")
     assert "1 row was done." in done.text and site.desk.replica.is_live(violins)
@@ -282,7 +282,7 @@ def test_a_table_is_performed_once(site: Site, anna: Client) -> None:
     for expected in (200, 409):
         done = perform(anna, page, "/bring-in/table/perform")
         assert done.status_code == expected
-    assert "it was imported already" in text_of(done) and len(resources(site.desk.replica)) == before + 1
+    assert "it was already imported" in text_of(done) and len(resources(site.desk.replica)) == before + 1
 
 
 def test_a_split_by_a_table_of_records(site: Site, anna: Client) -> None:
@@ -293,7 +293,7 @@ def test_a_split_by_a_table_of_records(site: Site, anna: Client) -> None:
     rows = "".join(f"Old violin {it},Violins,Old violins\n" for it in (0, 1, 9))
     data = f"record,concept,new\n{rows}".encode()
     page = send(site.client("ben"), "/bring-in/table", data, kind="splits", tag="en")
-    assert "3 rows were refused." in page.text and text_of(page).count("Your role doesn’t do this here") == 2
+    assert "3 rows were refused." in page.text and text_of(page).count("Your role may not do this here") == 2
     page = send(anna, "/bring-in/table", data, kind="splits", tag="en")
     assert "2 rows change something." in page.text and "1 row was refused." in page.text, text_of(page)
     done = perform(anna, page, "/bring-in/table/perform")
@@ -428,7 +428,7 @@ SKOS = """
 def test_a_vocabulary(site: Site, anna: Client) -> None:
     page = send(anna, "/bring-in/skos", SKOS.encode(), "places.ttl", tag="en", addresses="1")
     assert page.status_code == 200, text_of(page)
-    assert "The copy has taken all of it." in text_of(page)
+    assert "The copy accepted all of it." in text_of(page)
     assert "from-skos" not in page.text and " --" not in text_of(page), "words of the command line"
     assert not site.desk.replica.named("Norway")
     answer = perform(anna, page, "/bring-in/skos/perform")
@@ -515,8 +515,8 @@ def test_the_whole_report_of_a_vocabulary_is_a_table(anna: Client) -> None:
     """And the page says of the copy only that it took the rest."""
     created = "".join(f':a <http://purl.org/dc/terms/created> "{n}" . ' for n in range(20))
     page = send(anna, "/bring-in/skos", (SKOS + created).encode(), "places.ttl", tag="en")
-    assert "and 17 more" in text_of(page) and "The copy has taken all that is left." in text_of(page)
-    assert "The copy has taken all of it." not in text_of(page)
+    assert "and 17 more" in text_of(page) and "The copy accepted all that is left." in text_of(page)
+    assert "The copy accepted all of it." not in text_of(page)
     (path,) = re.findall(r'href="(/bring-in/skos/report/[^"]+)"', page.text)
     rows = list(csv.reader(io.StringIO(anna.get(path).text.removeprefix("\ufeff"))))
     assert rows[0] == ["Reason", "URI", "Term", "What is left out"]
@@ -570,7 +570,7 @@ QUADS = (
 )
 def test_marks_of_utf_8_graphs_and_packed_vocabularies(anna: Client, name: str, data: bytes) -> None:
     page = send(anna, "/bring-in/skos", gzip.compress(data) if name.endswith(".gz") else data, name, tag="en")
-    assert page.status_code == 200 and "The copy has taken all of it." in text_of(page)
+    assert page.status_code == 200 and "The copy accepted all of it." in text_of(page)
 
 
 @pytest.mark.needs("rdflib")
@@ -578,7 +578,7 @@ def test_what_a_copy_refuses_is_in_words(site: Site, anna: Client) -> None:
     data = f"{SKOS}:b skos:exactMatch <https://thesaurus.example/id/5> ."
     page = send(anna, "/bring-in/skos", data.encode(), "places.ttl", tag="en")
     assert page.status_code == 200 and "so it can’t be imported" in text_of(page), text_of(page)
-    assert "A relationship between what can’t be linked so" in " ".join(text_of(page).split())
+    assert "A relationship between things that can’t be related in this way" in " ".join(text_of(page).split())
     assert "https://thesaurus.example/id/5" in page.text and "{" not in text_of(page), text_of(page)
     assert "It refers to what was refused" in page.text and "requests:" not in text_of(page)
 

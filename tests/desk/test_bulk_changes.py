@@ -155,7 +155,7 @@ def test_rights_are_those_of_the_single_acts(site: Site, act: str) -> None:
     assert f'value="{act}"' not in ben.get("/bulk?below=9").text
     write_rights(site.desk.journal, Rights())
     page = send(ben, ticked, act=act, into="Guitars")
-    assert "Your role doesn’t do this here" in text_of(page) and "/bring-in/table/perform" not in page.text
+    assert "Your role may not do this here" in text_of(page) and "/bring-in/table/perform" not in page.text
     assert send(site.client("ina"), ticked, act="move", above="Drums").status_code == 403
     if act == "merge":
         merged = some(site, "Lutes")

@@ -162,7 +162,7 @@ def test_a_number_that_nothing_has(site: Site, anna: Client) -> None:
 
 
 MISSING = {
-    "en": ("These changes name it, or would have created it:", "It was created, and isn’t there any more:"),
+    "en": ("These changes name it, or would have created it:", "It was created, and is no longer there:"),
     "de": ("Diese Änderungen nennen es oder hätten es angelegt:", "Es wurde angelegt und ist nicht mehr da:"),
     "fr": ("Ces modifications le nomment, ou l’auraient créé :", "Il a été créé, et n’est plus là :"),
 }
@@ -392,16 +392,16 @@ def test_a_plan_that_stays_unknown_is_closed(site: Site, anna: Client) -> None:
     journal = site.desk.journal
     step = Step(label(site, "Fine violins"))
     plan = journal.begin(Draft("ben", "test", [step]))
-    assert "nobody knows whether they were performed" not in text_of(anna.get("/"))  # (it is under way)
+    assert "it isn’t known whether they were performed" not in text_of(anna.get("/"))  # (it is under way)
     step.state = "unknown"
     journal.finish(plan, "unknown", [step])
-    assert "nobody knows whether they were performed" in text_of(anna.get("/"))
+    assert "it isn’t known whether they were performed" in text_of(anna.get("/"))
     page = anna.get("/changes")
-    assert "Not known to be done" in page.text and f'action="/changes/{plan}/close"' in page.text
+    assert "Outcome unknown" in page.text and f'action="/changes/{plan}/close"' in page.text
     assert site.client("ina").post(f"/changes/{plan}/close").status_code == 403
     assert anna.post(f"/changes/{plan}/close").status_code == 303
-    assert "Not known to be done" not in anna.get("/changes").text
-    assert "nobody knows whether they were performed" not in text_of(anna.get("/"))
+    assert "Outcome unknown" not in anna.get("/changes").text
+    assert "it isn’t known whether they were performed" not in text_of(anna.get("/"))
     found = journal.plan(plan)
     assert found and (found.state, found.note) == ("unknown", "looked at by anna")
 
@@ -536,7 +536,7 @@ def test_a_colleagues_later_change_is_shown_before_it_is_undone(site: Site, anna
     later = perform(site, {**renamed, "text": "Violins of all kinds"}, user="ben")
     answer = anna.post(f"/changes/{plan}/back", {})
     page = text_of(answer)
-    assert answer.status_code == 409 and "changed again after what you have seen" in page and "of all kinds" in page
+    assert answer.status_code == 409 and "changed again after what you saw" in page and "of all kinds" in page
     assert len(site.desk.history.recent()) == 2
     form = {"form": "back", "last": re.search(r'name="last" value="(\d+)"', answer.text)[1]}  # type: ignore[index]
     assert form["last"] == str(later)

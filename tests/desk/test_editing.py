@@ -188,7 +188,7 @@ def test_two_editors_at_once(driver: WebDriver, program: str, store: Path) -> No
             anna.sees("Your change Fine violins: renamed to “Old violins” (en)")
             focused = driver.switch_to.active_element
             assert focused.tag_name not in ("a", "button"), "Enter, pressed once more, changes nothing"
-            anna.press("Make my change all the same")
+            anna.press("Make my change anyway")
             anna.sees("renamed to “Old violins” (en)")
             anna.sees("UF Fine violins")
         finally:

@@ -32,13 +32,13 @@ def test_a_damaged_users_file(site: Site, name: str) -> None:
     anna, ben, kept = site.client("anna"), site.client("ben"), path.read_bytes()
     assert "users’ file" not in text_of(anna.get("/"))
     damage(path, DAMAGES[name])
-    assert "The users’ file is damaged or gone" in text_of(anna.get("/"))
+    assert "The users’ file is damaged or missing" in text_of(anna.get("/"))
     assert ben.get("/").status_code == 200 and "users’ file" not in text_of(ben.get("/"))
     sent = site.client().post("/login", {"name": "ben", "password": PASSWORD})
     assert sent.status_code == 303
     form = {"do": "add", "name": "carla", "role": "reader", "password": "quite a long one"}
     answer = anna.post("/users", form)
-    assert answer.status_code == 422 and "The users’ file is damaged or gone" in text_of(answer)
+    assert answer.status_code == 422 and "The users’ file is damaged or missing" in text_of(answer)
     assert path.exists() == (name != "gone") and (name == "gone" or path.read_bytes() != kept)
     assert ben.post("/logout").status_code == 303
     path.write_bytes(kept)
@@ -112,7 +112,7 @@ def test_a_file_that_is_lost_while_the_desk_runs(site: Site, which: str, said: s
     assert "until the desk is started again" in text_of(anna.get("/"))
     if which == "journal":
         comment = anna.post("/c/5/comments", {"text": "Old?"})
-        assert comment.status_code == 503 and "The journal isn’t there any more" in text_of(comment)
+        assert comment.status_code == 503 and "The journal is no longer there" in text_of(comment)
 
 
 def test_nothing_is_written_into_a_backup_that_was_copied_over_the_store(

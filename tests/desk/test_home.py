@@ -93,7 +93,7 @@ def test_an_empty_thesaurus_has_three_ways_to_begin(
     assert '<pre dir="ltr">thesaurus-desk --sample</pre>' in site.client("anna").get("/").text
     for name in ("ina", "rita"):
         assert (
-            "An editor begins." in words_of(site.client(name)) and "/new/scheme" not in site.client(name).get("/").text
+            "An editor has to begin." in words_of(site.client(name)) and "/new/scheme" not in site.client(name).get("/").text
         )
 
 
@@ -106,7 +106,7 @@ def test_an_empty_list_says_how_it_is_filled(
         "/az": "They are added at each concept",
         "/collections": "It groups concepts from anywhere in the hierarchy",
         "/lists/orphans": "The list fills by itself",
-        "/lists/work/mine": "You are in charge of no concept.",
+        "/lists/work/mine": "You aren’t in charge of any concept.",
         "/lists/work/due": "Nothing is due.",
         "/lists/work/candidates": "There is no candidate.",
         "/lists/work/revise": "No concept is to be revised.",

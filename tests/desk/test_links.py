@@ -56,7 +56,7 @@ def test_members_of_a_collection(reader: Reader, desk: Desk) -> None:
 @pytest.mark.parametrize(
     ("number", "form", "other", "part", "linked"),
     [
-        (STRINGS, "add-broader", "Violins", "because it is below it already", [VIOLINS, BOWED, STRINGS]),
+        (STRINGS, "add-broader", "Violins", "because it is already below it", [VIOLINS, BOWED, STRINGS]),
         (VIOLINS, "add-related", "String instruments", "is already broader than", [VIOLINS, BOWED, STRINGS]),
         (VIOLINS, "add-related", "Violins", "can’t be linked with itself", [VIOLINS]),
         (VIOLINS, "add-broader", "Bowed instruments", "is already linked with", [VIOLINS, BOWED]),

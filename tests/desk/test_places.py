@@ -52,7 +52,7 @@ def test_a_new_concept_that_is_alike(reader: Reader, desk: Desk) -> None:
     page = reader.send(reader.get("/new").form("new"), ("then", "see"), text="VIOLÍNS")
     form = page.form("new")
     assert page.status == 409 and form.invalid == {"text"} and form.value("text") == "VIOLÍNS"
-    assert f"/c/{VIOLINS}" in page.links() and "differs in case or accents alone" in form.text
+    assert f"/c/{VIOLINS}" in page.links() and "differs only in case or accents" in form.text
     assert reader.send(form, ("then", "see"), sure="1").status == 200
     assert len(desk.replica.named("violins")) == 2
 
@@ -84,8 +84,8 @@ def test_a_new_concept_that_is_refused(
     ("path", "form", "field", "text", "part"),
     [
         ("/new", "new", "text", "Violins", "Use that concept, or add a qualifier"),
-        ("/new/scheme", "new", "text", "Musical instruments", "There is one of this name already"),
-        (f"/c/{BOWED}/move", "move", "other", "Violins", "because it is below it already"),
+        ("/new/scheme", "new", "text", "Musical instruments", "There is already one with this name"),
+        (f"/c/{BOWED}/move", "move", "other", "Violins", "because it is already below it"),
         (f"/c/{VIOLINS}/split", "split", "text", "Fiddles", "Use that concept, or add a qualifier"),
         (f"/c/{VIOLINS}", "add-related", "other", "Bowed instruments", "Two terms are either related"),
     ],
@@ -123,7 +123,7 @@ def test_a_form_for_a_new_one_sent_twice(reader: Reader, desk: Desk, what: str) 
     assert (again.status, again.path) == (200, first.path) and len(desk.replica.numbers(what)) == before + 1
     page = reader.send(reader.get(f"/new/{what}").form("new"), text="Places")
     assert page.status == 409 and len(desk.replica.numbers(what)) == before + 1
-    assert "There is one of this name already" in page.text
+    assert "There is already one with this name" in page.text
     assert reader.send(page.form("new"), sure="1").status == 200 and len(desk.replica.numbers(what)) == before + 2
 
 
@@ -175,11 +175,11 @@ def test_several_concepts_are_moved_as_one(reader: Reader, desk: Desk) -> None:
 @pytest.mark.parametrize(
     ("number", "fields", "part"),
     [
-        (BOWED, {"other": "Violins"}, "because it is below it already"),
+        (BOWED, {"other": "Violins"}, "because it is already below it"),
         (VIOLINS, {"other": "Nowhere"}, "No concept has the term"),
         (VIOLINS, {"other": "Bowed instruments"}, "is already below"),
         (VIOLINS, {"other": "Bowed instruments", "from": ""}, "is already below"),
-        (VIOLINS, {"other": "Plucked instruments", "from": str(HARPS)}, "no longer this broader one"),
+        (VIOLINS, {"other": "Plucked instruments", "from": str(HARPS)}, "no longer has this broader one"),
         (VIOLINS, {"other": "Cellos", "with": [str(CELLOS)]}, "can’t be linked with itself"),
         (VIOLINS, {"other": "Fiddles"}, "Two terms are either related"),
     ],
@@ -210,7 +210,7 @@ def test_a_move_from_a_place_that_is_gone_asks_from_where(reader: Reader, desk: 
     mine = reader.get(f"/c/{VIOLINS}/move").form("move")
     move(reader, VIOLINS, other="Plucked instruments")
     page = reader.send(mine, other="String instruments")
-    assert page.status == 409 and "no longer this broader one" in page.text
+    assert page.status == 409 and "no longer has this broader one" in page.text
     again = page.form("move")
     assert again.value("from") is None and again.value("other") == "String instruments"
     assert page.html.count('type="radio" name="from" required') == 2

@@ -142,7 +142,7 @@ def test_what_would_be_refused_of_a_value(site: Site, rita: Client) -> None:
     for more, said in (
         ({"kind": "value-notation", "text": "321"}, "already has the notation"),
         ({"kind": "value-definition", "text": " "}, "Write what you propose."),
-        ({"kind": "value-definition", "text": "x", "value": "999"}, "was changed meanwhile"),
+        ({"kind": "value-definition", "text": "x", "value": "999"}, "has been changed meanwhile"),
         ({"kind": "alt", "text": "x", "source": "Grove"}, "has no source of its own"),
     ):
         answer = rita.post("/propose", {**about, **more})
@@ -266,7 +266,7 @@ def test_a_proposal_that_is_refused_stays_open(site: Site, rita: Client) -> None
         ("Violins", {"kind": "concept", "text": "Violas"}, "text", "Use that concept, or add a qualifier"),
         ("", {"kind": "concept", "text": "Violas", "scheme": "1"}, "text", "Use that concept, or add a qualifier"),
         ("Violins", {"kind": "broader", "other": "Violins"}, "other", "can’t be linked with itself"),
-        ("String instruments", {"kind": "broader", "other": "Violins"}, "other", "because it is below it already"),
+        ("String instruments", {"kind": "broader", "other": "Violins"}, "other", "because it is already below it"),
         ("Violins", {"kind": "related", "other": "String instruments"}, "other", "is already broader than Violins"),
         ("Violins", {"kind": "related", "other": "Fiddles"}, "other", "is already linked with"),
     ],
@@ -301,7 +301,7 @@ def test_a_new_concept_that_is_alike(site: Site, rita: Client) -> None:
     (form,) = [it for it in page.forms if it.name == "propose"]
     assert answer.status_code == 409 and form.invalid == {"text"} and form.value("text") == "VIOLÍNS"
     assert f'href="/c/{number(site, "Violins")}"' in answer.text
-    assert form.text.count("differs in case or accents alone") == 1
+    assert form.text.count("differs only in case or accents") == 1
     assert rita.post("/propose", {**sent, "sure": "1"}).status_code == 303
 
 
@@ -485,7 +485,7 @@ def test_what_was_changed_since_a_proposal_was_looked_at(site: Site, rita: Clien
     perform(site, {"do": "addLabel", "owner": violins, "kind": "scope", "tag": "en", "text": "Bowed."}, user="anna")
     answer = ben.post(f"/proposals/{made}/accept", {"form": "accept"})
     page = text_of(answer)
-    assert answer.status_code == 409 and "changed again after what you have seen" in page
+    assert answer.status_code == 409 and "changed again after what you saw" in page
     assert "Changed since it was proposed" in page and "Violins of all kinds" in page and "Bowed." not in page
     assert f'name="last" value="{last}"' in answer.text
     assert ben.post(f"/proposals/{made}/accept", {"form": "accept", "last": str(last)}).status_code == 303

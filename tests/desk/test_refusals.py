@@ -151,7 +151,7 @@ CASES: list[tuple[dict[str, Any], str, str, list[int]]] = [
     ({"do": "addLabel", "owner": 3, "kind": "alt", "tag": "en", "text": "é" * 129}, "BadText", "one character too", []),
     ({"do": "addLabel", "owner": 3, "kind": "scope", "tag": "en", "text": "é" * 1003}, "BadText", "is 3 char", []),
     ({"do": "outside", "iri": "x"}, "BadIri", "“x” isn’t a URI", []),
-    ({"do": "outside", "iri": "http://www.wikidata.org/entity/Q8355"}, "OutsideKnown", "is known already", [7]),
+    ({"do": "outside", "iri": "http://www.wikidata.org/entity/Q8355"}, "OutsideKnown", "is already known", [7]),
     ({"do": "post", "key": "a b", "record": "x", "concept": 3}, "BadKey", "“a b” can’t be a key", []),
     ({"do": "post", "key": "k", "record": "", "concept": 3}, "BadRecord", "Write the name", []),
     ({"do": "post", "key": "k", "record": "x" * 130, "concept": 3}, "BadRecord", "is 2 characters too long", []),

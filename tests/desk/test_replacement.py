@@ -125,10 +125,10 @@ def test_a_term_that_another_concept_has_is_refused_before(site: Site, anna: Cli
 @pytest.mark.parametrize(
     ("fields", "said"),
     [
-        ({"find": " "}, "Say what is to be found."),
-        ({"places": []}, "Tick where it is to be replaced."),
+        ({"find": " "}, "Say what to search for."),
+        ({"places": []}, "Tick where to replace it."),
         ({"find": "Nothing has this"}, "Nothing that is in use has"),
-        ({"places": ["no field"]}, "Tick where it is to be replaced."),
+        ({"places": ["no field"]}, "Tick where to replace it."),
     ],
 )
 def test_what_is_wrong_is_said_beside_it(anna: Client, fields: dict[str, Any], said: str) -> None:

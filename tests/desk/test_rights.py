@@ -51,7 +51,7 @@ def test_an_editor_merges_without_records_by_a_table(site: Site, desk: Desk) -> 
     done(desk, new("Crwths"), post("k1", "$1"))
     ben = reader_of(site, "ben")
     page = ben.send(ben.get("/bring-in").form("table"), kind="", typed="concept,into\nRebecs,Crwths\nCrwths,Violins\n")
-    assert "Your role doesn’t do this here" in page.text
+    assert "Your role may not do this here" in page.text
     ben.send(next(it for it in page.forms if it.action == "/bring-in/table/perform"))
     assert desk.replica.named("Rebecs")[0].number and not desk.replica.is_live(desk.replica.named("Rebecs")[0].number)
     assert desk.replica.is_live(desk.replica.named("Crwths", live=True)[0].number)
@@ -123,12 +123,12 @@ def test_a_thesaurus_that_some_editors_change(site: Site, desk: Desk, ben: Clien
     absam = done(desk, {"do": "concept", "scheme": other, "tag": "en", "text": "Absam"}).made or 0
     acts = {**dict.fromkeys(ACTS, "head"), "records": "1", "approver": "editor"}
     anna = site.client("anna")
-    assert "Who changes which thesaurus" in anna.get("/rights").text
+    assert "Who may change which thesaurus" in anna.get("/rights").text
     assert anna.post("/rights", {**acts, f"some-{other}": "1"}).status_code == 303
     assert desk.rights().people == {other: frozenset()}
     term = {"form": "add-term", "kind": "alt", "tag": "en"}
     refused = ben.post(f"/c/{absam}/terms/add", {**term, "text": "Absom"})
-    assert refused.status_code == 403 and "an administrator settles" in text_of(refused)
+    assert refused.status_code == 403 and "an administrator sets" in text_of(refused)
     new_one = ben.post("/new", {"form": "new", "scheme": other, "tag": "en", "text": "Hall", "kind": "broaderGeneric"})
     assert new_one.status_code == 403 and not desk.replica.named("Hall")
     assert ben.post(f"/c/{VIOLINS}/terms/add", {**term, "text": "Old violins"}).status_code == 303
@@ -152,7 +152,7 @@ def test_a_proposal_for_a_thesaurus_of_others(site: Site, desk: Desk) -> None:
     write_rights(desk.journal, Rights(people={1: frozenset()}))
     ben = reader_of(site, "ben")
     page = ben.send(ben.get("/proposals/1").form("accept"))
-    assert page.status == 409 and "an administrator settles" in page.text
+    assert page.status == 409 and "an administrator sets" in page.text
     anna = reader_of(site, "anna")
     assert anna.send(anna.get("/proposals/1").form("accept")).status == 200
     assert ("en", "Small viols") in view(desk, VIOLINS).alt

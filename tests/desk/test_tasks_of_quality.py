@@ -36,10 +36,10 @@ def test_a_round_of_quality(hand: Hand) -> None:
 def test_settle_who_does_what(hand: Hand) -> None:
     hand.open("/rights")
     hand.choose("Deprecating concepts", "editors and administrators")
-    hand.tick("Editors merge and split also where no record moves")
+    hand.tick("Editors may also merge and split where no record moves")
     hand.press("Save")
     hand.sees("Saved.")
-    assert not hand.find("Editors merge and split also where no record moves", "input").is_selected()
+    assert not hand.find("Editors may also merge and split where no record moves", "input").is_selected()
 
 
 def test_watch_a_branch(hand: Hand) -> None:
@@ -51,7 +51,7 @@ def test_watch_a_branch(hand: Hand) -> None:
     hand.sees("Nothing has happened since")
     hand.sees("String instruments with all below")
     hand.press("Stop watching: String instruments")
-    hand.sees("You watch nothing.")
+    hand.sees("You aren’t watching anything.")
 
 
 def test_a_visitor_proposes_and_an_editor_takes_it_up(
@@ -60,13 +60,13 @@ def test_a_visitor_proposes_and_an_editor_takes_it_up(
     with running("--db", store, "--users", users, "--public", "--program", program) as desk:
         hand = come_in_as(Mouse(driver, address_of(desk)), "anna")
         hand.open("/rights")
-        hand.tick("Visitors of a public desk may propose something")
+        hand.tick("Visitors to a public desk may send proposals")
         hand.press("Save")
         hand.sees("Saved.")
         hand.press("Sign out")
         hand.open("/c/5")
         hand.press("Propose a change")
-        hand.fill("What should be otherwise, and why?", "Say viola da braccio")
+        hand.fill("What should be different, and why?", "Say viola da braccio")
         hand.press("Propose it")
         hand.sees("An editor will look at your proposal.")
         come_in_as(hand, "ben").open("/proposals")

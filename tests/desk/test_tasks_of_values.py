@@ -111,7 +111,7 @@ def test_two_change_one_definition(hand: Hand) -> None:
     hand.sees("Your new change hasn’t been made yet.")
     hand.sees("The smallest of its family.")
     hand.fill("Definition", "The smallest and highest of its family.")
-    hand.press("Make my change all the same")
+    hand.press("Make my change anyway")
     hand.sees("The smallest and highest of its family.")
 
 

@@ -36,7 +36,7 @@ def test_editors_see_it_first(public: Site, desk: Desk) -> None:
     visitor = public.client()
     assert f'href="{PATH}?concept={VIOLINS}"' in visitor.get(f"/c/{VIOLINS}").text
     page = visitor.get(f"{PATH}?concept={VIOLINS}")
-    assert page.status_code == 200 and "What should be otherwise" in text_of(page)
+    assert page.status_code == 200 and "What should be different" in text_of(page)
     answer = visitor.post(PATH, {"form": "visitor", "concept": VIOLINS, "text": "Say <b>viola</b> da braccio"})
     assert answer.status_code == 303 and "Thank you" in text_of(visitor.get(answer.headers["Location"]))
     for name in ("rita", "ina"):
@@ -73,7 +73,7 @@ def test_it_is_limited(public: Site, desk: Desk, monkeypatch: pytest.MonkeyPatch
     other = {"form": "visitor", "text": "kept"}
     public.app.extensions["visitor_limits"].failures.clear()
     answer = visitor.post(PATH, other)
-    assert answer.status_code == 409 and "Too many proposals wait" in text_of(answer)
+    assert answer.status_code == 409 and "Too many proposals are waiting" in text_of(answer)
 
 
 def test_a_concept_that_the_public_doesnt_see(public: Site, desk: Desk) -> None:

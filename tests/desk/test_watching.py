@@ -43,7 +43,7 @@ def rename(desk: Desk, number: int, text: str, user: str = "ben") -> None:
 
 def test_what_others_did_to_a_concept(desk: Desk, rita: Client) -> None:
     rename(desk, VIOLINS, "Before")
-    assert "You watch nothing" in text_of(rita.get("/for-me"))
+    assert "You aren’t watching anything" in text_of(rita.get("/for-me"))
     assert 'aria-pressed="false"' in rita.get(f"/c/{VIOLINS}").text
     watch(rita, "concept", VIOLINS)
     assert 'aria-pressed="true"' in rita.get(f"/c/{VIOLINS}").text
