@@ -76,7 +76,7 @@ def test_the_prover_is_named_for_the_program_that_runs_alone(
     ("found", "said"),
     [
         (StartReport(), "The store matched the journal."),
-        (StartReport(is_changed=True, changed=(5, 6)), "changed by another program: 2 concepts"),
+        (StartReport(is_changed=True, changed=(5, 6)), "Another program had changed the store: 2 concepts"),
         (StartReport(is_changed=True, restored="2026-01-02"), "A backup had been restored."),
     ],
 )
