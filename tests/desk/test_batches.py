@@ -115,7 +115,7 @@ def test_a_vocabulary_is_one_entry_and_is_taken_back_as_one(
     back = anna.post(f"/changes/{plans[-1].id}/back", {"form": "back", "last": last})
     if is_in_use:
         assert back.status_code == 409 and len(made(site.desk)) == COUNT
-        assert "Records are indexed with one of its concepts by now: Term 004" in " ".join(text_of(back).split())
+        assert "By now, records are indexed with one of its concepts: Term 004" in " ".join(text_of(back).split())
     else:
         assert back.status_code == 303 and not made(site.desk)
 

@@ -324,7 +324,7 @@ def test_the_page_of_users(site: Site) -> None:
 def test_refusals_on_the_page_of_users(site: Site) -> None:
     anna = site.client("anna")
     for sent, said in (
-        ({"do": "add", "name": "ben", "role": "reader", "password": PASSWORD}, "There is a user ben already."),
+        ({"do": "add", "name": "ben", "role": "reader", "password": PASSWORD}, "There is already a user ben."),
         ({"do": "add", "name": "new", "role": "reader", "password": "short"}, "at least 10 characters"),
         ({"do": "remove", "name": "anna"}, "No administrator would be left"),
         ({"do": "role", "name": "anna", "role": "reader"}, "No administrator would be left"),

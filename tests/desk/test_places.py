@@ -283,7 +283,7 @@ def test_a_merge_shows_what_will_happen_and_does_it(reader: Reader, desk: Desk) 
     reader.send(reader.get(f"/c/{FIDDLES}").form("post"), record="Fiddle 1800")
     page = compare(reader, FIDDLES, "Violins")
     assert "1 record moves to Violins." in page.text and "“Fiedeln” (de) becomes a non-preferred term" in page.text
-    assert "broader term (generic) Bowed instruments is there already" in page.text
+    assert "broader term (generic) Bowed instruments is already there" in page.text
     assert "related term Violins is dropped: it is the relationship between the two" in page.text
     other = compare(reader, VIOLINS, "Fiddles").text
     assert "collection Instruments of the string quartet moves" in other and "member Instruments" not in other

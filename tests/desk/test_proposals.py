@@ -106,7 +106,7 @@ def test_an_editor_changes_the_text(site: Site, rita: Client) -> None:
     view = site.desk.replica.view(violins)
     assert view and ("en", "Folk violins") in view.alt and ("en", "Volk violins") not in view.alt
     page = text_of(rita.get(f"/proposals/{made}"))
-    assert "Folk violins" in page and "Proposed was “Volk violins”." in page
+    assert "Folk violins" in page and "The proposal was “Volk violins”." in page
     below = propose(rita, concept=str(violins), kind="concept", text="Hardanger fiddle")
     ben.post(f"/proposals/{below}/accept", {"form": "accept", "text": "Hardanger fiddles"})
     made_one = site.desk.replica.view(number(site, "Hardanger fiddles"))

@@ -39,7 +39,7 @@ def test_an_indexer_corrects_and_proposes(hand: Hand) -> None:
     hand.fill("Text", "Harps of old")
     hand.fill("A message to the author", "We say it so.")
     hand.press("Accept, and do it")
-    hand.sees("Proposed was “Harpz”.")
+    hand.sees("The proposal was “Harpz”.")
     come_in_as(hand, "ina").press("Proposals")
     hand.sees("We say it so.")
 

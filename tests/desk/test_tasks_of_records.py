@@ -27,7 +27,7 @@ def test_6_bring_in_a_spreadsheet(hand: Hand, tmp_path: Path) -> None:
     hand.sees("What new.csv would do")
     hand.sees("Lutes")
     hand.press("Do ")
-    hand.sees("What came of new.csv")
+    hand.sees("Result of new.csv")
     hand.open("/c/2")
     hand.press("Lutes")
     hand.press("Theorbos")
