@@ -93,7 +93,8 @@ def test_an_empty_thesaurus_has_three_ways_to_begin(
     assert '<pre dir="ltr">thesaurus-desk --sample</pre>' in site.client("anna").get("/").text
     for name in ("ina", "rita"):
         assert (
-            "An editor has to begin." in words_of(site.client(name)) and "/new/scheme" not in site.client(name).get("/").text
+            "An editor has to begin." in words_of(site.client(name))
+            and "/new/scheme" not in site.client(name).get("/").text
         )
 
 

@@ -109,7 +109,7 @@ CASES: list[tuple[dict[str, Any], str, str, list[int]]] = [
         "the identifier 99",
         [],
     ),
-    ({"do": "link", "kind": "related", "a": 3, "b": 1}, "WrongKind", "of the kind “thesaurus”; a concept is needed", [1]),
+    ({"do": "link", "kind": "related", "a": 3, "b": 1}, "WrongKind", "kind “thesaurus”; a concept is needed", [1]),
     ({"do": "outside", "iri": "https://thesaurus.example/id/3"}, "WrongKind", "Choose the concept itself", [3]),
     ({"do": "addLabel", "owner": 7, "kind": "alt", "tag": "en", "text": "x"}, "WrongKind", "external concept", [7]),
     ({"do": "link", "kind": "related", "a": 4, "b": 2}, "NotLive", "was merged into", [4, 3]),
