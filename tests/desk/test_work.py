@@ -183,7 +183,7 @@ def test_a_deprecated_candidate_comes_back_as_one(desk: Desk) -> None:
 def test_merging_says_what_the_public_will_see(site: Site, desk: Desk) -> None:
     made = done(desk, *as_candidates([new("Rebecs")])).made
     anna = site.client("anna")
-    assert "with the merge the public sees its terms" in text_of(anna.get(f"/c/{made}/merge?other_number={VIOLINS}"))
+    assert "after the merge, the public sees its terms" in text_of(anna.get(f"/c/{made}/merge?other_number={VIOLINS}"))
     assert "the public doesn’t see by what" in text_of(anna.get(f"/c/{VIOLINS}/merge?other_number={made}"))
     done(desk, {"do": "merge", "source": VIOLINS, "target": made})
     assert desk.public.final(VIOLINS) is None and desk.public.resource(VIOLINS).replaced is None
