@@ -48,6 +48,14 @@ NO_RDFLIB = """Python's rdflib isn't installed, which reads all forms but N-Trip
   or make N-Triples of the file: `rapper -g -o ntriples {path} > {stem}.nt`"""
 
 
+class TooLargeError(ToolError):
+    """That a file is larger than those that are read as a whole."""
+
+    def __init__(self, path: Path, is_packed: bool = False, way: str = "") -> None:
+        super().__init__(f"{path}: {'unpacked ' if is_packed else ''}{TOO_LARGE}{way and f'; {way}'}", USAGE)
+        self.is_packed = is_packed
+
+
 def parse_by_rdflib(path: Path, form: str, may_fetch: bool) -> Any:
     """Returns the graph of a file. Raises ToolError if it isn't parsed within bounds, or refers to something else."""
     import rdflib
@@ -56,7 +64,7 @@ def parse_by_rdflib(path: Path, form: str, may_fetch: bool) -> Any:
     watch = None
     try:
         if path.stat().st_size > MOST_BYTES:
-            raise ToolError(f"{path}: {TOO_LARGE}; {OTHER_WAY}", USAGE)
+            raise TooLargeError(path, way=OTHER_WAY)
         data = read_document(path)
         size = len(data)
         seconds, memory = SECONDS + SECONDS_FOR_MEGABYTE * size / 1e6, MEMORY + MEMORY_FOR_BYTE * size
@@ -113,7 +121,7 @@ def read_triples(path: Path, form: str, may_fetch: bool = False) -> Iterator[Tri
         raise ToolError(f"{path}: its name ends with none of {' '.join(FORMATS)}; --form says what it is", USAGE)
     if form == "xml" and path.is_file() and is_zthes(beginning_of(path)):
         if path.stat().st_size > MOST_BYTES:
-            raise ToolError(f"{path}: {TOO_LARGE}", USAGE)
+            raise TooLargeError(path)
         return zthes_triples(str(path), read_document(path))
     if form not in ("", "nt", "nquads"):
         return read_by_rdflib(path, form, may_fetch)
@@ -153,5 +161,5 @@ def read_document(path: Path, is_lines: bool = False) -> bytes:
     except OSError as error:
         raise ToolError(f"{path}: {error.strerror or error}") from None
     if len(data) > MOST_BYTES:
-        raise ToolError(f"{path}: unpacked {TOO_LARGE}", USAGE)
+        raise TooLargeError(path, is_packed=True)
     return data.removeprefix(BOM)

@@ -1,26 +1,27 @@
-"""Reads dumps of vocabularies: N-Triples and CSV line by line, so that they may have gigabytes; other forms by rdflib.
+"""Reads dumps of vocabularies, which may have gigabytes: N-Triples and CSV line by line, RDF/XML and Turtle by other
+programs that make such lines of them. What these lack, and other forms, are read by rdflib, as a whole.
 
 What a dump says is a list of facts. A line that can't be read is counted, and the others are taken."""
 from __future__ import annotations
 
 import csv
-import gzip
 import io
-import zlib
 from collections.abc import Iterable, Iterator
 from dataclasses import dataclass, field
 from pathlib import Path
-from typing import BinaryIO, NamedTuple, cast
+from typing import BinaryIO, NamedTuple
 
 from thesaurus_tools.command_line import REFUSED, USAGE, ToolError
 from thesaurus_tools.ntriples import BOM, DCTERMS, OWL, QUAD, RDF, SKOS, STATEMENT, Blank, Literal, Triple
 from thesaurus_tools.ntriples import parse_statement
-from thesaurus_tools.rdf_files import FORMATS, MAGIC, PACKED, form_of, read_triples
+from thesaurus_tools.rdf_files import FORMATS, OTHER_WAY, PACKED, TooLargeError, beginning_of, form_of, read_triples
+from thesaurus_tools.rdf_streams import MOST_BYTES, STREAMERS, TOO_LARGE, open_as_ntriples, streamer_of, unpacked
 from thesaurus_tools.skos_xl import FORM, XL
 from thesaurus_tools.vocabulary_tables import LABEL_KINDS
+from thesaurus_tools.zthes import is_zthes
 
-# The most bytes of a dump that is read line by line, unpacked; and of one line.
-MOST_BYTES, LONGEST_LINE = 2 << 30, 1 << 20
+# The forms of lines, and the most bytes of one.
+LINES, LONGEST_LINE = ("nt", "nquads"), 1 << 20
 # How many of the lines that can't be read are kept, and how much of each.
 MOST_BAD, SHOWN = 100, 200
 # The beginning of a note that is kept.
@@ -38,9 +39,9 @@ COLUMNS = ("iri", "label", "lang", "broader")
 
 
 class Fact(NamedTuple):
-    """What a dump says of something, by its IRI: its label (kind, tag, text), what is above it, its note, that it is
-    no concept, that it is deprecated or by what it is replaced. Of SKOS-XL: which node is its label, and a node's
-    text."""
+    """What a dump says of something, by its IRI: its label (kind, tag, text), a term, which is its preferred label if
+    it is the first in its language, what is above it, its note, that it is no concept, that it is deprecated or by what
+    it is replaced. Of SKOS-XL: which node is its label, and a node's text."""
 
     what: str
     of: str
@@ -68,38 +69,51 @@ def read_dump(path: Path, bad: BadLines) -> Iterator[Fact]:
     form = "csv" if path.name.lower().removesuffix(PACKED).endswith(".csv") else form_of(path.name)
     if not form:
         raise ToolError(f"{path}: its name ends with none of {' '.join(ENDS)}", USAGE)
-    if form not in ("csv", "nt", "nquads"):
-        yield from facts_of(read_triples(path, form))
-        return
+    if form in LINES:
+        with unpacked(path) as file:
+            yield from facts_of(triples_of(numbered_lines(file, str(path)), form, bad))
+    elif form == "csv":
+        with unpacked(path) as file:
+            yield from facts_of_rows(file, str(path), bad)
+    elif (streamer := streamer_of(form)) and not is_zthes(beginning_of(path)):
+        with open_as_ntriples(path, streamer) as pipe:
+            yield from facts_of(triples_of(lines_of(pipe), "nt", bad))
+    else:
+        yield from facts_of(read_whole(path, form))
+
+
+def read_whole(path: Path, form: str) -> Iterator[Triple]:
+    """Yields the triples of a file that is held in memory. Raises ToolError for one that is too large, which names the
+    program that would read it."""
     try:
-        with open(path, "rb") as file:
-            is_packed = file.read(len(MAGIC)) == MAGIC
-        with cast(BinaryIO, gzip.open(path)) if is_packed else open(path, "rb") as lines:
-            if form == "csv":
-                yield from facts_of_rows(lines, str(path), bad)
-            else:
-                yield from facts_of(triples_of(lines, str(path), form, bad))
-    except (EOFError, gzip.BadGzipFile, zlib.error):
-        raise ToolError(f"{path}: it is cut short, or damaged: it can't be unpacked", REFUSED) from None
-    except OSError as error:
-        raise ToolError(f"{path}: {error.strerror or error}") from None
+        yield from read_triples(path, form)
+    except TooLargeError as error:
+        lacking = STREAMERS.get(form)
+        way = f"{lacking.program}, of Debian's {lacking.package}, reads larger ones" if lacking else OTHER_WAY
+        raise TooLargeError(path, error.is_packed, way) from None
 
 
-def lines_of(file: BinaryIO, name: str) -> Iterator[tuple[int, bytes]]:
+def lines_of(file: BinaryIO) -> Iterator[tuple[int, bytes]]:
+    """Yields the lines of what a program has made, which have no numbers in the dump."""
+    while line := file.readline(LONGEST_LINE):
+        yield 0, line
+
+
+def numbered_lines(file: BinaryIO, name: str) -> Iterator[tuple[int, bytes]]:
     """Yields the lines of a file with their numbers. Raises ToolError for one that is too large."""
     size, number = 0, 0
     while line := file.readline(LONGEST_LINE):
         number += 1
         size += len(line)
         if size > MOST_BYTES:
-            raise ToolError(f"{name}: more than {MOST_BYTES >> 30} gigabytes", USAGE)
+            raise ToolError(f"{name}: {TOO_LARGE}", USAGE)
         yield number, line.removeprefix(BOM) if number == 1 else line
 
 
-def triples_of(file: BinaryIO, name: str, form: str, bad: BadLines) -> Iterator[Triple]:
+def triples_of(lines: Iterable[tuple[int, bytes]], form: str, bad: BadLines) -> Iterator[Triple]:
     """Yields those triples of N-Triples or N-Quads that may say something of a label, a place or an end."""
     pattern = QUAD if form == "nquads" else STATEMENT
-    for number, line in lines_of(file, name):
+    for number, line in lines:
         if not any(it in line for it in MARKS):
             # (to parse all lines would take five times as long)
             stripped = line.strip()
@@ -164,7 +178,6 @@ def facts_of_rows(file: BinaryIO, name: str, bad: BadLines) -> Iterator[Fact]:
     heading = [it.strip().lower() for it in next(rows, [])]
     if not {"iri", "label"} <= set(heading):
         raise ToolError(f"{name}: its first row names no columns iri and label", REFUSED)
-    preferred: set[tuple[str, str]] = set()
     while (cells := next_row(rows, bad)) is not None:
         found = {column: it.strip() for column, it in zip(heading, cells)}
         iri, label, tag, above = (found.get(it, "") for it in COLUMNS)
@@ -173,8 +186,7 @@ def facts_of_rows(file: BinaryIO, name: str, bad: BadLines) -> Iterator[Fact]:
                 bad.add(rows.line_num, ",".join(cells))
             continue
         if label:
-            yield Fact("label", iri, label, tag, 1 if (iri, tag) in preferred else 0)
-            preferred.add((iri, tag))
+            yield Fact("term", iri, label, tag)
         if above:
             yield Fact("above", iri, above)
 

@@ -12,14 +12,48 @@ from thesaurus_tools.stems import quick_fold, stems_of
 from thesaurus_tools.vocabulary_dumps import BadLines, Fact, read_dump
 from thesaurus_tools.vocabulary_tables import ABSENT, CURRENT, DEPRECATED
 
-# How many rows are written at a time.
-PART = 20_000
-# Labels that are nodes, as those of SKOS-XL, come in any order: they are put together at the end.
-NODES = """
+# How many facts are written at a time, and how many entries' numbers are remembered.
+PART, REMEMBERED = 20_000, 500_000
+# What a dump says that can only be put together at its end: labels that are nodes, as those of SKOS-XL, in any order;
+# notes; what is no concept; and what has ended. None of it is held in memory.
+TEMPORARY = """
 CREATE TEMP TABLE node (of INTEGER NOT NULL, node TEXT NOT NULL, kind INTEGER NOT NULL);
 CREATE TEMP TABLE form (node TEXT NOT NULL, tag TEXT NOT NULL, text TEXT NOT NULL);
+CREATE TEMP TABLE note (entry INTEGER PRIMARY KEY, text TEXT NOT NULL);
+CREATE TEMP TABLE other (entry INTEGER PRIMARY KEY);
+CREATE TEMP TABLE gone (entry INTEGER NOT NULL, replaced TEXT);
 """
+INSERTS = {
+    "label": "INSERT INTO label (entry, vocabulary, kind, tag, text, folded, size, back, stems)"
+    " VALUES (?, ?, ?, ?, ?, ?, ?, ?, ?)",
+    "above": "INSERT OR IGNORE INTO above VALUES (?, ?)",
+    "node": "INSERT INTO node VALUES (?, ?, ?)",
+    "form": "INSERT INTO form VALUES (?, ?, ?)",
+    "note": "INSERT OR IGNORE INTO note VALUES (?, ?)",
+    "other": "INSERT OR IGNORE INTO other VALUES (?)",
+    "gone": "INSERT INTO gone VALUES (?, ?)",
+}
 JOINED = "SELECT DISTINCT node.of, node.kind, form.tag, form.text FROM form JOIN node ON node.node = form.node"
+# The first label of an entry in a language is its preferred one.
+FIRST = """
+UPDATE label SET kind = 1 WHERE vocabulary = ? AND EXISTS (
+  SELECT 1 FROM label AS before WHERE before.entry = label.entry AND before.tag = label.tag AND before.id < label.id)
+"""
+# What became of each entry. (An entry that was none before the dump, and is no concept in it, isn't one.)
+ENDS = (
+    "DELETE FROM label WHERE entry IN (SELECT entry FROM other)",
+    "DELETE FROM entry WHERE id > :last AND id IN (SELECT entry FROM other)",
+    "CREATE INDEX temp.gone_entry ON gone (entry)",
+    f"""
+UPDATE entry SET
+  state = CASE WHEN EXISTS (SELECT 1 FROM gone WHERE gone.entry = id) THEN {DEPRECATED}
+    WHEN EXISTS (SELECT 1 FROM label WHERE label.entry = entry.id) THEN {CURRENT} ELSE {ABSENT} END,
+  replaced = (SELECT max(replaced) FROM gone WHERE gone.entry = id),
+  note = coalesce((SELECT text FROM note WHERE note.entry = id), '')
+WHERE vocabulary = :vocabulary
+""",
+    "INSERT INTO label_words (label_words) VALUES ('rebuild')",
+)
 
 
 @dataclass
@@ -37,26 +71,35 @@ class Load:
 
     rows: sqlite3.Connection
     vocabulary: int
-    # The entries by their IRIs, those that an earlier dump had among them; and the IRIs that this one has.
-    numbers: dict[str, int]
-    first: int
-    seen: set[int] = field(default_factory=set)
-    others: set[int] = field(default_factory=set)
-    gone: dict[int, str | None] = field(default_factory=dict)
-    notes: dict[int, str] = field(default_factory=dict)
-    labels: list[tuple[object, ...]] = field(default_factory=list)
-    links: list[tuple[int, int]] = field(default_factory=list)
-    nodes: list[tuple[int, str, int]] = field(default_factory=list)
-    forms: list[tuple[str, str, str]] = field(default_factory=list)
+    # The last number of an entry before it.
+    last: int
+    numbers: dict[str, int] = field(default_factory=dict)
+    # What is still to be written, by the tables.
+    waiting: dict[str, list[tuple[object, ...]]] = field(default_factory=lambda: {it: [] for it in INSERTS})
+    has_terms: bool = False
 
     def number(self, iri: str) -> int:
         """Returns the number of an entry: the one that it had, or a new one."""
-        return self.numbers.setdefault(iri, self.first + len(self.numbers))
+        if (found := self.numbers.get(iri)) is None:
+            found = self.look_up(iri)
+            if len(self.numbers) >= REMEMBERED:
+                self.numbers.clear()
+            self.numbers[iri] = found
+        return found
+
+    def look_up(self, iri: str) -> int:
+        """Returns the number of an entry of the file, which is made if there is none."""
+        key = (iri, self.vocabulary)
+        if found := self.rows.execute("SELECT id FROM entry WHERE iri = ? AND vocabulary = ?", key).fetchone():
+            return int(found[0])
+        made = self.rows.execute(
+            "INSERT INTO entry (iri, vocabulary, state, note) VALUES (?, ?, ?, '') RETURNING id", (*key, ABSENT)
+        )
+        return int(made.fetchone()[0])
 
     def take(self, facts: Iterable[Fact]) -> None:
         """Takes what a dump says."""
-        takers = {it: getattr(self, f"take_{it}") for it in ("label", "above", "note", "gone", "replaced", "other")}
-        takers |= {"node": self.take_node, "form": self.take_form}
+        takers = {it: getattr(self, f"take_{it}") for it in (*INSERTS, "term", "replaced")}
         for place, fact in enumerate(facts, 1):
             takers[fact.what](fact)
             if place % PART == 0:
@@ -64,90 +107,73 @@ class Load:
 
     def take_label(self, fact: Fact) -> None:
         """Takes a label."""
-        number = self.number(fact.of)
-        self.seen.add(number)
-        self.add_label(number, fact.kind, fact.tag, fact.text)
+        self.add_label(self.number(fact.of), fact.kind, fact.tag, fact.text)
+
+    def take_term(self, fact: Fact) -> None:
+        """Takes a label whose kind is known by its place."""
+        self.has_terms = True
+        self.take_label(fact)
 
     def add_label(self, number: int, kind: int, tag: str, text: str) -> None:
         """Adds a label of an entry, with what it is found by."""
         folded, tag = quick_fold(text), tag.lower()
         found = folded, len(folded), folded[::-1], stems_of(folded, tag)
-        self.labels.append((number, self.vocabulary, kind, tag, text, *found))
+        self.waiting["label"].append((number, self.vocabulary, kind, tag, text, *found))
 
     def take_above(self, fact: Fact) -> None:
         """Takes a link to what is broader."""
-        self.links.append((self.number(fact.of), self.number(fact.text)))
+        self.waiting["above"].append((self.number(fact.of), self.number(fact.text)))
 
     def take_note(self, fact: Fact) -> None:
         """Takes the first note."""
-        self.notes.setdefault(self.number(fact.of), fact.text)
+        self.waiting["note"].append((self.number(fact.of), fact.text))
 
     def take_gone(self, fact: Fact) -> None:
         """Takes that an entry is deprecated."""
-        self.gone.setdefault(self.number(fact.of), None)
+        self.waiting["gone"].append((self.number(fact.of), None))
 
     def take_replaced(self, fact: Fact) -> None:
         """Takes by what an entry is replaced."""
-        self.gone[self.number(fact.of)] = fact.text
+        self.waiting["gone"].append((self.number(fact.of), fact.text))
 
     def take_other(self, fact: Fact) -> None:
         """Takes that something is no concept."""
-        self.others.add(self.number(fact.of))
+        self.waiting["other"].append((self.number(fact.of),))
 
     def take_node(self, fact: Fact) -> None:
         """Takes that a node is a label."""
-        self.nodes.append((self.number(fact.of), fact.text, fact.kind))
+        self.waiting["node"].append((self.number(fact.of), fact.text, fact.kind))
 
     def take_form(self, fact: Fact) -> None:
         """Takes the text of a node."""
-        self.forms.append((fact.of, fact.tag, fact.text))
+        self.waiting["form"].append((fact.of, fact.tag, fact.text))
 
     def write(self) -> None:
         """Writes what was taken."""
-        columns = "entry, vocabulary, kind, tag, text, folded, size, back, stems"
-        self.rows.executemany(f"INSERT INTO label ({columns}) VALUES (?, ?, ?, ?, ?, ?, ?, ?, ?)", self.labels)
-        self.rows.executemany("INSERT OR IGNORE INTO above VALUES (?, ?)", self.links)
-        self.rows.executemany("INSERT INTO node VALUES (?, ?, ?)", self.nodes)
-        self.rows.executemany("INSERT INTO form VALUES (?, ?, ?)", self.forms)
-        self.labels, self.links, self.nodes, self.forms = [], [], [], []
+        for table, rows in self.waiting.items():
+            self.rows.executemany(INSERTS[table], rows)
+            rows.clear()
 
     def finish(self) -> None:
         """Writes the rest: labels that are nodes, and what became of each entry."""
         self.write()
         self.rows.execute("CREATE INDEX temp.node_node ON node (node)")
-        for number, kind, tag, text in self.rows.execute(JOINED).fetchall():
-            self.seen.add(number)
+        for place, (number, kind, tag, text) in enumerate(self.rows.execute(JOINED), 1):
             self.add_label(number, kind, tag, text)
+            if place % PART == 0:
+                self.write()
         self.write()
-        self.rows.executemany("DELETE FROM label WHERE entry = ?", [(it,) for it in self.others])
-        self.seen -= self.others
-        self.rows.executemany(
-            "INSERT INTO entry VALUES (?, ?, ?, ?, ?, ?) ON CONFLICT DO UPDATE SET state = excluded.state,"
-            " replaced = excluded.replaced, note = excluded.note",
-            (
-                (it, self.vocabulary, iri, self.state(it), self.gone.get(it), self.notes.get(it, ""))
-                for iri, it in self.numbers.items()
-                if it not in self.others
-            ),
-        )
-        self.rows.execute("INSERT INTO label_words (label_words) VALUES ('rebuild')")
-
-    def state(self, number: int) -> int:
-        """Returns what became of an entry."""
-        return (
-            ABSENT
-            if number not in self.seen and number not in self.gone
-            else DEPRECATED
-            if number in self.gone
-            else CURRENT
-        )
+        if self.has_terms:
+            self.rows.execute(FIRST, (self.vocabulary,))
+        for statement in ENDS:
+            self.rows.execute(statement, {"last": self.last, "vocabulary": self.vocabulary})
 
 
 def load_dump(rows: sqlite3.Connection, name: str, path: Path, file: str = "") -> LoadReport:
     """Loads a dump as a vocabulary in place of the one of that name; `file` is what it is called. Raises ToolError."""
     bad = BadLines()
     try:
-        rows.executescript(NODES)
+        rows.executescript(TEMPORARY)
         rows.execute("BEGIN IMMEDIATE")
     except sqlite3.OperationalError:
         raise ToolError("another vocabulary is being loaded: try again when it is done") from None
@@ -155,7 +181,7 @@ def load_dump(rows: sqlite3.Connection, name: str, path: Path, file: str = "") -
         load = begin_load(rows, name)
         load.take(read_dump(path, bad))
         load.finish()
-        loaded = LoadReport(len(load.seen), count_labels(rows, load.vocabulary), bad)
+        loaded = LoadReport(*count_entries(rows, load.vocabulary), bad)
         if not loaded.labels:
             raise ToolError(f"{path}: it has no labels of concepts ({bad.count} lines can't be read)")
         note_load(rows, load.vocabulary, file or path.name, loaded)
@@ -172,17 +198,18 @@ def begin_load(rows: sqlite3.Connection, name: str) -> Load:
     rows.execute("INSERT OR IGNORE INTO vocabulary VALUES (NULL, ?, '', '', 0, 0, 0)", (name,))
     (vocabulary,) = rows.execute("SELECT id FROM vocabulary WHERE name = ?", (name,)).fetchone()
     its = "SELECT id FROM entry WHERE vocabulary = ?"
-    numbers = dict(rows.execute("SELECT iri, id FROM entry WHERE vocabulary = ?", (vocabulary,)).fetchall())
     rows.execute(f"DELETE FROM above WHERE entry IN ({its})", (vocabulary,))
     rows.execute("DELETE FROM label WHERE vocabulary = ?", (vocabulary,))
     rows.execute("DELETE FROM bad_line WHERE vocabulary = ?", (vocabulary,))
     (last,) = rows.execute("SELECT coalesce(max(id), 0) FROM entry").fetchone()
-    return Load(rows, vocabulary, numbers, last + 1 - len(numbers))
+    return Load(rows, vocabulary, last)
 
 
-def count_labels(rows: sqlite3.Connection, vocabulary: int) -> int:
-    """Returns the number of labels of a vocabulary."""
-    return int(rows.execute("SELECT count(*) FROM label WHERE vocabulary = ?", (vocabulary,)).fetchone()[0])
+def count_entries(rows: sqlite3.Connection, vocabulary: int) -> tuple[int, int]:
+    """Returns the number of entries of a vocabulary that have labels, and that of these."""
+    counted = "SELECT count(DISTINCT entry), count(*) FROM label WHERE vocabulary = ?"
+    entries, labels = rows.execute(counted, (vocabulary,)).fetchone()
+    return entries, labels
 
 
 def note_load(rows: sqlite3.Connection, vocabulary: int, file: str, loaded: LoadReport) -> None:

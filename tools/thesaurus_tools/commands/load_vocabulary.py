@@ -1,8 +1,9 @@
 """Loads the dump of another publisher's vocabulary into the file that a desk has beside its store, for its mappings.
 
-The dump is SKOS as N-Triples or N-Quads (to 2 gigabytes), in another form of RDF (to 256 megabytes, read by rdflib), or
-CSV with the columns iri, label, lang, broader; each may be packed by gzip. A newer dump takes the place of the one of
-the same name, and what it no longer has is remembered. The desk may run meanwhile.
+The dump is SKOS as N-Triples, N-Quads, RDF/XML (by rapper, of Debian's raptor2-utils) or Turtle (by serdi), to 2
+gigabytes; or in JSON-LD or N3, to 256 megabytes (by rdflib, which also stands in for these programs); or CSV with the
+columns iri, label, lang, broader. Each may be packed by gzip. A newer dump takes the place of the one of the same name,
+and what it no longer has is remembered. The desk may run meanwhile.
 
   tools/load-vocabulary aat.nt.gz --name AAT --db museum.db
   tools/load-vocabulary --remove AAT --db museum.db
@@ -37,7 +38,7 @@ def load(given: argparse.Namespace) -> int:
             return say(TOOL, f"{given.remove} is removed")
         found = load_dump(rows, given.name, given.dump, given.called)
     for line, text in found.bad.first[:SHOWN]:
-        say(TOOL, f"{given.dump}:{line}: not read: {text}")
+        say(TOOL, f"{given.dump}{f':{line}' if line else ''}: not read: {text}")
     return say(
         TOOL,
         f"{given.name}: {found.entries} concepts with {found.labels} labels; {found.bad.count} lines can't be read",
