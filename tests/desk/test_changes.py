@@ -242,14 +242,31 @@ def test_how_a_concept_ended_is_looked_up_once_for_a_page(
         assert "Fine fiddles" in text_of(anna.get(path)) and asked == [source], path
 
 
-def test_what_takes_a_merge_back_is_shown_first(site: Site, anna: Client) -> None:
+def test_a_merge_is_taken_back_at_once(site: Site, anna: Client) -> None:
+    """It is said that the concept has another number; what can't be as it was is shown first."""
     source, target = number(site, "Fiddles"), number(site, "Violins")
     plan = perform(site, {"do": "merge", "source": source, "target": target}, user="anna")
-    page = anna.get(f"/c/{target}?done={plan}").text
-    assert f'<a class="button" href="/changes/{plan}/back?next=/c/{target}%3Fdone%3D{plan}">Undo</a>' in page
-    assert f'action="/changes/{plan}/back"' not in page
+    for page in (anna.get(f"/c/{target}?done={plan}").text, anna.get("/changes").text):
+        assert f'action="/changes/{plan}/back"' in page and 'name="at_once"' in page
+    answer = anna.post(f"/changes/{plan}/back", {"at_once": "1"})
+    back = answer.headers["Location"].partition("?")[0]
+    assert answer.status_code == 303 and back not in (f"/c/{source}", f"/c/{target}")
+    page = text_of(anna.get(answer.headers["Location"]))
+    assert "The concept comes back under a new identifier and URI. Fiddles" in " ".join(page.split())
+    # (its preferred term is another concept's by now)
+    plan = perform(site, {"do": "merge", "source": int(back.removeprefix("/c/")), "target": target}, user="anna")
+    taken = {"do": "concept", "scheme": site.desk.replica.numbers("scheme")[0], "tag": "de", "text": "Fiedeln"}
+    perform(site, taken, user="anna")
+    answer = anna.post(f"/changes/{plan}/back", {"at_once": "1"})
+    assert answer.status_code == 409 and "See what stays" in text_of(answer), text_of(answer)
+    assert anna.post(f"/changes/{plan}/back", {"form": "back"}).status_code == 303
+
+
+def test_what_others_changed_since_is_shown_first(site: Site, anna: Client) -> None:
     plan = perform(site, label(site, "Fine violins"), user="anna")
-    assert f'action="/changes/{plan}/back"' in anna.get(f"/c/{target}?done={plan}").text
+    perform(site, {**label(site, "Fine violins"), "do": "dropLabel"})
+    answer = anna.post(f"/changes/{plan}/back", {"at_once": "1"})
+    assert answer.status_code == 409 and "The same was changed again" in text_of(answer)
 
 
 def test_a_merge_is_left_before_the_other_concept_is_chosen(site: Site, anna: Client) -> None:

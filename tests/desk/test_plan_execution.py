@@ -10,6 +10,7 @@ import pytest
 from asking import assert_as_store, done, label, link, new, number, post, view
 from thesaurus_desk.store.changes import Change
 from thesaurus_desk.store.plan_execution import Desk, LONGEST_PLAN
+from thesaurus_desk.store.undo_run import undo_run
 from whole import postings, resources
 
 IRI = "http://www.wikidata.org/entity/Q1467960"
@@ -75,7 +76,7 @@ def test_terms_are_swapped(desk: Desk) -> None:
     plan = desk.journal.plan(outcome.plan or 0)
     assert plan is not None
     back = desk.take_back(plan)
-    assert desk.perform_take_back("ben", back).is_done
+    assert undo_run(desk, "ben", back).perform_rest().is_done
     assert ("en", "Violins") in view(desk, violins).pref and ("en", "Fiddles of old") in view(desk, violins).alt
     assert_as_store(desk)
 
@@ -95,7 +96,7 @@ def test_long_plans(desk: Desk) -> None:
     assert [it.first for it in plans] == [outcome.plan, outcome.plan, None]
     back = desk.take_back(plans[0])
     assert back.plan.id == outcome.plan and len(back.requests) == len(requests) and not back.later
-    assert desk.perform_take_back("ben", back).is_done and view(desk, violins).postings == before
+    assert undo_run(desk, "ben", back).perform_rest().is_done and view(desk, violins).postings == before
     assert all(it.taken_back_by for it in desk.journal.parts(plans[0]))
     requests[LONGEST_PLAN + 4] = post("long-0", violins, "Another record")
     requests[:LONGEST_PLAN] = [post(f"longer-{it}", violins) for it in range(LONGEST_PLAN)]

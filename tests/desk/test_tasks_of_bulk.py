@@ -75,7 +75,7 @@ def test_a_branch_moves(hand: Hand) -> None:
     assert hand.clicks == 6
     hand.press(SAY("shell.changes"))
     hand.sees("6 concepts: move below Drums")
-    hand.press(SAY("changes.back"))
+    hand.press(SAY("changes.back_look"))
     hand.sees("Violas")
     hand.press(SAY("changes.back"))
     hand.open("/c/4")

@@ -24,7 +24,7 @@ WAYS = ("keyboard", "mouse", "narrow")
 ENTITY = "http://www.wikidata.org/entity/"
 # The clicks that these tasks once took: of a find, a mapping, a record (keys), who changed what,
 # a merge and a batch that are taken back, a round of quality. A test says if one takes more than half of them.
-FIND, MAP, KEYS, WHO, BACK, QUALITY = 3, 5, 50, 5, 3 + 54, 2
+FIND, MAP, KEYS, WHO, MERGE_BACK, BATCH_BACK, QUALITY = 3, 5, 50, 5, 3, 54, 2
 # Concepts of the sample.
 BOWED, VIOLINS, HARPS, FIDDLES = 4, 5, 11, 31
 # How an item of Wikidata is copied, and its number.
@@ -273,8 +273,6 @@ def test_17_an_indexer_corrects_and_takes_it_back(hand: Hand) -> None:
             hand.press(SAY("shell.changes"))
             hand.sees("Harp 7: no longer indexed with Violins")
             hand.press(SAY("changes.back"))
-            hand.sees(SAY("changes.what"))
-            hand.press(SAY("changes.back"))
             hand.open("/record?name=Harp%207")
         else:
             hand.press(SAY("shell.take_back"))
@@ -359,13 +357,12 @@ def test_20_who_changed_what_last_week_and_since_the_first(aged: Desk, hand: Han
 
 
 def test_21_yesterdays_merge_is_taken_back(aged: Desk, hand: Hand) -> None:
-    """The concept is there again, with its records; its number is another one, which is said before."""
+    """The concept is there again, with its records; its number is another one, which is said."""
     come_in_as(hand, "anna").clicks = 0
     hand.press(SAY("changes.back"))
     hand.sees(said("changes.remark.new_number"))
-    hand.press(SAY("changes.back"))
     hand.sees(SAY("concept.n_records", n=33))
-    takes_half(hand, BACK)
+    takes_half(hand, MERGE_BACK)
     assert hand.number() > FIDDLES
     search(hand, "Violins")
     hand.is_at(f"/c/{VIOLINS}")
@@ -385,11 +382,11 @@ def test_21_a_batch_of_20_rows_is_taken_back_as_one(hand: Hand, tmp_path: Path) 
     hand.clicks = 0
     hand.press(SAY("shell.changes"))
     hand.sees(SAY("changes.table", name="terms.csv", n=40))
-    hand.press(SAY("changes.back"))
+    hand.press(SAY("changes.back_look"))
     hand.sees("Lyre 07")
     hand.press(SAY("changes.back"))
     hand.sees(SAY("concept.taken_back"))
-    takes_half(hand, BACK)
+    takes_half(hand, BATCH_BACK)
     search(hand, "Lyre 07")
     hand.sees(SAY("find.dead"))
     hand.open(f"/c/{HARPS}")

@@ -77,7 +77,6 @@ def test_merge_with_a_definition_and_undo_it(hand: Hand) -> None:
     hand.is_at("/c/3")
     hand.sees("A bowed instrument of folk music.")
     hand.press("Undo")
-    hand.press("Undo")
     hand.open("/c/3")
     assert "A bowed instrument of folk music." not in hand.text().partition("History")[0]
 

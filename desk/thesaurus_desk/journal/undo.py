@@ -41,6 +41,8 @@ class TakeBack:
 
     plan: Plan
     requests: list[Request] = field(default_factory=list)
+    # At how many of them what undoes a part of the plan is complete.
+    ends: list[int] = field(default_factory=list)
     remarks: list[Remark] = field(default_factory=list)
     # Plans since that changed the same.
     later: list[Plan] = field(default_factory=list)
@@ -400,6 +402,7 @@ def take_back(
             for step in reversed(plan.steps):
                 if step.state == "done":
                     builder.take_back(step)
+            builder.made.ends.append(len(builder.made.requests))
         builder.rename_lists()
         made = builder.made
         made.in_use = tuple(concepts_in_use(replica, made.requests))

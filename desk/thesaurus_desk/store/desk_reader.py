@@ -64,8 +64,7 @@ class DeskReader:
         return self.public if self.public.is_reading or self.replica.hides else self.replica
 
     def take_back(self, plan: Plan, label: tuple[str, str] | None = None) -> TakeBack:
-        """Returns what would take a plan back now, with the other parts of a long one; `perform_take_back` performs
-        it."""
+        """Returns what would take a plan back now, with the other parts of a long one; `undo_run` performs it."""
         return take_back(self.journal, self.replica, self.journal.parts(plan), label)
 
 

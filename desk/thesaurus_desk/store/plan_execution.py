@@ -8,12 +8,10 @@ from collections.abc import Iterable, Iterator, Sequence
 
 from thesaurus_desk.importing.posting_files import PostingImport, bring_in
 from thesaurus_desk.journal import Acceptance, Answer, Batch, Draft, Plan, Request, Step
-from thesaurus_desk.journal.batches import pack
 from thesaurus_desk.journal.recovery import changed_by, mark_steps
 from thesaurus_desk.journal.references import resolve_request
 from thesaurus_desk.journal.schema import fault_of
 from thesaurus_desk.journal.term_sources import TermSources
-from thesaurus_desk.journal.undo import TakeBack
 from thesaurus_desk.journal.value_rules import ValueRules
 from thesaurus_desk.store.changes import Change
 from thesaurus_desk.store.open_store import OpenStore
@@ -24,8 +22,6 @@ from thesaurus_desk.store.trial import note_destroyed, try_steps
 from thesaurus_tools.command_line import ToolError
 
 log = logging.getLogger("desk")
-# The action of a plan that takes another one back.
-TAKE_BACK = "take back"
 # The action of a plan that imports a vocabulary: it says itself what becomes of the sources of terms.
 WHOLE = "skos"
 
@@ -257,36 +253,6 @@ class Desk(OpenStore):
         except (NoAnswer, TooLong):
             return {}
 
-    def perform_take_back(self, user: str, back: TakeBack) -> Outcome:
-        """Takes a plan back: all that can be, as one if it isn't too long. What is cut short then says so, and goes
-        on."""
-        plan, requests = back.plan.id, back.requests
-        if len(requests) <= LONGEST_PLAN:
-            return self.perform(user, TAKE_BACK, requests, takes_back=plan)
-        return self.take_back_in_parts(user, plan, Batch("", "", len(requests), pack(requests)), requests)
-
-    def go_on_taking_back(self, user: str, batch: Batch, requests: Sequence[Request]) -> Outcome:
-        """Takes the rest of a plan back, where that was cut short; `requests` are those for all of it."""
-        first = self.journal.plan(batch.plan or 0)
-        if first is None or first.takes_back is None:
-            raise ValueError(f"plan {batch.plan} takes no plan back")
-        self.batches.begin(first.id)
-        done = self.batches.done(batch)
-        rest = requests[len(done) :]
-        numbers = [(it.answer or {}).get("ok") for it in done]
-        names = [*numbers, *(f"${place}" for place in range(1, len(rest) + 1))]
-        return self.take_back_in_parts(user, first.takes_back, batch, [resolve_request(it, names) for it in rest])
-
-    def take_back_in_parts(self, user: str, plan: int, batch: Batch, requests: Sequence[Request]) -> Outcome:
-        """Performs requests that take a plan back, as one entry of the journal."""
-        try:
-            outcome = self.perform(user, TAKE_BACK, requests, takes_back=plan, may_cut=True, batch=batch)
-            if outcome.is_done:
-                self.batches.end(batch)
-            return outcome
-        finally:
-            self.batches.left(batch)
-
     def bring_in(self, user: str, rows: bytes, name: str) -> PostingImport:
         """Imports a posting file. Pages are there meanwhile; other changes wait."""
         with self.alone() as is_free:
@@ -296,4 +262,4 @@ class Desk(OpenStore):
                 return bring_in(self, user, rows, name)
 
 
-__all__ = ["PostingImport", "Desk", "Outcome", "TakeBack"]
+__all__ = ["PostingImport", "Desk", "Outcome"]

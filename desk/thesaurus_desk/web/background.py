@@ -12,7 +12,9 @@ from flask import Flask, current_app, g, redirect
 
 from thesaurus_desk.importing.row_trial import NoTrial
 from thesaurus_desk.store.run_threads import Progress, RunStop
+from thesaurus_desk.store.undo_run import UndoStopped
 from thesaurus_desk.web.context import begin_transaction, end_transaction, person, say, the_desk
+from thesaurus_desk.web.journal_text import tell_outcome
 from thesaurus_desk.web.paths import path_to
 from thesaurus_tools.table_plans import NewConceptsError
 
@@ -81,5 +83,7 @@ def reason_of(error: Exception) -> str:
         return say("bring_in.new_concepts")
     if isinstance(error, NoTrial):
         return say(f"refusals.{error.fault}.text")
+    if isinstance(error, UndoStopped):
+        return tell_outcome(error.outcome).striptags()
     log.error("what was done beside the pages failed", exc_info=error)
     return say("errors.500.title")

@@ -273,13 +273,18 @@ def own_path(path: str | None) -> str:
 
 def go(path: str, done: int | None = None) -> Response:
     """Returns a redirection to a page after a change; it first says what the plan `done` did."""
-    if done is not None:
-        head, hash_mark, part = path.partition("#")
-        # (a page may have said what an earlier plan did)
-        before, _, query = head.partition("?")
-        fields = [it for it in query.split("&") if it and not it.startswith("done=")]
-        path = f"{before}?{'&'.join([*fields, urlencode({'done': done})])}{hash_mark}{part}"
-    return redirect(path, 303)
+    return redirect(path_that_tells(path, done), 303)
+
+
+def path_that_tells(path: str, done: int | None) -> str:
+    """Returns the address of a page that first says what a plan did."""
+    if done is None:
+        return path
+    head, hash_mark, part = path.partition("#")
+    # (a page may have said what an earlier plan did)
+    before, _, query = head.partition("?")
+    fields = [it for it in query.split("&") if it and not it.startswith("done=")]
+    return f"{before}?{'&'.join([*fields, urlencode({'done': done})])}{hash_mark}{part}"
 
 
 def page_number() -> int:

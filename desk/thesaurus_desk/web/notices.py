@@ -6,7 +6,8 @@ from dataclasses import dataclass
 from flask import request, url_for
 from markupsafe import Markup, escape
 
-from thesaurus_desk.journal import Step
+from thesaurus_desk.journal import Plan, Step
+from thesaurus_desk.journal.history import ENDING
 from thesaurus_desk.store.model import View
 from thesaurus_desk.store.text_keys import fold
 from thesaurus_desk.web.context import link, person, say, tags, the_desk, the_entry, the_replica, words
@@ -27,10 +28,8 @@ class Notice:
     told: PlanText
     more: int
     take_back: str
-    # Whether what takes it back is shown first: a concept comes back under another number.
-    is_shown_first: bool
-    # Of each term that it gave to a concept, which others have it, too.
-    elsewhere: list[Markup]
+    # Which concepts came back under other numbers; and of each term that it gave to a concept, which others have it.
+    remarks: list[Markup]
 
 
 def notice_of_plan() -> Notice | None:
@@ -42,11 +41,19 @@ def notice_of_plan() -> Notice | None:
     if plan is None or person().name not in (plan.user, plan.proposer):
         return None
     path = url_for("changes.take_back", number=plan.id) if has_take_back(plan) else ""
-    is_shown_first = any(it.request["do"] in ("merge", "deprecate") for it in plan.steps)
+    remarks = concepts_back(plan)
     more = max(0, len(plan.steps) - MOST_STEPS)
     plan.steps = plan.steps[:MOST_STEPS]
-    found = [terms_elsewhere(it) for it in plan.steps if it.state == "done"]
-    return Notice(tell_plan(plan), more, path, is_shown_first, [it for it in found if it])
+    remarks += [terms_elsewhere(it) for it in plan.steps if it.state == "done"]
+    return Notice(tell_plan(plan), more, path, [it for it in remarks if it])
+
+
+def concepts_back(plan: Plan) -> list[Markup]:
+    """Returns which concepts came back under other numbers by a plan that has taken another one back."""
+    undone = the_desk().journal.plan(plan.takes_back) if plan.takes_back else None
+    steps = undone.steps if undone and plan.state == "done" else []
+    ended = [it.request[ENDING[it.request["do"]]] for it in steps if it.request["do"] in ENDING]
+    return [escape(say("changes.remark.new_number", about=link(it))) for it in ended[:MOST_STEPS]]
 
 
 def terms_elsewhere(step: Step) -> Markup:

@@ -3,7 +3,6 @@ from __future__ import annotations
 
 from collections.abc import Iterable, Mapping
 from datetime import datetime, timedelta
-from functools import partial
 from typing import Any
 from urllib.parse import urlencode
 
@@ -14,6 +13,9 @@ from thesaurus_desk.auth.route_roles import role
 from thesaurus_desk.clock import span_of
 from thesaurus_desk.journal import Filter, Plan, Step
 from thesaurus_desk.journal.undo import Remark, TakeBack
+from thesaurus_desk.store.plan_outcome import Outcome
+from thesaurus_desk.store.program import LONGEST_PLAN
+from thesaurus_desk.store.undo_run import UndoRun, undo_run
 from thesaurus_desk.web.context import go, own_path, page_number, person, say, the_desk, the_replica, the_rights, words
 from thesaurus_desk.web.forms import FormState, Problem
 from thesaurus_desk.web.journal_text import LINKS, tell_outcome, tell_plan, tell_plans
@@ -21,6 +23,7 @@ from thesaurus_desk.web.list_forms import in_other_form
 from thesaurus_desk.web.paths import concept_path, path_to
 from thesaurus_desk.web.request_text import sentence_of
 from thesaurus_desk.web.spreadsheets import sheet_of_rows
+from thesaurus_desk.web.undo_pages import show_undo
 
 pages = Blueprint("changes", __name__)
 PAGE = 50
@@ -45,6 +48,8 @@ KINDS = {
     "records": ("post", "withdraw", "import"),
     "values": ("set",),
 }
+# After these, though not all is as it was, no look is needed before: a concept has another number, or has ended.
+USUAL = ("new number", "dead")
 # The requests that nothing takes back.
 STAYING = ("scheme", "collection", "outside")
 
@@ -240,36 +245,53 @@ def take_back(number: int) -> Any:
     """Takes a plan back, as far as that can be, in one plan."""
     with the_desk().alone() as is_free:
         # (whoever presses the button twice waits here, and finds that it was taken back)
-        return take_back_now(whole_or_404(number), is_free)
+        begun = begin_taking_back(whole_or_404(number), is_free)
+    if not isinstance(begun, UndoRun):
+        return begun
+    path = concept_path(begun.outcome.made) if makes_concept(begun) else next_path()
+    return show_undo(begun, path, lambda it: refusal_of(number, it))
 
 
-def take_back_now(plan: Plan, is_free: bool) -> Any:
-    """Takes a plan back unless something else took too long, and shows what came of it."""
+def refusal_of(number: int, outcome: Outcome) -> Any:
+    """Returns the page on which a plan is taken back, with why a part of that wasn't done."""
+    plan = whole_or_404(number)
+    return refusal_page(plan, the_desk().take_back(plan), "", tell_outcome(outcome))
+
+
+def begin_taking_back(plan: Plan, is_free: bool) -> Any:
+    """Takes a plan back, or the first part of a long one, unless something else took too long. Returns what came of
+    that, or a page that shows why it isn't done."""
     if plan.taken_back_by:
         return go(next_path(), plan.taken_back_by)
     tag, text = request.form.get("tag", "").strip().lower(), " ".join(request.form.get("text", "").split())
     back = the_desk().take_back(plan, (tag, text) if text else None)
     if not may_take_back(plan, back):
         return back_page(plan, back, FormState(), 403)
-    again = partial(refusal_page, plan, back)
-    if not is_free:
-        return again("", say("refusals.Busy.text"))
+    if problem := problem_of(back, is_free, bool(text)):
+        return refusal_page(plan, back, *problem)
+    run = undo_run(the_desk(), person().name, back)
+    run.perform_part()
+    return run if run.outcome.is_done else refusal_page(plan, back, "", tell_outcome(run.outcome))
+
+
+def problem_of(back: TakeBack, is_free: bool, has_label: bool) -> tuple[str, Any] | None:
+    """Returns why a plan isn't taken back as it was asked for: the field of the form, and the text."""
+    if not is_free or len(back.requests) > LONGEST_PLAN and the_desk().threads.is_full:
+        return "", say("refusals.Busy.text")
     if back.is_too_long:
-        return again("", say("changes.too_long"))
+        return "", say("changes.too_long")
     if back.has_later_parts:
-        return again("", say("changes.later_parts"))
+        return "", say("changes.later_parts")
     if back.in_use:
         concepts = Markup(", ").join(map(LINKS.link, back.in_use[:MOST_NAMED]))
-        return again("", say("changes.in_use", n=len(back.in_use), concepts=concepts))
-    if any(it.id > last_seen(plan) for it in back.later):
-        return again("", say("changes.look_first"))
-    if not back.requests or back.needs_label and not text:
-        field, key = ("text", "choose_label") if back.requests else ("", "nothing")
-        return again(field, say(f"changes.{key}"))
-    outcome = the_desk().perform_take_back(person().name, back)
-    if not outcome.is_done:
-        return again("", tell_outcome(outcome))
-    return go(concept_path(outcome.made) if makes_concept(back) else next_path(), outcome.plan)
+        return "", say("changes.in_use", n=len(back.in_use), concepts=concepts)
+    if any(it.id > last_seen(back.plan) for it in back.later):
+        return "", say("changes.look_first")
+    if "at_once" in request.form and any(it.name not in USUAL for it in back.remarks):
+        return "", say("changes.look_at_rest")
+    if not back.requests:
+        return "", say("changes.nothing")
+    return ("text", say("changes.choose_label")) if back.needs_label and not has_label else None
 
 
 def last_seen(plan: Plan) -> int:
@@ -287,6 +309,6 @@ def next_path() -> str:
     return own_path(request.values.get("next") or path_to("changes.changes"))
 
 
-def makes_concept(back: TakeBack) -> bool:
-    """Whether a concept comes back under another number."""
-    return any(it["do"] in ("concept", "split") for it in back.requests)
+def makes_concept(run: UndoRun) -> bool:
+    """Whether a concept comes back under another number by what is undone as one."""
+    return run.batch is None and any(it["do"] in ("concept", "split") for it in run.requests)

@@ -31,9 +31,9 @@ from thesaurus_desk.importing.vocabularies import (
     update_of,
     vocabulary_of,
 )
-from thesaurus_desk.journal.entries import Batch, Request
+from thesaurus_desk.journal.entries import Batch
 from thesaurus_desk.store.copies import StoreBusy
-from thesaurus_desk.store.plan_execution import TAKE_BACK
+from thesaurus_desk.store.undo_run import TAKE_BACK, rest_of_undo
 from thesaurus_desk.web.context import (
     go,
     may_act,
@@ -64,6 +64,7 @@ from thesaurus_desk.web.table_pages import (
     the_reader,
     the_uploads,
 )
+from thesaurus_desk.web.undo_pages import show_undo
 from thesaurus_tools.fields import table_fields
 from thesaurus_tools.files import TableError
 from thesaurus_tools.headings import ColumnsError
@@ -429,11 +430,7 @@ def go_on(plan: int) -> Any:
     return show_preview(run)
 
 
-def go_on_taking_back(batch: Batch, requests: list[Request]) -> Any:
+def go_on_taking_back(batch: Batch, kept: Any) -> Any:
     """Takes the rest of a long change back, and leads to the changes; or shows why that isn't done."""
-    outcome = the_desk().go_on_taking_back(person().name, batch, requests)
-    return (
-        go(path_to("changes.changes"), batch.plan)
-        if outcome.is_done
-        else refusal_answer("table", tell_outcome(outcome), "")
-    )
+    run = rest_of_undo(the_desk(), person().name, batch, kept)
+    return show_undo(run, path_to("changes.changes"), lambda it: refusal_answer("table", tell_outcome(it), ""))
