@@ -127,6 +127,7 @@ number,kind,label,lang,text,term,state
         "--langs",
         "de",
     ): "number,term,scope@en\n2,Strings,\n5,Bows,\n6,Folk instruments,\n10,Crème-brûlée Street,\n12,Viols,\n",
+    ("mappings",): "number,term,kind,iri,label\n3,Violins,exact,http://example.org/violin,\n",
     ("orphans",): "number,term\n10,Crème-brûlée Street\n12,Viols\n",
     (
         "tops",

@@ -41,7 +41,8 @@ def changed_links(then: Store, now: Store, langs: list[str]) -> Iterator[tuple]:
     """Yields the links that were added and dropped."""
     before, after = seen_links(then, now), seen_links(now, then)
     for link in sorted(before ^ after, key=link_order):
-        other = f"{link.b} {now.term(link.b, langs)}" if isinstance(link.b, int) else link.b
+        name = now.term(link.b, langs)
+        other = f"{link.b} {name}" if name != link.b else name
         yield f"link {'added' if link in after else 'dropped'}", link.a, f"{link.kind} {other}"
 
 

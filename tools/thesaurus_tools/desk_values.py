@@ -100,15 +100,25 @@ def place_rows(tables: sqlite3.Connection) -> Iterator[tuple[int, str, str]]:
                 yield owner, field, seen
 
 
+def names_elsewhere(tables: sqlite3.Connection) -> dict[str, list[tuple[str, str]]]:
+    """Returns what other publishers call concepts that are mapped to, by their IRIs: languages and labels."""
+    found: dict[str, list[tuple[str, str]]] = defaultdict(list)
+    if has_table(tables, "outside_name"):
+        for iri, tag, text in tables.execute("SELECT iri, tag, text FROM outside_name ORDER BY iri, tag"):
+            found[iri].append((tag, text))
+    return found
+
+
 def add_values(store: Store, journal: Path) -> None:
-    """Gives a store the fields that everybody may see, and their values, and the places of collections; and leaves out
-    the concepts that the public doesn't see."""
+    """Gives a store the fields that everybody may see, and their values, the places of collections, and the names of
+    concepts elsewhere; and leaves out the concepts that the public doesn't see."""
     found: dict[int, list[FieldValue]] = defaultdict(list)
     with open_journal(journal) as tables:
         leave_out(store, hidden_concepts(tables))
         store.fields = fields = public_fields(tables)
         for it in public_values(tables, fields):
             found[int(it.owner)].append(it)
+        store.names_elsewhere = names_elsewhere(tables)
         there = store.resources
         store.places = places_of_values(
             (it for it in place_rows(tables) if it[0] in there), lambda it: store.live_end(it) if it in there else None

@@ -9,11 +9,13 @@ from typing import Any
 from thesaurus_tools.arrays import node_label
 from thesaurus_tools.fields import DESCRIPTION, mark_of
 from thesaurus_tools.kinds import BROADER
-from thesaurus_tools.reports import walk_down
+from thesaurus_tools.reports import name_elsewhere, walk_down
 from thesaurus_tools.site_terms import words_of
 from thesaurus_tools.store import Resource, Store
 from thesaurus_tools.texts import sort_key
 
+# The marks of mappings, by their kinds (ISO 25964-2).
+MAPPED = {"exact": "=EQ", "close": "~EQ", "broad": "BM", "narrow": "NM", "relMatch": "RM"}
 TYPE_LETTERS = {"broaderGeneric": "G", "broaderPartitive": "P", "broaderInstantial": "I"}
 PARTS = ("alphabetical", "tree", "rotated")
 # The titles of the parts in the languages of the site.
@@ -145,6 +147,9 @@ class PrintPages:
                 yield f"NT{self.type_letters(low, number)}", self.terms[low]
         related = self.store.others(number, ["related"], at_a=True, at_b=True)
         yield from (("RT", self.terms[it]) for it in self.ordered(it for it in related if isinstance(it, int)))
+        for kind, mark in MAPPED.items():
+            ends = self.store.others(number, [kind], at_a=True)
+            yield from ((mark, name) for it in ends if (name := name_elsewhere(self.store, it, [self.lang])))
 
     def notations(self, number: int) -> str:
         """Returns the notations of a concept as HTML, each behind a space."""

@@ -11,8 +11,8 @@ from typing import NamedTuple
 from thesaurus_tools.changes import changes_since
 from thesaurus_tools.command_line import USAGE, ToolError
 from thesaurus_tools.fields import STANDARD
-from thesaurus_tools.kinds import BROADER, LABEL_KINDS
-from thesaurus_tools.store import Label, Resource, Store
+from thesaurus_tools.kinds import BROADER, LABEL_KINDS, MAPPINGS
+from thesaurus_tools.store import End, Label, Resource, Store
 from thesaurus_tools.store_options import open_file
 from thesaurus_tools.texts import fold, normalize
 
@@ -72,6 +72,23 @@ def missing(store: Store, given: argparse.Namespace) -> Table:
         column = f"{given.kind}@{given.lang}" if given.lang else given.kind
         return Table(("number", "term", column), ((*it, "") for it in rows))
     return Table(("number", "term"), rows)
+
+
+def mappings(store: Store, given: argparse.Namespace) -> Table:
+    """Mappings to concepts elsewhere, with what these are called as far as a desk knows that."""
+    rows = (
+        (it.number, store.term(it.number, given.langs), kind, end, name_elsewhere(store, end, given.langs))
+        for it in store.live_concepts()
+        for kind in MAPPINGS
+        for end in store.others(it.number, [kind], at_a=True)
+        if isinstance(end, str)
+    )
+    return Table(("number", "term", "kind", "iri", "label"), rows)
+
+
+def name_elsewhere(store: Store, iri: End, langs: Iterable[str]) -> str:
+    """Returns what a concept elsewhere is called, or nothing."""
+    return store.term(iri, langs) if isinstance(iri, str) and iri in store.names_elsewhere else ""
 
 
 def orphans(store: Store, given: argparse.Namespace) -> Table:
@@ -263,4 +280,4 @@ def changed(store: Store, given: argparse.Namespace) -> Table:
     return Table(("change", "number", "term", "detail"), rows())
 
 
-REPORTS = (find, missing, orphans, tops, path, below, duplicates, counts, record, records, moves, changed)
+REPORTS = (find, missing, mappings, orphans, tops, path, below, duplicates, counts, record, records, moves, changed)

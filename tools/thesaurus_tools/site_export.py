@@ -3,13 +3,13 @@ from __future__ import annotations
 
 import re
 from collections import Counter, defaultdict
-from collections.abc import Iterable
+from collections.abc import Iterable, Mapping, Sequence
 from dataclasses import dataclass, field
 from pathlib import Path
 
 from thesaurus_tools.arrays import Places, places_of_triples
 from thesaurus_tools.command_line import REFUSED, ToolError
-from thesaurus_tools.desk_values import hidden_concepts, open_journal, public_fields, public_values
+from thesaurus_tools.desk_values import hidden_concepts, names_elsewhere, open_journal, public_fields, public_values
 from thesaurus_tools.export_values import ExportFacts
 from thesaurus_tools.fields import Field, text_fields
 from thesaurus_tools.kinds import BROADER
@@ -92,12 +92,15 @@ class Thesaurus:
     # Where collections are.
     places: Places[str] = field(default_factory=lambda: Places({}, {}, {}))
     triples: list[Triple] = field(default_factory=list)
+    # What other publishers call concepts that are mapped to, by their IRIs: languages and labels.
+    names_elsewhere: Mapping[str, Sequence[tuple[str, str]]] = field(default_factory=dict)
 
     def take_values(self, journal: Path) -> None:
         """Takes up the values of fields that everybody may see, of the journal of the desk that has made the export."""
         by_number = {number_of_iri(iri): it for iri, it in self.resources.items()}
         with open_journal(journal) as tables:
             fields = text_fields(public_fields(tables))
+            self.names_elsewhere = names_elsewhere(tables)
             for value in public_values(tables, fields):
                 if (it := by_number.get(str(value.owner))) is not None:
                     it.take(fields[value.field], value)
@@ -113,6 +116,13 @@ class Thesaurus:
                 it.take(one.field, FieldValue(number, one.field.name, one.tag, one.text))
             if it.kind == "ConceptScheme" and facts.version:
                 it.labels["version"].append(("", facts.version))
+
+    def name_elsewhere(self, iri: str, langs: Iterable[str]) -> tuple[str, str]:
+        """Returns the language and the text of what another publisher calls a concept, in the first of some languages
+        that it has, or in any; else its IRI."""
+        names = dict(self.names_elsewhere.get(iri, ()))
+        tag = next((it for it in (*langs, *sorted(names)) if it in names), None)
+        return ("", iri) if tag is None else (tag, names[tag])
 
     def of_kind(self, kind: str) -> list[Resource]:
         return [it for it in self.resources.values() if it.kind == kind]

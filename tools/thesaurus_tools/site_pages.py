@@ -277,7 +277,9 @@ class Edition:
         yield from self.links(it, kind)
         for iri in it.links.get(kind, ()):
             if iri not in self.thesaurus.resources:
-                yield linked_text(iri)
+                tag, name = self.thesaurus.name_elsewhere(iri, self.order)
+                said = f' lang="{escape(tag)}"' if tag and tag != self.lang else ""
+                yield linked_text(iri, f"<span{said}>{escape(name)}</span>" if name != iri else "")
 
     def path_to(self, it: Resource) -> list[Resource]:
         """The concepts from a top one down to the one above, by the first broader term of each."""
@@ -529,7 +531,9 @@ class Edition:
         return sum(1 for _ in self.out.glob("*.html"))
 
 
-def linked_text(text: str) -> str:
-    """A text as HTML; an address as a link: one of another kind than http may be a script."""
+def linked_text(text: str, name: str = "") -> str:
+    """A text as HTML; an address as a link, which may have a name as HTML: one of another kind than http may be a
+    script."""
     is_address = re.fullmatch(r"https?://\S+", text) is not None
-    return f'<a href="{escape(text)}" rel="external">{escape(text)}</a>' if is_address else escape(text)
+    shown = name or escape(text)
+    return f'<a href="{escape(text)}" rel="external">{shown}</a>' if is_address else shown

@@ -112,6 +112,9 @@ class Store:
     # What a desk keeps beside the store, if that is read: its fields by their names, and the values of each resource.
     fields: Mapping[str, Field] = MappingProxyType({})
     values_of: Mapping[int, Sequence[FieldValue]] = MappingProxyType({})
+    # What other publishers call concepts that are mapped to, by their IRIs: languages and labels, as far as a desk has
+    # them.
+    names_elsewhere: Mapping[str, Sequence[tuple[str, str]]] = MappingProxyType({})
     # Where collections are, if that is read.
     places: Places[int] = no_places()
     # Whether the links have their types; `has_plain`: also the plain broader link beside a typed one.
@@ -235,8 +238,12 @@ class Store:
     def term(self, end: End | None, langs: Iterable[str] = ()) -> str:
         """Returns a preferred label in the first of the languages that has one, else in the main or any language; else
         the IRI or number."""
-        if end is None or isinstance(end, str):
-            return end or ""
-        texts = {it.tag: it.text for it in self.labels_of.get(end, ()) if it.kind == "pref"}
+        if end is None:
+            return ""
+        texts = dict(self.names_elsewhere.get(end, ())) if isinstance(end, str) else self.preferred_labels(end)
         tags = [it for it in (*langs, self.main_language, *sorted(texts)) if it in texts]
-        return texts[tags[0]] if tags else f"[{end}]"
+        return texts[tags[0]] if tags else end if isinstance(end, str) else f"[{end}]"
+
+    def preferred_labels(self, number: int) -> dict[str, str]:
+        """Returns the preferred labels of a resource by their languages."""
+        return {it.tag: it.text for it in self.labels_of.get(number, ()) if it.kind == "pref"}

@@ -17,6 +17,8 @@ from thesaurus_tools.values import as_in_cell, cell_of
 
 NUMBERED = ("number", "iri", "records")
 LINKED = (*BROADER, "narrower", "related", *MAPPINGS, "member")
+# Columns with the names of what is mapped to, which a table that comes back only shows, by the kinds of mappings.
+NAMES = {f"{it}Label": it for it in MAPPINGS}
 TURNED = {"broad": "narrow", "narrow": "broad"}
 # What an option says that writes cells as they are.
 RAW = "write cells as they are: without it, those that a spreadsheet would take for formulas have an apostrophe"
@@ -31,11 +33,11 @@ def read_column_names(text: str, fields: Fields) -> list[str]:
     for it in names:
         kind, _, tag = it.partition("@")
         is_value = kind in fields and is_tag(fields[kind], tag)
-        if not (it in NUMBERED or it in LINKED or kind in LABEL_KINDS and TAG.fullmatch(tag) or is_value):
+        if not (it in (*NUMBERED, *LINKED, *NAMES) or kind in LABEL_KINDS and TAG.fullmatch(tag) or is_value):
             if kind in STANDARD and not fields:
                 raise ToolError(f"{it} is kept by a desk: --journal FILE names its journal, --desk asks it", USAGE)
             values = (f"{name}@TAG" if field.tag == "language" else name for name, field in fields.items())
-            known = ", ".join((*NUMBERED, *(f"{kind}@TAG" for kind in LABEL_KINDS), *LINKED, *values))
+            known = ", ".join((*NUMBERED, *(f"{kind}@TAG" for kind in LABEL_KINDS), *LINKED, *NAMES, *values))
             raise ToolError(f"no column is called {it}: there are {known}", USAGE)
     return names
 
@@ -97,6 +99,8 @@ class TableWriter:
             return f"{self.store.base}{number}"
         if name == "records":
             return str(self.counts.get(number, 0))
+        if name in NAMES:
+            return JOINT.join(self.store.term(it, [self.lang]) for it in ends_of(self.store, number, NAMES[name]))
         kind, _, tag = name.partition("@")
         if kind in LABEL_KINDS:
             shown = shown_texts(self.store, number, kind, tag)

@@ -5,7 +5,8 @@ with a search; a tree that opens; the collections; and an edition to print, spli
 and reading needs no script. Beside each page is its RDF, as Turtle. With the address at which the site will be, pages
 name their own, and there is a list of them for search engines (sitemap.xml). SKOS has no types of broader terms: --db,
 --desk or --http reads them in the store that was exported. An export of a desk has definitions, notes and notations;
---journal adds these to one of the program, and the office's own fields. Old codes and old addresses of concepts are for
+--journal adds these to one of the program, and the office's own fields. Concepts elsewhere to which others are mapped
+have the names that the desk of --desk or --journal knows. Old codes and old addresses of concepts are for
 catalogues, and not on the pages unless options ask for them.
 
 Example:
@@ -124,6 +125,7 @@ def choose_types(given: argparse.Namespace, thesaurus: Thesaurus) -> None:
         if given.journal:
             add_values(store, given.journal)
         thesaurus.types = read_types(store)
+        thesaurus.names_elsewhere = store.names_elsewhere
         check_types(given, thesaurus, broader_links(store))
 
 

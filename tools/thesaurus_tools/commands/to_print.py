@@ -1,6 +1,7 @@
 """Makes one page to print of a scheme: its alphabetical list, its tree and a rotated index of words, as HTML or PDF.
 
---desk or --journal adds definitions (DEF), notes and notations that everybody may see. Terms are sorted as the language
+--desk or --journal adds definitions (DEF), notes and notations that everybody may see, and the names of concepts
+elsewhere to which concepts are mapped (=EQ, ~EQ, BM, NM, RM). Terms are sorted as the language
 has it where Debian's python3-icu is installed. --pdf needs weasyprint or chromium.
 
   tools/to-print --db museum.db --scheme 1 --lang en -o museum.html
