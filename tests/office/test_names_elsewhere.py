@@ -8,7 +8,7 @@ from pathlib import Path
 
 import pytest
 from office import Request, tool
-from program import lines_of, over
+from program import built, lines_of, over
 
 GEIGE, FIDDLE = "http://vocab.example/1", "http://vocab.example/2"
 REQUESTS: list[Request] = [
@@ -57,7 +57,7 @@ def test_a_table_that_comes_back(store: Path) -> None:
     assert shown == f"number,exact,exactLabel,closeLabel\n2,{GEIGE},violin <made up>,{FIDDLE}\n"
     table = store.with_name("back.csv")
     table.write_text(shown, encoding="utf-8")
-    ran = tool("from-table", table, "--db", store, "--lang", "en", "--dry")
+    ran = tool("from-table", table, "--db", store, "--lang", "en", "--dry", "--program", built())
     assert ran.status == 0 and ran.out == b"", (ran.out, ran.err)
 
 
