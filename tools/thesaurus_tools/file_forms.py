@@ -12,7 +12,7 @@ import tempfile
 import zipfile
 from collections import Counter
 from collections.abc import Callable, Iterable, Sequence
-from dataclasses import dataclass, field
+from dataclasses import asdict, dataclass, field
 from datetime import datetime, timezone
 from functools import cached_property, partial
 from pathlib import Path
@@ -34,7 +34,7 @@ from thesaurus_tools.system_python import PackageError
 from thesaurus_tools.table_writer import TableWriter, columns_with_something, table_text
 from thesaurus_tools.term_dates import Dates, date_triples, from_json
 from thesaurus_tools.triple_export import WORDS, base_of, choose_branch, choose_scheme
-from thesaurus_tools.workbooks import ods, xlsx
+from thesaurus_tools.workbooks import LeftOut, ods, xlsx
 from thesaurus_tools.zthes import ZthesWriter
 
 # How much later than a desk's own work that of this process is done, as `nice` has it.
@@ -67,6 +67,8 @@ class Part:
     fields: dict[str, Field] = field(default_factory=dict)
     # When terms were made and changed.
     dates: Dates = field(default_factory=dict)
+    # What the cells of a spreadsheet can't have.
+    left_out: LeftOut = field(default_factory=LeftOut)
 
     @cached_property
     def base(self) -> str:
@@ -164,9 +166,9 @@ def title_of(part: Part) -> str:
     return " · ".join(part.store.term(it, [part.choice.lang]) for it in numbers)
 
 
-def as_workbook(write: Callable[[Iterable[list[str]], str], bytes], part: Part) -> bytes:
+def as_workbook(write: Callable[[Iterable[list[str]], str, LeftOut], bytes], part: Part) -> bytes:
     """Returns a table as a spreadsheet."""
-    return write(table_rows(part), title_of(part))
+    return write(table_rows(part), title_of(part), part.left_out)
 
 
 def as_page(parts: Sequence[str], part: Part) -> bytes:
@@ -274,10 +276,12 @@ def read_part(folder: Path, choice: Choice) -> Part:
 
 
 def outcome_of(form: str, folder: Path, choice: Choice) -> dict[str, object]:
-    """Writes a file of a form beside the export, and returns what is said of that: nothing, or why there is none."""
+    """Writes a file of a form beside the export, and returns what is said of that: nothing, what it hasn't (characters
+    by how often, and how many texts are cut), or why there is none."""
     try:
-        (folder / MADE).write_bytes(FORMS[form].write(read_part(folder, choice)))
-        return {}
+        part = read_part(folder, choice)
+        (folder / MADE).write_bytes(FORMS[form].write(part))
+        return {"left_out": asdict(part.left_out)} if part.left_out else {}
     except PackageError as error:
         return {"needs": error.package}
     except LongRecordError as error:
@@ -298,7 +302,7 @@ def main() -> int:
     os.nice(NICENESS)
     outcome = outcome_of(given.form, given.folder, Choice(given.lang, given.scheme, given.below))
     json.dump(outcome, sys.stdout)
-    return FAULT if outcome else DONE
+    return DONE if outcome.keys() <= {"left_out"} else FAULT
 
 
 if __name__ == "__main__":

@@ -11,9 +11,9 @@ import subprocess
 import sys
 import tempfile
 import threading
-from collections import OrderedDict
+from collections import Counter, OrderedDict
 from collections.abc import Iterable, Iterator
-from dataclasses import asdict, dataclass, replace
+from dataclasses import asdict, dataclass, field, replace
 from functools import partial
 from pathlib import Path
 from typing import Any
@@ -28,6 +28,7 @@ from thesaurus_tools.fields import in_rdf, node_of
 from thesaurus_tools.ntriples import Iri, Triple
 from thesaurus_tools.rdf_writer import ntriple
 from thesaurus_tools.term_dates import term_dates, to_json
+from thesaurus_tools.workbooks import LeftOut
 
 # How many files are kept, how many requests may wait for theirs, and the seconds that a process may take.
 MOST_KEPT, MOST_WAITING, LONGEST = 24, 6, 600
@@ -61,6 +62,8 @@ class SavedFile:
     needs: str = ""
     fault: str = ""
     too_long: tuple[int, ...] = ()
+    # What it hasn't: characters by how often there are some, and how many texts are cut.
+    left_out: LeftOut = field(default_factory=LeftOut)
 
     def is_there(self, seconds: float) -> bool:
         """Whether it is made, or has failed, within some seconds."""
@@ -139,6 +142,8 @@ class SavedFiles:
         outcome = run_form(it.wish, folder)
         it.needs, it.fault = outcome.get("needs", ""), outcome.get("said", "")
         it.too_long = tuple(outcome.get("too_long", ()))
+        if left_out := outcome.pop("left_out", None):
+            it.left_out = LeftOut(Counter(left_out["characters"]), left_out["cut"])
         made = folder / file_forms.MADE
         if not outcome:
             with made.open("rb") as file:

@@ -3,8 +3,10 @@ from __future__ import annotations
 
 from collections.abc import Iterable, Iterator, Sequence
 from itertools import chain
+from urllib.parse import urlencode
 
 from flask import Response, abort, make_response, render_template, request, stream_with_context
+from markupsafe import Markup
 
 from thesaurus_desk.journal.history import to_csv
 from thesaurus_desk.store.model import Posting
@@ -17,7 +19,7 @@ from thesaurus_desk.web.list_columns import (
     is_seen,
     usual_columns,
 )
-from thesaurus_tools.workbooks import MEDIA, workbook, writable_forms
+from thesaurus_tools.workbooks import LONGEST_CELL, MEDIA, LeftOut, workbook, writable_forms
 
 # The most cells of a file that is no CSV: the limits of tables allow to read these again.
 MOST_CELLS = 100_000
@@ -69,7 +71,27 @@ def sheet_of_rows(name: str, rows: Iterable[Row]) -> Response:
     if form in ("", "csv") or form not in writable_forms():
         lines = stream_with_context(chain(("\ufeff",), map(to_csv, rows)))
         return Response(lines, content_type=MEDIA["csv"], headers=headers)
-    return Response(workbook(form, bound_rows(rows)), content_type=MEDIA[form], headers=headers)
+    left_out = LeftOut()
+    data = workbook(form, bound_rows(rows), left_out)
+    if left_out and "anyway" not in request.args:
+        return make_response(left_out_page(left_out))
+    return Response(data, content_type=MEDIA[form], headers=headers)
+
+
+def left_out_page(left_out: LeftOut) -> str:
+    """Returns a page that says what a file hasn't, before it is saved."""
+    path = f"{request.path}?{urlencode([*request.args.items(multi=True), ('anyway', '1')])}"
+    link = Markup('<a class="button" href="{}" download>{}</a>').format(path, say("files.anyway"))
+    text = Markup("{} {}").format(tell_left_out(left_out), link)
+    return render_template("message.html", title=say("lists.as_table"), text=text)
+
+
+def tell_left_out(left_out: LeftOut) -> str:
+    """Returns what is said of what a file of cells hasn't."""
+    characters = ", ".join(f"{it} ({count})" for it, count in sorted(left_out.characters.items()))
+    told = [say("files.left_out", characters=characters)] if characters else []
+    told += [say("files.cut", n=left_out.cut, most=LONGEST_CELL)] if left_out.cut else []
+    return " ".join(told)
 
 
 def bound_rows(rows: Iterable[Row]) -> list[list[str]]:

@@ -16,6 +16,7 @@ from thesaurus_desk.journal.releases import Release
 from thesaurus_desk.store.saved_files import Busy, SavedFile, SavedFiles, FileOrder
 from thesaurus_desk.web.context import tags, the_desk
 from thesaurus_desk.web.paths import path_to
+from thesaurus_desk.web.spreadsheets import tell_left_out
 from thesaurus_tools.file_forms import FORMS, Choice
 
 pages = Blueprint("downloads", __name__)
@@ -143,6 +144,8 @@ def file_answer(it: SavedFile) -> AnyResponse:
     """Returns a file that is made, or says why there is none."""
     if it.needs or it.fault or it.too_long:
         return make_response(render_template("downloads/state.html", file=it), 409)
+    if it.left_out and "anyway" not in request.args:
+        return make_response(render_template("downloads/state.html", file=it, left_out=tell_left_out(it.left_out)))
     response = response_of(it.answer, FORMS[it.wish.form].media)
     response.headers["Content-Disposition"] = f'attachment; filename="{it.name}"'
     return response
