@@ -115,7 +115,7 @@ def test_records_come_from_files_of_each_form(site: Site, name: str) -> None:
         ("a.mrc", FILES["d.mrc"].replace(b"nam a22", b"nam  22"), "row 3: MARC-8"),
         ("a.mrc", b"00050nam a22xxxxx i 4500" + b" " * 30, "the file is damaged"),
         ("a.xml", b'<!DOCTYPE r [<!ENTITY a "b">]><r>&a;</r>', "declares a document type"),
-        ("a.xml", b"<r><unclosed></r>", "the file is damaged"),
+        ("a.xml", b"<r>\n<unclosed></r>", "a.xml, row 2: this isn’t well-formed XML."),
     ],
 )
 def test_what_is_no_file_of_records(site: Site, name: str, data: bytes, part: str) -> None:

@@ -3,12 +3,14 @@ from __future__ import annotations
 
 import gzip
 import sqlite3
+import subprocess
+import sys
 from contextlib import closing
 from pathlib import Path
 from typing import Any
 
 import pytest
-from office import SKOS, TYPE, tool
+from office import SKOS, TOOLS, TYPE, tool
 from program import Ended
 from thesaurus_tools.stems import stems_of
 from thesaurus_tools.texts import fold
@@ -209,3 +211,111 @@ def test_the_order_of_words_brackets_and_small_words_do_not_count() -> None:
     assert stems_of("guitars, electric", "en") == stems_of("electric guitar (instrument)", "en") == "electric guitar"
     assert stems_of("history of the violin", "en") == stems_of("violin history", "en")
     assert stems_of("(the)", "en") == "the", "a label of small words alone has them"
+
+
+# --- forms that other programs read ---
+
+TURTLE = (
+    f"""@prefix skos: <{SKOS}> .
+@prefix v: <{V}> .
+@base <{V}> .
+v:1 a skos:Concept ; skos:prefLabel "Violin"@en , "Geige"@de-AT ; skos:altLabel "Fiddle"@en ;
+  skos:broader <2> ; skos:scopeNote """
+    + """\"\"\"Bowed.\"\"\"@en .
+v:2 skos:prefLabel "Strings" ; skos:narrower v:4 .
+v:3 skos:prefLabel "Kit"@en ; <http://www.w3.org/2002/07/owl#deprecated> true ;
+  <http://purl.org/dc/terms/isReplacedBy> v:1 .
+v:4 skos:prefLabel "Viola"@en ; <http://www.w3.org/2002/07/owl#deprecated> false .
+v:s a skos:ConceptScheme ; skos:prefLabel "Instruments"@en .
+"""
+)
+RDF_XML = f"""<?xml version="1.0"?>
+<rdf:RDF xmlns:rdf="http://www.w3.org/1999/02/22-rdf-syntax-ns#" xmlns:skos="{SKOS}" xml:base="{V}"
+  xmlns:owl="http://www.w3.org/2002/07/owl#" xmlns:dct="http://purl.org/dc/terms/">
+<skos:Concept rdf:about="1"><skos:prefLabel xml:lang="en">Violin</skos:prefLabel>
+<skos:prefLabel xml:lang="de-AT">Geige</skos:prefLabel><skos:altLabel xml:lang="en">Fi&#100;dle</skos:altLabel>
+<skos:broader rdf:resource="2"/><skos:scopeNote xml:lang="en">Bowed.</skos:scopeNote></skos:Concept>
+<skos:Concept rdf:about="2"><skos:prefLabel>Strings</skos:prefLabel><skos:narrower rdf:resource="4"/></skos:Concept>
+<skos:Concept rdf:about="3"><skos:prefLabel xml:lang="en">Kit</skos:prefLabel><owl:deprecated>true</owl:deprecated>
+<dct:isReplacedBy rdf:resource="1"/></skos:Concept>
+<skos:Concept rdf:about="4"><skos:prefLabel xml:lang="en">Viola</skos:prefLabel>
+<owl:deprecated>false</owl:deprecated></skos:Concept>
+<skos:ConceptScheme rdf:about="s"><skos:prefLabel xml:lang="en">Instruments</skos:prefLabel></skos:ConceptScheme>
+</rdf:RDF>
+"""
+# A document without its end, by the end of its name, with what is said of it.
+CUT = {
+    "ttl": (TURTLE[: TURTLE.index("Kit")].encode(), b"dump.ttl:7:"),
+    "rdf": (RDF_XML[: RDF_XML.index("Kit")].encode(), b"dump.rdf: XML parser error"),
+}
+# Runs the tool with lower bounds, and without the other programs.
+BOUNDED = """
+import os, runpy, sys
+del sys.argv[0]
+sys.path.insert(0, os.path.dirname(sys.argv[0]))
+from thesaurus_tools import rdf_files, rdf_streams
+rdf_files.MOST_BYTES, rdf_streams.MOST_BYTES, os.environ["PATH"] = %s
+runpy.run_path(sys.argv[0], run_name="__main__")
+"""
+
+
+@pytest.mark.needs("rapper", "serdi")
+@pytest.mark.parametrize("name", ["dump.ttl", "dump.ttl.gz", "dump.rdf", "dump.rdf.gz"])
+def test_a_dump_that_another_program_reads(store: Path, name: str) -> None:
+    text = "\ufeff" + (TURTLE if ".ttl" in name else RDF_XML)
+    ran = load(store, name, gzip.compress(text.encode()) if name.endswith(".gz") else text)
+    assert ran.status == 0 and b"V: 4 concepts with 6 labels; 0 lines can't be read" in ran.err, ran.err
+    assert ask(store, LABELS) == WANTED_LABELS
+    assert ask(store, ENTRIES) == [
+        (f"{V}1", 0, None, "Bowed."),
+        (f"{V}2", 0, None, ""),
+        (f"{V}3", 1, f"{V}1", ""),
+        (f"{V}4", 0, None, ""),
+    ]
+    assert ask(store, ABOVE) == [(f"{V}1", f"{V}2"), (f"{V}4", f"{V}2")]
+
+
+@pytest.mark.needs("rapper", "serdi")
+@pytest.mark.parametrize("ending", CUT)
+def test_a_dump_without_its_end_leaves_the_one_before(store: Path, ending: str) -> None:
+    assert load(store, "first.nt", LINES).status == 0
+    data, said = CUT[ending]
+    for name, sent in ((f"dump.{ending}", data), (f"dump.{ending}.gz", gzip.compress(data)[:-9])):
+        ran = load(store, name, sent)
+        assert ran.status == 1 and (said if name.endswith(ending) else b"cut short, or damaged") in ran.err, ran.err
+        assert ask(store, LABELS) == WANTED_LABELS
+
+
+@pytest.mark.needs("rapper")
+def test_other_files_that_rdf_xml_names_are_not_read(store: Path, tmp_path: Path) -> None:
+    (tmp_path / "secret").write_text("geheim", encoding="utf-8")
+    entity = f'<!DOCTYPE rdf:RDF [<!ENTITY secret SYSTEM "{(tmp_path / "secret").as_uri()}">]>\n<rdf:RDF'
+    load(store, "dump.rdf", RDF_XML.replace("<rdf:RDF", entity, 1).replace(">Kit<", ">Kit&secret;<"))
+    assert "geheim" not in str(ask(store, LABELS) if vocabularies_of(store).exists() else "")
+
+
+def bounded(store: Path, name: str, text: str, bounds: str) -> tuple[int, str]:
+    """Loads a dump within lower bounds; returns the exit status, and what is said."""
+    path = store.parent / name
+    path.write_text(text, encoding="utf-8")
+    words = [sys.executable, "-c", BOUNDED % bounds, TOOLS / "load-vocabulary", path, "--db", store, "--name", "V"]
+    ran = subprocess.run([*map(str, words)], capture_output=True, text=True, check=False)
+    return ran.returncode, ran.stderr
+
+
+@pytest.mark.needs("rdflib")
+@pytest.mark.parametrize(("name", "package"), [("dump.ttl", "serdi"), ("dump.rdf", "raptor2-utils"), ("dump.n3", "")])
+def test_what_is_too_large_for_rdflib_names_the_program(store: Path, name: str, package: str) -> None:
+    text = RDF_XML if name.endswith("rdf") else TURTLE
+    status, said = bounded(store, name, text, '100, 1 << 20, "/nowhere"')
+    assert status == 2 and (f"of Debian's {package}, reads larger ones" in said if package else "rapper" in said), said
+    assert bounded(store, name, text, '1 << 20, 1 << 20, "/nowhere"')[0] == 0
+
+
+@pytest.mark.needs("rapper", "serdi")
+@pytest.mark.parametrize("name", ["dump.ttl", "dump.rdf", "dump.nt"])
+def test_what_is_too_large_for_all(store: Path, name: str) -> None:
+    text = {"ttl": TURTLE, "rdf": RDF_XML}.get(name[-3:], LINES)
+    limit = 'os.environ["PATH"]; import thesaurus_tools.vocabulary_dumps as it; it.MOST_BYTES = 100'
+    status, said = bounded(store, name, text, f"1 << 20, 100, {limit}")
+    assert status == 2 and "more than 2 gigabytes" in said, said

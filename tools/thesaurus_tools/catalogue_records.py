@@ -10,6 +10,7 @@ from xml.etree import ElementTree
 
 from thesaurus_tools.files import TableError, read_table_file
 from thesaurus_tools.marc import NAMESPACE as MARC
+from thesaurus_tools.parse_places import place_in
 from thesaurus_tools.spreadsheets import Row
 from thesaurus_tools.texts import fold
 
@@ -133,7 +134,7 @@ def rows_of_xml(path: Path, data: bytes) -> Iterator[list[str]]:
                 continue
             element.clear()
     except ElementTree.ParseError as error:
-        raise TableError("damaged", path, form="XML", error=error) from None
+        raise TableError("damaged_xml", path, error.position[0], error=place_in(str(error)).reason) from None
 
 
 def fields_of_xml(record: ElementTree.Element) -> Iterator[Field]:

@@ -13,6 +13,7 @@ from typing import Any
 from thesaurus_tools.command_line import REFUSED, USAGE, ToolError
 from thesaurus_tools.ntriples import BOM, QUAD, STATEMENT, Blank, Iri, Literal, Triple, parse_ntriples
 from thesaurus_tools.ntriples import read_document as read_lines
+from thesaurus_tools.parse_places import place_in, text_of_place
 from thesaurus_tools.parser_bounds import BoundReached, limit_run, guard_opens
 from thesaurus_tools.system_python import run_by_system_python
 from thesaurus_tools.zthes import HEAD_BYTES, is_zthes, zthes_triples
@@ -40,6 +41,8 @@ RESERVE = 4 << 20
 # The time of a processor and the memory that rdflib may take for a file: these, and as much again for its size.
 SECONDS, SECONDS_FOR_MEGABYTE = 10, 10
 MEMORY, MEMORY_FOR_BYTE = 1 << 30, 300
+# How much of a parser's message is printed.
+LONGEST_ERROR = 300
 TOO_LARGE = f"more than {MOST_BYTES >> 20} megabytes"
 OTHER_WAY = "make N-Triples of it by another program, such as rapper"
 STOPPED = f"rdflib took more than {{most}} for it, and was stopped; {OTHER_WAY}"
@@ -92,7 +95,7 @@ def parse_by_rdflib(path: Path, form: str, may_fetch: bool) -> Any:
     if isinstance(failure, OSError):
         raise ToolError(f"{path}: {failure.strerror or failure}") from None
     if failure:
-        raise ToolError(f"{path}: {' '.join(str(failure).split())[:300]}", REFUSED) from None
+        raise ToolError(f"{path}{text_of_place(place_in(str(failure)))[:LONGEST_ERROR]}", REFUSED) from None
     return graph
 
 

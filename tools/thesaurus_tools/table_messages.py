@@ -61,6 +61,7 @@ TABLES = {
     "unpacks": "unpacks to {megabytes} megabytes: refused",
     "declares": "{part} declares a document type: refused",
     "damaged": "a damaged {form} file: {error}",
+    "damaged_xml": "not well-formed XML: {error}",
     "other_archive": "an archive that is neither ODS nor XLSX",
     "needs": "{form} needs Debian's {package}; or save the table as CSV",
     "no_sheet": "no sheet {sheet!r}; it has {sheets}",

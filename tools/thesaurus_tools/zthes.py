@@ -16,6 +16,7 @@ from xml.etree.ElementTree import Element, SubElement
 from thesaurus_tools.command_line import REFUSED, ToolError
 from thesaurus_tools.fields import TERM_SOURCE
 from thesaurus_tools.ntriples import DCTERMS, RDF, SKOS, Iri, Literal, Node, Triple
+from thesaurus_tools.parse_places import place_in, text_of_place
 from thesaurus_tools.rdf_writer import ISO_THES
 from thesaurus_tools.store import Resource, Store
 from thesaurus_tools.xml_texts import document_of
@@ -179,7 +180,7 @@ def zthes_triples(name: str, data: bytes) -> Iterator[Triple]:
     try:
         root = ElementTree.fromstring(data)
     except ElementTree.ParseError as error:
-        raise ToolError(f"{name}: {error}", REFUSED) from None
+        raise ToolError(f"{name}{text_of_place(place_in(str(error)))}", REFUSED) from None
     terms = {it.name: it for it in map(read_term, (it for it in root if local(it) == "term")) if it.name}
     title = next((it.text for it in root.iter(f"{{{DC}}}title") if it.text), "")
     yield from Terms(terms, title.strip()).triples()

@@ -22,6 +22,7 @@ from thesaurus_desk.words import Words
 from thesaurus_desk.words.field_words import field_name
 from thesaurus_tools.arrays import Places, node_label
 from thesaurus_tools.fields import Field
+from thesaurus_tools.parse_places import ParsePlace
 
 if TYPE_CHECKING:
     from thesaurus_desk.journal.history import Ending
@@ -285,6 +286,11 @@ def path_that_tells(path: str, done: int | None) -> str:
     before, _, query = head.partition("?")
     fields = [it for it in query.split("&") if it and not it.startswith("done=")]
     return f"{before}?{'&'.join([*fields, urlencode({'done': done})])}{hash_mark}{part}"
+
+
+def tell_place(place: ParsePlace) -> str:
+    """Returns where a parser has stopped in a file."""
+    return say("parsers.column" if place.column else "parsers.line", line=place.line, column=place.column)
 
 
 def page_number() -> int:

@@ -40,6 +40,7 @@ from thesaurus_desk.web.context import (
     person,
     say,
     tags,
+    tell_place,
     the_desk,
     the_fields,
     the_replica,
@@ -316,12 +317,13 @@ def preview_skos() -> Any:
 
 def refused_skos(error: SkosError) -> Any:
     """Returns the forms with why a file isn't read as a vocabulary."""
+    where = f" {tell_place(error.place)}" if error.place.line else ""
     # (what the converter says is in English, as the errors of parsers are)
     said = Markup(' <span lang="en" dir="ltr">{}</span>').format(error.said) if error.said else ""
     found = [line for it in by_rules(error.report, the_reader()) for line in it.lines]
     lines = Markup("").join(Markup("<br>{}").format(it) for it in found)
     text = say(f"bring_in.skos_error.{error.key}", **error.values)
-    return refusal_answer("skos", Markup("{}{}{}").format(text, said, lines))
+    return refusal_answer("skos", Markup("{}{}{}{}").format(text, where, said, lines))
 
 
 def preview_export_rows(name: str, data: bytes) -> Any:

@@ -21,7 +21,17 @@ from thesaurus_desk.mapping.pairs import Pair, find_pairs
 from thesaurus_desk.mapping.progress import LEFT, MAPPED, STATES, ChangedTarget, Progress
 from thesaurus_desk.mapping.vocabularies import Vocabulary
 from thesaurus_desk.store.model import View, best_of
-from thesaurus_desk.web.context import go, link_elsewhere, page_number, person, say, tags, the_desk, the_replica
+from thesaurus_desk.web.context import (
+    go,
+    link_elsewhere,
+    page_number,
+    person,
+    say,
+    tags,
+    tell_place,
+    the_desk,
+    the_replica,
+)
 from thesaurus_desk.web.form_submission import problem_in, submit
 from thesaurus_desk.web.forms import FormState
 from thesaurus_desk.web.pages.edit import form_text, given_number, link_request, resource
@@ -120,6 +130,7 @@ def start_page(state: FormState, status: int) -> Any:
             changed={number: len(it.changed()) for number, it in progress.items()},
             bad_lines={it.id: vocabularies.bad_lines(it) for it in them if it.bad},
             load=the_loads().last,
+            tell_place=tell_place,
             room=the_desk().room(),
             most=MOST_BYTES >> 20,
             ends=",".join(ENDS),
