@@ -36,7 +36,7 @@ DEPENDS = (
     "python3-waitress",
 )
 # (a server in front isn't among them: who only looks at the sample shouldn't find one running)
-RECOMMENDS = ("python3-icu", "weasyprint")
+RECOMMENDS = ("python3-icu", "raptor2-utils", "serdi", "weasyprint")
 SUGGESTS = ("apache2", "default-mta | mail-transport-agent", "graphviz", "libapache2-mod-auth-openidc", "nginx")
 DESCRIPTION = """Description: thesauri, and catalogue records that are indexed with them
  For offices that maintain thesauri (ISO 25964-1, SKOS) in several languages,
