@@ -17,6 +17,7 @@ from test_changes import number
 from thesaurus_desk.importing.request_series import RequestSeries
 from thesaurus_desk.store import open_store, run_threads
 from thesaurus_desk.store.plan_execution import Desk, Outcome
+from thesaurus_desk.store.undo_run import size_of_part
 from thesaurus_desk.web import background, table_pages
 
 OpenDesk = Callable[[Path], Desk]
@@ -268,3 +269,71 @@ def test_others_come_between_two_rows(desk: Desk) -> None:
     finally:
         is_over.set()
         thread.join()
+
+
+# --- undoing a long change ---
+
+
+@pytest.mark.parametrize(
+    ("done", "count", "ends", "wanted"),
+    [
+        (0, 300, (44, 172, 300), 44),
+        (44, 300, (44, 172, 300), 128),
+        (0, 100, (20, 60), 100),
+        (0, 200, (20, 60, 128, 150), 128),
+        (20, 300, (20, 170), 128),
+        (148, 300, (20, 170), 22),
+        (0, 300, (), 128),
+    ],
+)
+def test_a_part_undoes_whole_plans(done: int, count: int, ends: tuple[int, ...], wanted: int) -> None:
+    """Only what undoes a single plan may be longer than a part."""
+    assert size_of_part(done, count, ends) == wanted
+
+
+def test_undoing_a_long_change_goes_on_beside_the_pages(
+    site: Site, anna: Client, monkeypatch: pytest.MonkeyPatch
+) -> None:
+    """In parts, of which the last one done is that of 44 concepts; others change something meanwhile."""
+    scheme, held = site.desk.replica.numbers("scheme")[0], Held(1)
+    terms = [f"Zither {it:03}" for it in range(300)]
+    requests = [{"do": "concept", "scheme": scheme, "tag": "en", "text": it} for it in terms]
+    first = site.desk.perform("anna", "test", requests, may_cut=True).plan
+    let_others = Desk.let_others
+    monkeypatch.setattr(background, "PATIENCE", 0.0)
+    monkeypatch.setattr(run_threads, "PACE", 0.0)
+    monkeypatch.setattr(Desk, "let_others", lambda desk: (let_others(desk), held.wait()))
+    form = {"form": "back", "last": str(site.desk.journal.last_plan())}
+    path = led(anna, anna.post(f"/changes/{first}/back", form))
+    assert held.is_there.wait(WAIT)
+    assert "Steps undone: 172 of 300" in text_of(anna.get(path))
+    again = anna.post(f"/changes/{first}/back", form)
+    assert again.headers["Location"].startswith("/changes?done="), "it is done once"
+    label = {"do": "addLabel", "owner": number(site, "Harps"), "kind": "alt", "tag": "en", "text": "Meanwhile"}
+    assert site.desk.perform("ben", "add_term", [label]).is_done
+    held.may_go.set()
+    assert "Undone" in text_of(ended(site, anna, path)) or "undone" in text_of(ended(site, anna, path))
+    assert not any(site.desk.replica.named(it, live=True) for it in terms)
+    assert "One change in 3 parts." in entries(anna) and "cut short" not in entries(anna)
+
+
+def test_what_ends_an_undoing_says_why(site: Site, anna: Client, monkeypatch: pytest.MonkeyPatch) -> None:
+    """A colleague has changed between two parts what the next one would undo: the rest stays, and is named."""
+    scheme, held = site.desk.replica.numbers("scheme")[0], Held(1)
+    requests = [{"do": "concept", "scheme": scheme, "tag": "en", "text": f"Zither {it:03}"} for it in range(300)]
+    outcome = site.desk.perform("anna", "test", requests, may_cut=True)
+    let_others = Desk.let_others
+    monkeypatch.setattr(background, "PATIENCE", 0.0)
+    monkeypatch.setattr(Desk, "let_others", lambda desk: (let_others(desk), held.wait()))
+    form = {"form": "back", "last": str(site.desk.journal.last_plan())}
+    path = led(anna, anna.post(f"/changes/{outcome.plan}/back", form))
+    assert held.is_there.wait(WAIT) and outcome.made
+    assert site.desk.perform(
+        "ben", "post", [{"do": "post", "key": "k", "record": "R", "concept": outcome.made}]
+    ).is_done
+    held.may_go.set()
+    for it in [*site.desk.threads.under_way]:
+        it.join(WAIT)
+    page = anna.get(path)
+    assert page.status_code == 200 and "Zither 000" in text_of(page), text_of(page)
+    assert "It was cut short" in entries(anna) and "/bring-in/go-on/" in anna.get("/").text
