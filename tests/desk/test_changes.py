@@ -454,12 +454,12 @@ def test_taking_back_leads_to_where_it_was_asked_for(site: Site, anna: Client) -
     """To the journal with its filters, or to the page that said what was done."""
     perform(site, label(site, "Fine violins"))
     page = anna.get("/changes?by=ben")
-    shown = re.search(r'class="button" href="(/changes/[^"]*/back[^"]*)"', page.text)
-    assert shown
-    back = anna.get(shown[1].replace("&amp;", "&")).text
+    shown = re.search(r'action="(/changes/[0-9]+/back)".*?name="next" value="([^"]*)"', page.text, re.DOTALL)
+    assert shown and shown[2] == "/changes?by=ben"
+    back = anna.get(f"{shown[1]}?next=/changes%3Fby%3Dben").text
     kept = re.search(r'name="next" value="([^"]*)"', back)
     assert kept and kept[1] == "/changes?by=ben" and 'href="/changes?by=ben"' in back
-    answer = anna.post(shown[1].partition("?")[0], {"form": "back", "next": kept[1]})
+    answer = anna.post(shown[1], {"form": "back", "next": kept[1]})
     assert answer.headers["Location"].startswith("/changes?by=ben&done=")
     violins = number(site, "Violins")
     plan = perform(site, label(site, "Fine violins"), user="anna")
