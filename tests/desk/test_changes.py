@@ -266,7 +266,7 @@ def test_what_others_changed_since_is_shown_first(site: Site, anna: Client) -> N
     plan = perform(site, label(site, "Fine violins"), user="anna")
     perform(site, {**label(site, "Fine violins"), "do": "dropLabel"})
     answer = anna.post(f"/changes/{plan}/back", {"at_once": "1"})
-    assert answer.status_code == 409 and "The same was changed again" in text_of(answer)
+    assert answer.status_code == 409 and "The same thing was changed again" in text_of(answer)
 
 
 def test_a_merge_is_left_before_the_other_concept_is_chosen(site: Site, anna: Client) -> None:

@@ -66,7 +66,7 @@ def test_a_merge_in_a_browser(program: str, driver: Any) -> None:
         hand.press("Merge Fiddles into Violins")
         hand.sees("Fiddles: merged into Violins, and 1 record moved")
         hand.press("Undo")
-        hand.sees("What will happen")
+        hand.sees("comes back under a new identifier")
 
 
 def test_nothing_of_it_stays(program: str) -> None:

@@ -77,7 +77,6 @@ def test_nobody_undoes_what_a_colleague_has_done_since(hand: Hand) -> None:
     come_in_as(hand, "anna").open(merge)
     hand.press("Undo")
     hand.sees("comes back under a new identifier")
-    hand.press("Undo")
     hand.sees("Violas")
 
 

@@ -95,8 +95,6 @@ def test_13_correct_a_posting_and_a_merge(hand: Hand) -> None:
     hand.sees("3 records")
     hand.press("Changes")
     hand.press("Undo")
-    hand.sees("What will happen")
-    hand.press("Undo")
     hand.sees("Fiddles")
 
 

@@ -96,7 +96,13 @@ def test_why_a_file_is_no_table() -> None:
     its = {key.removeprefix("tables."): str(text) for key, text in texts_of("en").items() if key.startswith("tables.")}
     assert its.keys() == {"row", *TABLES}
     assert placeholders(its.pop("row")) == {"name", "row"}
-    unsaid = {"no_text": {"advice"}, "csv": {"error"}, "damaged": {"error", "form"}, "damaged_xml": {"error"}, "no_sheet": {"sheet", "sheets"}}
+    unsaid = {
+        "no_text": {"advice"},
+        "csv": {"error"},
+        "damaged": {"error", "form"},
+        "damaged_xml": {"error"},
+        "no_sheet": {"sheet", "sheets"},
+    }
     unsaid["costly"] = {"seconds", "megabytes"}
     given = {key: placeholders(it) - unsaid.get(key, set()) for key, it in TABLES.items()}
     assert {key: placeholders(it) for key, it in its.items()} == {key: it | {"where"} for key, it in given.items()}
