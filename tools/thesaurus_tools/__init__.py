@@ -10,7 +10,8 @@ Fields and their values, how a tool reads them, what an export says of them, whe
   fields, values, desk_values, rdf_values, export_values, arrays, public_values, note_sources, term_dates,
   lacking_fields
 RDF: N-Triples, its other forms, a vocabulary of SKOS; what a parser of it may do:
-  ntriples, rdf_files, rdf_streams, parser_bounds, parse_places, skos, skos_kinds, skos_xl, skos_update, mads, zthes, iso25964
+  ntriples, rdf_files, rdf_streams, parser_bounds, parse_places, skos, skos_kinds, skos_xl, skos_update, mads, zthes,
+  iso25964
 What a converter makes of a vocabulary, the rules that it may break, and the script that loads it:
   vocabulary, finding_messages, link_rules, conversion, script_writer
 Such a script, and how it is loaded:

@@ -11,9 +11,10 @@ terms in --lang where only one has it, or else by their numbers. | parts several
 Columns: number, iri, records (how many are indexed with it); pref, alt, hidden, scope, each with @ and a language tag;
 broader (of any type), broaderGeneric, broaderPartitive, broaderInstantial, narrower, related, exact, close, broad,
 narrow, relMatch, member (its collections); exactLabel, closeLabel, broadLabel, narrowLabel, relMatchLabel: what the
-concepts that it is mapped to are called, as far as the desk of --desk or --journal knows that, for reading alone. With --desk or --journal also what the desk keeps and everybody may see:
-definition, example, historyNote, each with @ and a language tag, notation, or notation@ and the name of a code, source,
-and the office's fields by their names in tables; texts are parted by a line that is | alone.
+concepts that it is mapped to are called, as far as the desk of --desk or --journal knows that, for reading alone. With
+--desk or --journal also what the desk keeps and everybody may see: definition, example, historyNote, each with @ and a
+language tag, notation, or notation@ and the name of a code, source, and the office's fields by their names in tables;
+texts are parted by a line that is | alone.
 
 Exit status: 0 done, 1 refused (as a concept that isn't there), 2 usage, 3 a fault."""
 from __future__ import annotations
