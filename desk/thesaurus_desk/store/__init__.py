@@ -40,4 +40,5 @@
   verdict            what a prover said of the program
   background_tasks   what is done beside the pages
   run_threads        tables that are tried or performed by threads of their own
+  undo_run           undoes what was done by many plans, part by part
 """

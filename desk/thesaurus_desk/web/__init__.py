@@ -12,6 +12,7 @@
   request_text       a request of the journal as a sentence
   journal_text       plans of the journal, their outcomes, and conflicts in the reader's words
   notices            what a page says first: what was just done
+  undo_pages         performs what undoes a long change, and leads to how far it is
   help_topics        which help each page has, and the tasks of the guide
   forms              a form as it was sent, with what is wrong in it
   form_keys          a form that is sent twice acts once
