@@ -129,9 +129,14 @@ class Page:
     forms: list[Form]
     # Its text, with single spaces.
     text: str
+    # Who reads it.
+    reader: Reader
 
     def form(self, name: str, at: int = 0, **holding: str) -> Form:
-        """Returns the form of a name; of several ones that holds some values."""
+        """Returns the form of a name; of several ones that holds some values. One that a link opens is on the page to
+        which that leads."""
+        if link := re.search(f'id="at-{name}" data-form href="([^"#]*)', self.html):
+            return self.reader.get(link[1]).form(name, at, **holding)
         found = [
             it for it in self.forms if it.name == name and all(it.value(key) == text for key, text in holding.items())
         ]
@@ -140,7 +145,7 @@ class Page:
 
     def has_form(self, name: str) -> bool:
         """Whether there is a form of a name."""
-        return any(it.name == name for it in self.forms)
+        return any(it.name == name for it in self.forms) or f'id="at-{name}" data-form' in self.html
 
     @property
     def alerts(self) -> str:
@@ -180,10 +185,10 @@ class Reader:
         """Returns the page of an answer, after its redirections; its links to its own parts lead there."""
         while answer.status_code in (302, 303):
             answer = self.client.get(answer.headers["Location"].partition("#")[0])
-        html = answer.get_data(as_text=True)
-        reader = read_page(html)
-        text = " ".join("".join(reader.words).split())
-        page = Page(answer.request.path, answer.status_code, html, reader.forms, text)
+        shown = answer.get_data(as_text=True)
+        found = read_page(shown)
+        text = " ".join("".join(found.words).split())
+        page = Page(answer.request.path, answer.status_code, shown, found.forms, text, self)
         assert not page.dead_links(), f"{page.path}: {page.dead_links()}"
         return page
 

@@ -10,7 +10,7 @@ import secrets
 import sqlite3
 import threading
 from dataclasses import dataclass, field
-from typing import Any
+from typing import Any, cast
 
 from flask import Flask, Response, g, redirect, request
 from markupsafe import Markup
@@ -87,11 +87,14 @@ def install_once(app: Flask) -> None:
 def token_field() -> Markup:
     """Returns the fields that each form of a page carries: the token of the session, and the key of the page."""
     token = form_token()
-    if "form_key" not in g:
-        g.form_key = secrets.token_urlsafe(9)
-    # (a page has it in each of its forms)
-    names = (("token", token), ("once", g.form_key))
-    return Markup("".join(f'<input type="hidden" name="{name}" value="{value}">' for name, value in names))
+    # (a page has them in each of its forms)
+    if g.get("fields_with") != token:
+        if "form_key" not in g:
+            g.form_key = secrets.token_urlsafe(9)
+        names = (("token", token), ("once", g.form_key))
+        g.fields_with = token
+        g.form_fields = Markup("".join(f'<input type="hidden" name="{it}" value="{value}">' for it, value in names))
+    return cast(Markup, g.form_fields)
 
 
 def form_of_request() -> str:
