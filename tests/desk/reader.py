@@ -135,7 +135,7 @@ class Page:
     def form(self, name: str, at: int = 0, **holding: str) -> Form:
         """Returns the form of a name; of several ones that holds some values. One that a link opens is on the page to
         which that leads."""
-        if link := re.search(f'id="at-{name}" data-form href="([^"#]*)', self.html):
+        if link := re.search(rf'data-form href="([^"?]*\?open={name})#', self.html):
             return self.reader.get(link[1]).form(name, at, **holding)
         found = [
             it for it in self.forms if it.name == name and all(it.value(key) == text for key, text in holding.items())
@@ -145,7 +145,11 @@ class Page:
 
     def has_form(self, name: str) -> bool:
         """Whether there is a form of a name."""
-        return any(it.name == name for it in self.forms) or f'id="at-{name}" data-form' in self.html
+        return any(it.name == name for it in self.forms) or name in self.opened_by_links()
+
+    def opened_by_links(self) -> set[str]:
+        """Returns the names of the forms that its links open."""
+        return opened_by_links(self.html)
 
     @property
     def alerts(self) -> str:
@@ -161,6 +165,11 @@ class Page:
     def dead_links(self) -> set[str]:
         """Returns the links that lead to no part of the page, and should."""
         return {it for it in self.links() if it[:1] == "#" and f'id="{it[1:]}"' not in self.html}
+
+
+def opened_by_links(html: str) -> set[str]:
+    """Returns the names of the forms that links of a page open."""
+    return set(re.findall(r'data-form href="[^"?]*\?open=([^"#]*)#', html))
 
 
 def read_page(html: str) -> PageReader:

@@ -29,6 +29,7 @@ if TYPE_CHECKING:
     from thesaurus_desk.store.plan_execution import Desk
     from thesaurus_desk.store.replica import Replica
 
+NOTHING = Markup()
 # A path of this desk: neither //host nor /\host.
 OWN_PATH = re.compile(r"/(?![/\\])[^\\\x00-\x20]*")
 
@@ -216,10 +217,8 @@ def record_name(record: str) -> Markup:
 
 def status_words(number: int) -> str:
     """Returns the status of a concept that isn't approved, in the reader's words; nothing to a visitor."""
-    if not person().name:
-        return ""
     if (statuses := g.get("statuses")) is None:
-        statuses = g.statuses = the_replica().statuses()
+        statuses = g.statuses = the_replica().statuses() if person().name else {}
     status = cast("dict[int, str]", statuses).get(number)
     return say(f"status.{status}") if status else ""
 
@@ -227,7 +226,7 @@ def status_words(number: int) -> str:
 def status_mark(number: int) -> Markup:
     """Returns what follows the term of a concept that isn't approved."""
     status = status_words(number)
-    return Markup(f' <small class="status">{escape(status)}</small>') if status else Markup()
+    return Markup(f' <small class="status">{escape(status)}</small>') if status else NOTHING
 
 
 def label_link(number: int) -> Markup:
