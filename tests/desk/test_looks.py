@@ -177,7 +177,8 @@ def test_360_pixels(served: Running, language: str) -> None:
 
 # The texts beside which a sign is below the last line, once they are long.
 SIGNS_BELOW = """
-const signs = (it) => [...it.closest('li').querySelectorAll('summary, a[data-form], button.x')].filter((it) => it.checkVisibility());
+const SIGNS = 'summary, a[data-form], button.x';
+const signs = (it) => [...it.closest('li').querySelectorAll(SIGNS)].filter((it) => it.checkVisibility());
 const texts = [...document.querySelectorAll('.labels .text, .links li > a')].filter((it) => signs(it).length);
 for (const it of texts) it.textContent = 'a long text '.repeat(12);
 const bottom = (it) => it.getBoundingClientRect().bottom, top = (it) => it.getBoundingClientRect().top;

@@ -140,8 +140,11 @@ def source_of_term(owner: int | str) -> list[Request]:
 
 def unfit_source(requests: Sequence[Request]) -> FormState | None:
     """Returns the form with what is wrong with the source of its term."""
-    its = [it for it in requests if it["do"] == "set" and not is_source(the_fields()[TERM_SOURCE], source_of(it["new"]))]
-    return problem_in(FORM, "source", explain({"no": "BadValue"}, its[0], the_replica(), words(), LINKS)) if its else None
+    field = the_fields()[TERM_SOURCE]
+    unfit = next((it for it in requests if it["do"] == "set" and not is_source(field, source_of(it["new"]))), None)
+    if unfit is None:
+        return None
+    return problem_in(FORM, "source", explain({"no": "BadValue"}, unfit, the_replica(), words(), LINKS))
 
 
 def unusable_concept(number: int | None) -> FormState | None:
