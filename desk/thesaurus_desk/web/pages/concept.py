@@ -104,8 +104,9 @@ def resource_page(number: int, state: FormState, status: int = 200) -> Any:
     opened = state.name or request.args.get("open", "")
     # (a form that is open may be that of any term)
     shown_terms = all_terms if "terms" in request.args or opened else first_terms(all_terms)
-    sources, terms = field_views.term_sources(number), {*view.pref, *view.alt, *view.hidden}
-    values = field_views.shown_values(view)
+    held = the_desk().values.of(number)
+    sources, terms = field_views.term_sources(held), {*view.pref, *view.alt, *view.hidden}
+    values = field_views.shown_values(view, held)
     marks = marks_of(number, values)
     return (
         render_template(
