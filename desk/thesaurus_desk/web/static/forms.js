@@ -34,6 +34,8 @@
     form.open = false;
     link.replaceWith(form);
     form.dispatchEvent(new Event("added", { bubbles: true }));
+    // (a form without a field leaves the focus where it was pressed)
+    form.querySelector("summary").focus();
     form.open = true;
     focusIn(form);
   }
