@@ -1,9 +1,9 @@
 """Reads pages of a desk of some sources in a process of its own, for bench/fields.
 
-Its arguments are a tree of sources, a store, the program, WHAT and COUNT. WHAT is `concepts` (their pages) or `without`
-(the list of those without a definition): it prints the median of their milliseconds of CPU. Or it is `read`: until its
-input ends it reads pages of concepts as a process does that only reads, and prints how many, and the milliseconds by
-the clock of the slowest."""
+Its arguments are a tree of sources, a store, the program, WHAT and COUNT. WHAT is `without`, the list of concepts
+without a definition: it prints the median of the milliseconds of CPU. Or it is `turns`: for each path that it reads it
+prints the milliseconds of CPU. Or it is `read`: until its input ends it reads pages of concepts as a process does that
+only reads, and prints how many, and the milliseconds by the clock of the slowest."""
 from __future__ import annotations
 
 import random
@@ -13,6 +13,7 @@ import sys
 import tempfile
 import time
 from collections.abc import Callable
+from functools import partial
 from pathlib import Path
 from typing import Any
 
@@ -69,6 +70,9 @@ def main() -> None:
             while not select.select([sys.stdin], [], [], 0)[0]:
                 found.append(taken(page, time.monotonic))
             print(len(found), max(found, default=0))
+        elif what == "turns":
+            for line in sys.stdin:
+                print(taken(partial(client.get, line.strip()), time.process_time), flush=True)
         else:
             found = [taken(page, time.process_time) for _ in range(int(count) + WARM)]
             print(statistics.median(found[WARM:]))

@@ -17,8 +17,9 @@ def time_element(at: str) -> Markup:
     A script writes it as the page's language does, and without the distance if the reader's clock shows the same."""
     time = datetime.fromisoformat(at).astimezone()
     machine, distance = time.isoformat(timespec="milliseconds"), distance_of(time)
-    element = '<time datetime="{}" data-zone="{}">{:%Y-%m-%d %H:%M} {}</time>'
-    return Markup(element).format(machine, distance, time, distance)
+    # (none of it has a sign of markup)
+    shown = f"{time:%Y-%m-%d %H:%M} {distance}"
+    return Markup(f'<time datetime="{machine}" data-zone="{distance}">{shown}</time>')
 
 
 def distance_of(time: datetime) -> str:

@@ -129,9 +129,14 @@ class Page:
     forms: list[Form]
     # Its text, with single spaces.
     text: str
+    # Who reads it.
+    reader: Reader
 
     def form(self, name: str, at: int = 0, **holding: str) -> Form:
-        """Returns the form of a name; of several ones that holds some values."""
+        """Returns the form of a name; of several ones that holds some values. One that a link opens is on the page to
+        which that leads."""
+        if link := re.search(rf'data-form href="([^"?]*\?open={name})#', self.html):
+            return self.reader.get(link[1]).form(name, at, **holding)
         found = [
             it for it in self.forms if it.name == name and all(it.value(key) == text for key, text in holding.items())
         ]
@@ -140,7 +145,11 @@ class Page:
 
     def has_form(self, name: str) -> bool:
         """Whether there is a form of a name."""
-        return any(it.name == name for it in self.forms)
+        return any(it.name == name for it in self.forms) or name in self.opened_by_links()
+
+    def opened_by_links(self) -> set[str]:
+        """Returns the names of the forms that its links open."""
+        return opened_by_links(self.html)
 
     @property
     def alerts(self) -> str:
@@ -156,6 +165,11 @@ class Page:
     def dead_links(self) -> set[str]:
         """Returns the links that lead to no part of the page, and should."""
         return {it for it in self.links() if it[:1] == "#" and f'id="{it[1:]}"' not in self.html}
+
+
+def opened_by_links(html: str) -> set[str]:
+    """Returns the names of the forms that links of a page open."""
+    return set(re.findall(r'data-form href="[^"?]*\?open=([^"#]*)#', html))
 
 
 def read_page(html: str) -> PageReader:
@@ -180,10 +194,10 @@ class Reader:
         """Returns the page of an answer, after its redirections; its links to its own parts lead there."""
         while answer.status_code in (302, 303):
             answer = self.client.get(answer.headers["Location"].partition("#")[0])
-        html = answer.get_data(as_text=True)
-        reader = read_page(html)
-        text = " ".join("".join(reader.words).split())
-        page = Page(answer.request.path, answer.status_code, html, reader.forms, text)
+        shown = answer.get_data(as_text=True)
+        found = read_page(shown)
+        text = " ".join("".join(found.words).split())
+        page = Page(answer.request.path, answer.status_code, shown, found.forms, text, self)
         assert not page.dead_links(), f"{page.path}: {page.dead_links()}"
         return page
 

@@ -4,7 +4,7 @@ from __future__ import annotations
 import pytest
 from asking import view
 from clients import Site
-from reader import Page, Reader, read_page
+from reader import Page, Reader, opened_by_links, read_page
 from thesaurus_desk.store.plan_execution import Desk
 
 # Concepts of the sample.
@@ -108,8 +108,8 @@ def test_an_unchanged_term_sends_nothing(reader: Reader, desk: Desk) -> None:
 
 def test_a_note_is_changed(reader: Reader, desk: Desk) -> None:
     page = reader.get(f"/c/{FIDDLES}")
-    form = next(it for it in page.forms if it.name.startswith("change-scope-en"))
-    reader.send(form, text="Of folk music.")
+    (name,) = (it for it in page.opened_by_links() if it.startswith("change-scope-en"))
+    reader.send(page.form(name), text="Of folk music.")
     assert view(desk, FIDDLES).scope == (("en", "Of folk music."),)
 
 
@@ -216,8 +216,9 @@ def test_the_next_page_says_what_was_done(reader: Reader, desk: Desk) -> None:
 def test_a_page_has_the_forms_of_the_readers_role(site: Site, name: str, forms: set[str]) -> None:
     post = {"do": "post", "key": "k", "record": "Violin 1668", "concept": VIOLINS}
     assert site.desk.perform("anna", "post", [post]).is_done
-    page = read_page(site.client(name).get(f"/c/{VIOLINS}").get_data(as_text=True))
-    found = {it.name.removesuffix(f"Generic-{BOWED}-broaderGeneric") for it in page.forms if it.name}
+    html = site.client(name).get(f"/c/{VIOLINS}").get_data(as_text=True)
+    names = {it.name for it in read_page(html).forms if it.name} | opened_by_links(html)
+    found = {it.removesuffix(f"Generic-{BOWED}-broaderGeneric") for it in names}
     assert forms <= found and (found <= forms if name in ("rita", "ina") else True)
     assert ("deprecate" in found) == (name == "anna")
 

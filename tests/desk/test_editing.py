@@ -6,7 +6,7 @@ from pathlib import Path
 
 import pytest
 from browsing import start_driver
-from hands import Hand, Keyboard, come_in
+from hands import PRESSED, Hand, Keyboard, come_in
 from processes import Running, running
 from selenium.webdriver.chrome.webdriver import WebDriver
 from selenium.webdriver.common.action_chains import ActionChains
@@ -94,7 +94,7 @@ def test_a_double_click_on_a_sign_changes_nothing(driver: WebDriver, guide_desk:
     hand.open("/c/3")
     hand.wait(lambda: driver.execute_script("return document.readyState") == "complete", "the whole page")
     before = hand.text()
-    ActionChains(driver).double_click(hand.find(sign, "summary")).perform()
+    ActionChains(driver).double_click(hand.find(sign, PRESSED)).perform()
     # (where the second click falls depends on whether the browser has laid out the open form: on a field, beside it, or
     # on the sign again; nothing that it meets may send anything)
     driver.execute_async_script("const [done] = arguments; requestAnimationFrame(() => requestAnimationFrame(done))")

@@ -95,8 +95,8 @@ def test_a_choice_among_concepts(reader: Reader, desk: Desk) -> None:
 
 def test_a_link_gets_another_type(reader: Reader, desk: Desk) -> None:
     page = reader.get(f"/c/{VIOLINS}")
-    form = next(it for it in page.forms if it.name.startswith("retype-broaderGeneric"))
-    reader.send(form, kind="broaderPartitive")
+    (name,) = (it for it in page.opened_by_links() if it.startswith("retype-broaderGeneric"))
+    reader.send(page.form(name), kind="broaderPartitive")
     assert ("broaderPartitive", BOWED) in view(desk, VIOLINS).typed
     assert ("broaderGeneric", BOWED) not in view(desk, VIOLINS).typed
 

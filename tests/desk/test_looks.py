@@ -127,7 +127,9 @@ def post(browser: Browser, record: str, concept: int) -> None:
 
 
 def open_forms(browser: Browser) -> None:
-    """Opens all forms of a page."""
+    """Opens all forms of a page, those first that come when they are opened."""
+    browser.run("document.querySelectorAll('a[data-form]').forEach((it) => it.click())")
+    browser.wait(lambda: not browser.all("a[data-form]"))
     browser.run("document.querySelectorAll('details:not([data-branch])').forEach((it) => { it.open = true; })")
 
 
@@ -175,7 +177,8 @@ def test_360_pixels(served: Running, language: str) -> None:
 
 # The texts beside which a sign is below the last line, once they are long.
 SIGNS_BELOW = """
-const signs = (it) => [...it.closest('li').querySelectorAll('summary, button.x')].filter((it) => it.checkVisibility());
+const SIGNS = 'summary, a[data-form], button.x';
+const signs = (it) => [...it.closest('li').querySelectorAll(SIGNS)].filter((it) => it.checkVisibility());
 const texts = [...document.querySelectorAll('.labels .text, .links li > a')].filter((it) => signs(it).length);
 for (const it of texts) it.textContent = 'a long text '.repeat(12);
 const bottom = (it) => it.getBoundingClientRect().bottom, top = (it) => it.getBoundingClientRect().top;

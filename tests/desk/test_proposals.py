@@ -14,6 +14,7 @@ from clients import Client, Site, hold_up_once, site_of, text_of
 from reader import read_page
 from test_changes import number, perform
 from thesaurus_desk.store.plan_execution import Desk, Outcome
+from thesaurus_tools.fields import TERM_SOURCE
 from thesaurus_tools.values import set_request
 
 
@@ -55,6 +56,34 @@ def test_an_accepted_term_is_there_under_both_names(site: Site, rita: Client) ->
     assert "proposed by rita" in page and "ben" in page
     assert "Thanks" in text_of(rita.get(f"/proposals/{made}"))
     assert "Folk violins" in text_of(ben.get("/proposals?state=accepted"))
+
+
+def sources(site: Site, owner: int) -> dict[str, str]:
+    """The sources of the terms of a resource."""
+    return {it.text: it.source for it in site.desk.values.held(owner, TERM_SOURCE)}
+
+
+@pytest.mark.parametrize("typed", ["", "Village violins"])
+def test_a_term_is_proposed_with_its_source(site: Site, rita: Client, typed: str) -> None:
+    """An editor may accept it with another text: the source is of that."""
+    violins = number(site, "Violins")
+    made = propose(rita, concept=str(violins), kind="alt", text="Folk violins", source=" New  Grove ")
+    ben = site.client("ben")
+    page = text_of(ben.get(f"/proposals/{made}"))
+    assert "Folk violins" in page and "New Grove" in page
+    assert ben.post(f"/proposals/{made}/accept", {"form": "accept", "text": typed}).status_code == 303
+    assert sources(site, violins) == {typed or "Folk violins": "New Grove"}
+    assert "New Grove" in text_of(rita.get(f"/proposals/{made}"))
+
+
+def test_a_new_concept_is_proposed_with_the_source_of_its_term(site: Site, rita: Client) -> None:
+    below = number(site, "Violins")
+    made = propose(rita, concept=str(below), kind="concept", text="Kit violins", source="Baines")
+    assert site.client("ben").post(f"/proposals/{made}/accept", {"form": "accept"}).status_code == 303
+    assert sources(site, number(site, "Kit violins")) == {"Kit violins": "Baines"}
+    alone = propose(rita, kind="concept", scheme="1", text="Theorbos", source="Spencer 1976")
+    site.client("ben").post(f"/proposals/{alone}/accept", {"form": "accept"})
+    assert sources(site, number(site, "Theorbos")) == {"Theorbos": "Spencer 1976"}
 
 
 def test_a_preferred_term_keeps_the_old_one(site: Site, rita: Client) -> None:
@@ -143,7 +172,8 @@ def test_what_would_be_refused_of_a_value(site: Site, rita: Client) -> None:
         ({"kind": "value-notation", "text": "321"}, "already has the notation"),
         ({"kind": "value-definition", "text": " "}, "Write what you propose."),
         ({"kind": "value-definition", "text": "x", "value": "999"}, "has been changed meanwhile"),
-        ({"kind": "alt", "text": "x", "source": "Grove"}, "has no source of its own"),
+        ({"kind": "scope", "text": "x", "source": "Grove"}, "has no source of its own"),
+        ({"kind": "alt", "text": "x", "source": "g" * 1001}, "can’t be a value of"),
     ):
         answer = rita.post("/propose", {**about, **more})
         assert answer.status_code == 409 and said in " ".join(text_of(answer).split()), more

@@ -102,7 +102,8 @@ def test_editors_deprecate_where_the_head_says_so(desk: Desk, ben: Client) -> No
     assert ben.post(f"/c/{made}/deprecate", {"form": "deprecate"}).status_code == 403
     assert "deprecate" not in ben.get(f"/c/{made}").text
     settle(desk, deprecate=Role.EDITOR)
-    assert f'action="/c/{made}/deprecate"' in ben.get(f"/c/{made}").text
+    assert f'href="/c/{made}?open=deprecate#at-deprecate"' in ben.get(f"/c/{made}").text
+    assert f'action="/c/{made}/deprecate"' in ben.get(f"/c/{made}?open=deprecate").text
     assert ben.post(f"/c/{made}/deprecate", {"form": "deprecate"}).status_code == 303
     assert not view(desk, made).is_live
 

@@ -179,6 +179,15 @@ def test_it_is_shown_and_changed_beside_its_term(reader: Reader, desk: Desk) -> 
     assert "(Grove)" not in page.text.partition("Relationships")[0].partition("Terms")[2]
 
 
+def test_a_new_concept_has_one(reader: Reader, desk: Desk) -> None:
+    form = reader.get(f"/new?parent={VIOLINS}").form("new")
+    again = reader.send(form, text="Kit violins", source="x" * 1001)
+    assert again.status == 409 and again.form("new").invalid == {"source"} and "Kit violins" in again.html
+    page = reader.send(again.form("new"), source="  Baines   1966 ")
+    assert page.status == 200 and "(Baines 1966)" in page.text
+    assert sources(desk, number(desk, "Kit violins")) == {"Kit violins": "Baines 1966"}
+
+
 def test_a_source_whose_term_another_program_took_is_listed(
     desk: Desk, site: Site, open_desk: Callable[[Path], Desk], program: str
 ) -> None:

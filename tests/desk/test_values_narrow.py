@@ -58,8 +58,8 @@ def test_a_field_of_the_office(small: Browser) -> None:  # noqa: F811
 
 def test_the_source_of_a_term(small: Browser) -> None:  # noqa: F811
     small.go("/c/5")
-    small.find("details[id=at-change-pref-en-1] summary").click()
-    form = small.find("details[id=at-change-pref-en-1] form")
+    small.find("a[id=at-change-pref-en-1]").click()
+    form, *_ = small.wait(lambda: small.all("details[id=at-change-pref-en-1] form"))
     assert fits(small)
     send(small, form, source="MIMO 2011")
     assert "(MIMO 2011)" in small.text("#terms") and fits(small)

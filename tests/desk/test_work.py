@@ -2,6 +2,7 @@
 proposals, and when it is taken back."""
 from __future__ import annotations
 
+import re
 from pathlib import Path
 
 import pytest
@@ -63,6 +64,11 @@ def test_the_mark_is_wherever_the_concept_is_named(site: Site, desk: Desk) -> No
     for path in (f"/tree?at={VIOLINS}", f"/tree/{bowed}", "/search?q=violin&all=1", f"/c/{bowed}", "/az?letter=v"):
         assert 'class="status">candidate<' in client.get(path).text, path
     assert any("candidate" in it["note"] for it in client.get("/suggest?q=violins").json)
+    ben = site.client("ben")
+    for path in (f"/new/array?concept={bowed}", "/c/6/move"):
+        assert re.search('value="5"[^>]*>.{0,80}class="status">candidate<', ben.get(path).text), path
+    asked = ben.post("/c/11/links/add", {"form": "add-related", "kind": "related", "other": "viol"}).text
+    assert re.search('name="chosen" value="5"[^>]*>.{0,80}class="status">candidate<', asked), "a choice of concepts"
     assert 'class="status"' not in client.get(f"/print/{bowed}").text
     assert 'class="status">candidate<' in client.get(f"/print/{bowed}?candidates=1").text
 

@@ -134,10 +134,14 @@ class FormMarks:
         """Returns what a form that edits a part of a resource carries, as `12.labels.9f3c….77`.
 
         The last number is that of the journal's last plan."""
+        return self.marks(number, (part,))[part]
+
+    def marks(self, number: int, parts: Iterable[str]) -> dict[str, str]:
+        """Returns what forms that edit parts of a resource carry, by part."""
         with self.replica.reading():
             plan = self.replica.value(LAST_PLAN)
-            content = content_now(self.replica, number, part)
-        return f"{number}.{part}.{digest(content) if content else ''}.{plan}"
+            contents = {part: content_now(self.replica, number, part) for part in parts}
+        return {part: f"{number}.{part}.{digest(it) if it else ''}.{plan}" for part, it in contents.items()}
 
     def conflict(self, mark: str) -> Conflict | None:
         """Returns what has changed since a form was made, or None. A mark that no form has made is a conflict, too."""

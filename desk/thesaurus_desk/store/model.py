@@ -22,8 +22,12 @@ OPPOSITE = {"broad": "narrow", "narrow": "broad"}
 def best_of(terms: Iterable[T], langs: Iterable[str]) -> T | None:
     """Returns the first of some terms that is in the first language that has one, else the first."""
     found = list(terms)
-    matching = (it for lang in langs for it in found if has_language(it[0], lang))
-    return next(matching, found[0] if found else None)
+    # (a page asks hundreds of times)
+    for lang in langs:
+        for it in found:
+            if has_language(it[0], lang):
+                return it
+    return found[0] if found else None
 
 
 class Link(NamedTuple):

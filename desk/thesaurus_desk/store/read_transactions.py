@@ -199,12 +199,14 @@ class ReadTransactions:
     def once(self, name: Any, make: Callable[[], V], parts: tuple[str, ...] = PARTS) -> V:
         """Returns what a function makes, which is kept until one of the parts of the store changes that it is made
         of."""
-        with self.reading():
-            made_of = tuple(self.transaction.versions[it] for it in parts)
-            found = self.kept.get(name)
-            if found is None or found[0] != made_of:
-                if len(self.kept) >= MOST_KEPT:
-                    self.kept = {}
-                found = self.kept[name] = made_of, make()
-            value: V = found[1]
-            return value
+        if not self.is_reading:
+            with self.reading():
+                return self.once(name, make, parts)
+        made_of = tuple(self.transaction.versions[it] for it in parts)
+        found = self.kept.get(name)
+        if found is None or found[0] != made_of:
+            if len(self.kept) >= MOST_KEPT:
+                self.kept = {}
+            found = self.kept[name] = made_of, make()
+        value: V = found[1]
+        return value

@@ -41,7 +41,9 @@ class Resources(ReadTransactions):
     @property
     def base(self) -> str:
         """What the IRIs of the store's own resources begin with; it never changes."""
-        return self.once("base", lambda: str(self.value("SELECT base FROM meta")), ())
+        # (an export asks for it at each triple)
+        known = self.kept.get("base")
+        return known[1] if known else self.once("base", lambda: str(self.value("SELECT base FROM meta")), ())
 
     @in_one_transaction
     def look_at(self, numbers: Iterable[int]) -> None:

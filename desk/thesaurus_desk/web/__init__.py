@@ -2,6 +2,7 @@
 
   app                the application: its pages, what templates may use, the pages of errors
   context            what a page sees of its request
+  page_context       how templates call functions and macros
   paths              the paths of routes
   static_files       the addresses of scripts and style sheets
   office_link        passes on to the office what a process that makes pages can't do

@@ -52,6 +52,7 @@ from thesaurus_desk.web.form_keys import install_once, token_field
 from thesaurus_desk.web.help_topics import topic_of
 from thesaurus_desk.web.notices import notice_of_plan
 from thesaurus_desk.web.open_records import OpenRecords
+from thesaurus_desk.web.page_context import PageContext
 from thesaurus_desk.web.paths import concept_path, install_paths, path_to
 from thesaurus_desk.web.posting_keys import posting_name
 from thesaurus_desk.web.static_files import install_static_files
@@ -106,6 +107,7 @@ def create_app(desk: Desk, entry: Entry, settings: Settings, health: Health | No
     app.extensions["health"] = health
     app.extensions.update(loads=Loads(desk.db, desk.decisions))
     app.jinja_env.trim_blocks = app.jinja_env.lstrip_blocks = True
+    app.jinja_env.context_class = PageContext
     app.json.ensure_ascii = False  # type: ignore[attr-defined]
     install_checks(app)
     install_transactions(app)

@@ -30,6 +30,7 @@ if TYPE_CHECKING:
     from thesaurus_desk.store.plan_execution import Desk
     from thesaurus_desk.store.replica import Replica
 
+NOTHING = Markup()
 # A path of this desk: neither //host nor /\host.
 OWN_PATH = re.compile(r"/(?![/\\])[^\\\x00-\x20]*")
 
@@ -41,9 +42,10 @@ def the_desk() -> Desk:
 
 def the_replica() -> Replica:
     """Returns the replica of the store: all of it, or what the public sees."""
-    if "replica" not in g:
-        return the_desk().replica if person().name else the_desk().public_view()
-    return cast("Replica", g.replica)
+    # (a page asks hundreds of times)
+    if replica := g.get("replica"):
+        return cast("Replica", replica)
+    return the_desk().replica if person().name else the_desk().public_view()
 
 
 def begin_transaction(is_public: bool) -> None:
@@ -162,10 +164,11 @@ def term(number: int) -> str:
 
 def link(number: int) -> Markup:
     """Returns a link to the page of a resource, with its best term."""
-    tag, text = the_replica().term(number, tags())
-    is_other = bool(tag) and tag != tags()[0]
+    replica, langs = the_replica(), tags()
+    tag, text = replica.term(number, langs)
+    is_other = bool(tag) and tag != langs[0]
     lang = f' lang="{escape(tag)}"' if is_other else ""
-    gone = "" if the_replica().is_live(number) else ' class="gone"'
+    gone = "" if replica.is_live(number) else ' class="gone"'
     small = f" <small>{escape(tag)}</small>" if is_other else ""
     # (joined by hand: a page has many, and Markup.format takes long)
     return Markup(
@@ -215,18 +218,16 @@ def record_name(record: str) -> Markup:
 
 def status_words(number: int) -> str:
     """Returns the status of a concept that isn't approved, in the reader's words; nothing to a visitor."""
-    if not person().name:
-        return ""
-    if "statuses" not in g:
-        g.statuses = the_replica().statuses()
-    status = cast("dict[int, str]", g.statuses).get(number)
+    if (statuses := g.get("statuses")) is None:
+        statuses = g.statuses = the_replica().statuses() if person().name else {}
+    status = cast("dict[int, str]", statuses).get(number)
     return say(f"status.{status}") if status else ""
 
 
 def status_mark(number: int) -> Markup:
     """Returns what follows the term of a concept that isn't approved."""
     status = status_words(number)
-    return Markup(f' <small class="status">{escape(status)}</small>') if status else Markup()
+    return Markup(f' <small class="status">{escape(status)}</small>') if status else NOTHING
 
 
 def label_link(number: int) -> Markup:
@@ -243,9 +244,9 @@ def the_places() -> Places[int]:
 
 def the_fields() -> dict[str, Field]:
     """Returns the fields of values by their names; they are asked for once for a page."""
-    if "fields" not in g:
-        g.fields = the_desk().values.fields()
-    return cast("dict[str, Field]", g.fields)
+    if (fields := g.get("fields")) is None:
+        fields = g.fields = the_desk().values.fields()
+    return cast("dict[str, Field]", fields)
 
 
 def field_words(name: str) -> str:

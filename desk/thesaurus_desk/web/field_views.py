@@ -1,7 +1,7 @@
 """Which fields and values of a resource its page shows."""
 from __future__ import annotations
 
-from collections.abc import Iterator
+from collections.abc import Iterator, Mapping
 
 from thesaurus_desk.journal.edit_conflicts import OF_FIELD
 from thesaurus_desk.journal.values import Value
@@ -17,17 +17,17 @@ def shown_fields(view: View) -> list[Field]:
     return [it for it in found if view.kind in it.owners and (it.is_public or person().name)]
 
 
-def shown_values(view: View) -> dict[str, list[Value]]:
-    """Returns the values of a resource that the reader sees, by field."""
+def shown_values(view: View, held: Mapping[str, list[Value]]) -> dict[str, list[Value]]:
+    """Returns those of a resource's values that the reader sees, by field."""
     names = {it.name for it in shown_fields(view)}
-    return {name: held for name, held in the_desk().values.of(view.number).items() if name in names}
+    return {name: its for name, its in held.items() if name in names}
 
 
-def term_sources(number: int) -> dict[tuple[str, str], str]:
-    """Returns the sources of a resource's terms that the reader sees, by language and text."""
+def term_sources(held: Mapping[str, list[Value]]) -> dict[tuple[str, str], str]:
+    """Returns the sources of a resource's terms that the reader sees, by language and text, of all its values."""
     if not (the_fields()[TERM_SOURCE].is_public or person().name):
         return {}
-    return {(it.tag, it.text): it.source for it in the_desk().values.held(number, TERM_SOURCE)}
+    return {(it.tag, it.text): it.source for it in held.get(TERM_SOURCE, ())}
 
 
 def public_values(number: int, lang: str) -> Iterator[tuple[Field, Value]]:

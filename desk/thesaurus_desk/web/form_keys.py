@@ -10,7 +10,7 @@ import secrets
 import sqlite3
 import threading
 from dataclasses import dataclass, field
-from typing import Any
+from typing import Any, cast
 
 from flask import Flask, Response, g, redirect, request
 from markupsafe import Markup
@@ -86,12 +86,15 @@ def install_once(app: Flask) -> None:
 
 def token_field() -> Markup:
     """Returns the fields that each form of a page carries: the token of the session, and the key of the page."""
-    token = form_token()
-    if "form_key" not in g:
-        g.form_key = secrets.token_urlsafe(9)
-    # (a page has it in each of its forms)
-    names = (("token", token), ("once", g.form_key))
-    return Markup("".join(f'<input type="hidden" name="{name}" value="{value}">' for name, value in names))
+    kept = g.get("form_fields")
+    # (a page has them in each of its forms)
+    if kept is None or kept[0] is not g.session:
+        if "form_key" not in g:
+            g.form_key = secrets.token_urlsafe(9)
+        names = (("token", form_token()), ("once", g.form_key))
+        fields = Markup("".join(f'<input type="hidden" name="{name}" value="{value}">' for name, value in names))
+        kept = g.form_fields = g.session, fields
+    return cast(Markup, kept[1])
 
 
 def form_of_request() -> str:

@@ -1,14 +1,15 @@
 """What the form for a proposal asks for, and what is wrong with it: said at once, as far as the desk knows it."""
 from __future__ import annotations
 
+from collections.abc import Sequence
 from dataclasses import dataclass, field
 
 from flask import abort, request
 
 from thesaurus_desk.journal import Request, Step
 from thesaurus_desk.journal.proposals import LONGEST_TEXT
-from thesaurus_desk.journal.value_rules import ValueRules
-from thesaurus_desk.journal.values import Value, member_of, set_request
+from thesaurus_desk.journal.value_rules import ValueRules, is_source
+from thesaurus_desk.journal.values import Value, member_of, set_request, source_of
 from thesaurus_desk.store.plan_execution import Outcome
 from thesaurus_desk.web.concept_choice import choose, is_number, scheme_of, needs_choice
 from thesaurus_desk.web.context import say, the_desk, the_fields, the_replica, words
@@ -18,7 +19,7 @@ from thesaurus_desk.web.journal_text import LINKS
 from thesaurus_desk.web.pages.create import concepts_alike
 from thesaurus_desk.web.pages.edit import form_text, given_tag, given_text, is_slip
 from thesaurus_desk.web.refusals import explain
-from thesaurus_tools.fields import Field, text_fields, tidy
+from thesaurus_tools.fields import TERM_SOURCE, Field, text_fields, tidy
 
 FORM = "propose"
 # What can be proposed: a term for a concept, a new concept below one, a link, or a change in words alone.
@@ -28,7 +29,11 @@ OF_NO_CONCEPT = ("concept", "words")
 # What the kind of a proposal of a value begins with; the name of its field follows.
 OF_VALUE = "value-"
 # The fields of a proposal, and the kinds that use each.
-USES = {"text": ("alt", "pref", "scope", "concept", "value"), "other": ("broader", "related"), "source": ("value",)}
+USES = {
+    "text": ("alt", "pref", "scope", "concept", "value"),
+    "other": ("broader", "related"),
+    "source": ("alt", "pref", "concept", "value"),
+}
 
 
 @dataclass(frozen=True)
@@ -120,7 +125,26 @@ def asked_text(kind: str, number: int | None) -> ProposalForm:
         return ProposalForm(wrong=wrong)
     is_new = kind == "concept" and "sure" not in request.form
     alike = concepts_alike(requests[0]["scheme"], given_text()) if is_new else []
-    return ProposalForm(requests, problem_in(FORM, "text", say("new.alike")) if alike else None, alike)
+    # (the source is the desk's, and the program isn't asked for it)
+    requests += source_of_term("$1" if kind == "concept" else number or 0)
+    wrong = problem_in(FORM, "text", say("new.alike")) if alike else unfit_source(requests)
+    return ProposalForm(requests, wrong, alike)
+
+
+def source_of_term(owner: int | str) -> list[Request]:
+    """Returns the request that gives the term of a form its source; none if it has none."""
+    source = tidy(form_text("source"), "line")
+    new = member_of(given_text(), source)
+    return [set_request(owner, TERM_SOURCE, given_tag(), new=new)] if source else []
+
+
+def unfit_source(requests: Sequence[Request]) -> FormState | None:
+    """Returns the form with what is wrong with the source of its term."""
+    field = the_fields()[TERM_SOURCE]
+    unfit = next((it for it in requests if it["do"] == "set" and not is_source(field, source_of(it["new"]))), None)
+    if unfit is None:
+        return None
+    return problem_in(FORM, "source", explain({"no": "BadValue"}, unfit, the_replica(), words(), LINKS))
 
 
 def unusable_concept(number: int | None) -> FormState | None:

@@ -1,6 +1,7 @@
 """The page of a resource: a concept, live or dead, a scheme, a collection or an outside concept."""
 from __future__ import annotations
 
+from collections.abc import Iterable
 from dataclasses import dataclass
 from typing import Any
 
@@ -8,7 +9,7 @@ from flask import Blueprint, Response, abort, redirect, render_template, request
 from werkzeug.wrappers import Response as BaseResponse
 
 from thesaurus_desk.auth.route_roles import public
-from thesaurus_desk.journal.edit_conflicts import OF_FORMS
+from thesaurus_desk.journal.edit_conflicts import OF_FIELD, OF_FORMS
 from thesaurus_desk.store.below_counts import BelowCount
 from thesaurus_desk.store.model import Posting, View
 from thesaurus_desk.web import field_views
@@ -100,9 +101,13 @@ def resource_page(number: int, state: FormState, status: int = 200) -> Any:
     if view is None:
         abort(404)
     all_terms = terms_by_tag(view)
-    # (a form that is shown again may be that of any term)
-    shown_terms = all_terms if "terms" in request.args or state.name else first_terms(all_terms)
-    sources, terms = field_views.term_sources(number), {*view.pref, *view.alt, *view.hidden}
+    opened = state.name or request.args.get("open", "")
+    # (a form that is open may be that of any term)
+    shown_terms = all_terms if "terms" in request.args or opened else first_terms(all_terms)
+    held = the_desk().values.of(number)
+    sources, terms = field_views.term_sources(held), {*view.pref, *view.alt, *view.hidden}
+    values = field_views.shown_values(view, held)
+    marks = marks_of(number, values)
     return (
         render_template(
             "resource/page.html",
@@ -131,13 +136,14 @@ def resource_page(number: int, state: FormState, status: int = 200) -> Any:
             place=place_view(view),
             arrays=arrays_of(view),
             fields=field_views.shown_fields(view),
-            values=field_views.shown_values(view),
-            field_mark=field_views.mark_of,
+            values=values,
+            field_mark=lambda number, field: marks.get(OF_FIELD + field) or field_views.mark_of(number, field),
             choices_of=field_views.choices_of,
             offered=OFFERED,
             work=work_of_view(view),
             work_form=work_form,
-            seen={part: the_desk().seen.mark(number, part) for part in OF_FORMS},
+            seen=marks,
+            opened=opened,
             most=MOST_MEMBERS if view.kind == "collection" else MOST_NEIGHBOURS,
             size=PAGE,
             MAPPINGS=MAPPINGS,
@@ -147,6 +153,13 @@ def resource_page(number: int, state: FormState, status: int = 200) -> Any:
         ),
         status,
     )
+
+
+def marks_of(number: int, fields: Iterable[str]) -> dict[str, str]:
+    """Returns what the forms of a resource's page carry of what their author sees, those of some fields among them;
+    nothing to who edits nothing."""
+    parts = (*OF_FORMS, *(OF_FIELD + it for it in fields)) if person().may("editor") else ()
+    return the_desk().seen.marks(number, parts)
 
 
 def address_elsewhere(number: int) -> str:

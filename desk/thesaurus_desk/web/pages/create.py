@@ -9,7 +9,7 @@ from flask import Blueprint, render_template, request
 from thesaurus_desk.auth.route_roles import role
 from thesaurus_desk.journal.entries import Request
 from thesaurus_desk.journal.rights import as_candidates
-from thesaurus_desk.journal.values import set_request
+from thesaurus_desk.journal.values import member_of, set_request
 from thesaurus_desk.store.plan_execution import Outcome
 from thesaurus_desk.store.text_keys import fold
 from thesaurus_desk.web.concept_choice import choose, is_number, scheme_of, needs_choice
@@ -19,7 +19,7 @@ from thesaurus_desk.web.forms import FormState, Problem
 from thesaurus_desk.web.pages.edit import form_text, given_tag, given_text, is_slip
 from thesaurus_desk.web.paths import concept_path, path_to
 from thesaurus_desk.web.work_views import work_of
-from thesaurus_tools.fields import tidy
+from thesaurus_tools.fields import TERM_SOURCE, tidy
 from thesaurus_tools.kinds import BROADER
 
 pages = Blueprint("create", __name__)
@@ -120,17 +120,19 @@ def concept_requests(scheme: int, above: int | None) -> list[Request]:
     requests += [
         {"do": "addLabel", "owner": "$1", "kind": kind, "tag": its, "text": text} for kind, its, text in labels if text
     ]
-    values = [
+    source = given_text("source")
+    values: list[tuple[str, str, Any]] = [
         ("definition", tag, tidy(request.form.get("definition", ""), "text")),
         ("notation", "", form_text("notation")),
+        (TERM_SOURCE, tag, member_of(given_text(), source) if source else ""),
     ]
-    return [*requests, *(set_request("$1", field, its, new=text) for field, its, text in values if text)]
+    return [*requests, *(set_request("$1", field, its, new=new) for field, its, new in values if new)]
 
 
 def field_of_label(request: Request) -> str:
     """Returns the field from which a label or a value of the new concept comes."""
     if request["do"] == "set":
-        return str(request["field"])
+        return "source" if request["field"] == TERM_SOURCE else str(request["field"])
     if request["do"] != "addLabel":
         return "text"
     return f"text-{request['tag']}" if request["kind"] == "pref" else str(request["kind"])
@@ -152,7 +154,7 @@ def page_after(above: int | None, scheme: int) -> Any:
 
 def has_more() -> bool:
     """Whether the form has more than a preferred term and a place: the one after it then opens these fields, too."""
-    names = ("alt", "scope", "definition", "notation", *(f"text-{it}" for it in tags()))
+    names = ("alt", "scope", "definition", "notation", "source", *(f"text-{it}" for it in tags()))
     return "more" in request.args or any(form_text(it) for it in names)
 
 

@@ -44,7 +44,7 @@ from thesaurus_desk.web.proposal_forms import (
     value_to_replace,
 )
 from thesaurus_desk.web.request_text import sentence_of
-from thesaurus_tools.fields import tidy
+from thesaurus_tools.fields import TERM_SOURCE, tidy
 
 pages = Blueprint("proposals", __name__)
 # How many proposals a page shows.
@@ -136,7 +136,7 @@ def proposal_page(number: int, state: FormState, status: int) -> Any:
         it=found,
         lines=tell_proposal(found),
         text=text,
-        is_value=any(it["do"] == "set" for it in found.requests),
+        is_value=any(it["do"] == "set" and not is_source_of_term(it) for it in found.requests),
         is_changed=is_changed,
         later=tell_plans(later),
         last=max((it.id for it in later), default=0),
@@ -270,9 +270,17 @@ def accepted_requests(proposal: Proposal) -> list[Request]:
     found, text = list(proposal.requests), request.form.get("text", "")
     place = next((at for at, it in enumerate(found) if text_of([it])), None)
     if place is not None and text.strip():
-        found[place] = with_text(found[place], text)
+        its = with_text(found[place], text)
+        # (its source goes with the term)
+        rest = [with_text(it, text_of([its])) if is_source_of_term(it) else it for it in found[place + 1 :]]
+        found[place:] = [its, *rest]
     rights = the_rights()
     return as_candidates(found) if rights.proposed_are_candidates else rights.completed(found, person().role)
+
+
+def is_source_of_term(it: Request) -> bool:
+    """Whether a request gives a term its source."""
+    return bool(it["do"] == "set" and it["field"] == TERM_SOURCE)
 
 
 def with_text(it: Request, text: str) -> Request:

@@ -24,8 +24,8 @@ PAGE = 500
 # The concepts in use that have a value of a field, and those that have none.
 WITH, WITHOUT = (
     "SELECT num FROM resource WHERE kind = 2 AND live = 1"
-    f" AND {test} (SELECT 1 FROM value WHERE owner = num AND field = ?) ORDER BY num"
-    for test in ("EXISTS", "NOT EXISTS")
+    f" AND num {test} (SELECT owner FROM value WHERE field = ?) ORDER BY num"
+    for test in ("IN", "NOT IN")
 )
 
 

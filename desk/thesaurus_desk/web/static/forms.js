@@ -12,10 +12,40 @@
 
   // A form that opens gives the focus to what is wrong in it, to its text, or to its first field; never to what it does.
   const FIELDS = ["[aria-invalid]", "input[type=text], textarea", "input:not([type=hidden]), select"];
+  const focusIn = (form) => FIELDS.map((it) => form.querySelector(it)).find((it) => it)?.focus();
   document.addEventListener("toggle", (event) => {
-    if (!event.target.matches("details.act[open]") || !event.isTrusted) return;
-    FIELDS.map((it) => event.target.querySelector(it)).find((it) => it)?.focus();
+    if (event.target.matches("details.act[open]") && event.isTrusted) focusIn(event.target);
   }, true);
+
+  // What a page shows was so as long as the marks of its forms don't change, but for the number of the last plan.
+  const seen = (page) => page.querySelector("h1[data-seen]")?.dataset.seen.replace(/\.\d+$/, "");
+
+  // A form that has a link in its place is read from the page that the link leads to; that page is shown if this one is old.
+  async function openForm(link) {
+    if (link.dataset.form) return;
+    link.dataset.form = "opens";
+    const answer = await fetch(link.href, { headers: { Accept: "text/html" } }).catch(() => null);
+    const page = answer?.ok && !answer.redirected ? new DOMParser().parseFromString(await answer.text(), "text/html") : null;
+    const form = page?.getElementById(link.id);
+    if (form?.tagName !== "DETAILS" || seen(page) !== seen(document)) {
+      location.href = link.href;
+      return;
+    }
+    form.open = false;
+    link.replaceWith(form);
+    form.dispatchEvent(new Event("added", { bubbles: true }));
+    // (a form without a field leaves the focus where it was pressed)
+    form.querySelector("summary").focus();
+    form.open = true;
+    focusIn(form);
+  }
+
+  document.addEventListener("click", (event) => {
+    const link = event.target.closest("a[data-form]");
+    if (!link || event.ctrlKey || event.metaKey || event.shiftKey) return;
+    event.preventDefault();
+    openForm(link);
+  });
 
   // A list with a filter: `data-filter="ID"` on the field.
   function filterBy(filter) {

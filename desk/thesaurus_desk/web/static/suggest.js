@@ -122,4 +122,6 @@
   }
 
   document.querySelectorAll("[data-suggest]").forEach(suggestOn);
+  // (a form that is opened later)
+  document.addEventListener("added", (event) => event.target.querySelectorAll("[data-suggest]").forEach(suggestOn));
 })();
