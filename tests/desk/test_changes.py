@@ -219,7 +219,7 @@ def test_a_refusal_names_the_concept_that_came_back(site: Site, anna: Client) ->
     answer = anna.post("/c/11/links/add", {"form": "add-related", "kind": "related", "other": str(source)})
     said = " ".join(text_of(answer).split())
     assert answer.status_code == 409, said
-    assert f"or merged, and that was undone: it is now Fiddles, with the identifier {back}." in said, said
+    assert f"or merged, and that was undone: it is now Fiddles , with the identifier {back}." in said, said
 
 
 def test_how_a_concept_ended_is_looked_up_once_for_a_page(
