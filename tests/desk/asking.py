@@ -3,10 +3,12 @@ from __future__ import annotations
 
 from typing import Any
 
+from thesaurus_desk.journal.undo import TakeBack
 from thesaurus_desk.store.difference import attach_store, differences
 from thesaurus_desk.store.digest import digest_of_rows
 from thesaurus_desk.store.model import View
 from thesaurus_desk.store.plan_execution import Desk, Outcome
+from thesaurus_desk.store.undo_run import undo_run
 
 
 def number(desk: Desk, text: str) -> int:
@@ -26,6 +28,11 @@ def done(desk: Desk, *requests: dict[str, Any], action: str = "test", **how: Any
     outcome = desk.perform("anna", action, list(requests), **how)
     assert outcome.is_done, (outcome.at, outcome.answer)
     return outcome
+
+
+def undo(desk: Desk, user: str, back: TakeBack) -> Outcome:
+    """Takes a plan back, all of its parts."""
+    return undo_run(desk, user, back).perform_rest()
 
 
 def label(do: str, owner: int | str, kind: str, text: str, tag: str = "en") -> dict[str, Any]:

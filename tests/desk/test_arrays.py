@@ -7,7 +7,7 @@ from pathlib import Path
 from typing import Any
 
 import pytest
-from asking import assert_as_store, done, link, number
+from asking import assert_as_store, done, link, number, undo
 from thesaurus_desk.journal.consistency import replayed_values
 from thesaurus_desk.journal.values import Request, set_request
 from thesaurus_desk.store.arrays import parts_of
@@ -118,7 +118,7 @@ def test_a_merge_and_its_end(desk: Desk) -> None:
     assert places(desk).superordinate(made) == PLUCKED
     for plan in (above, merged):
         asked = desk.journal.plan(plan.plan or 0)
-        assert asked is not None and desk.perform_take_back("anna", desk.take_back(asked)).is_done
+        assert asked is not None and undo(desk, "anna", desk.take_back(asked)).is_done
     assert places(desk).superordinate(made) == number(desk, "Bowed instruments") != BOWED
     assert parts(desk, made) == [BASSES, number(desk, "Cellos"), VIOLAS, VIOLINS]
     assert is_as_replayed(desk)
@@ -131,7 +131,7 @@ def test_a_deprecation_and_its_end(desk: Desk) -> None:
     plan = desk.journal.plan(ended.plan or 0)
     assert plan is not None
     back = desk.take_back(plan)
-    assert desk.perform_take_back("anna", back).is_done
+    assert undo(desk, "anna", back).is_done
     assert places(desk).superordinate(made) == number(desk, "Bowed instruments")
     assert parts(desk, made) == [number(desk, "Double basses"), CELLOS, VIOLAS, VIOLINS]
 
@@ -145,7 +145,7 @@ def test_taking_back_an_order_that_has_changed(desk: Desk) -> None:
     assert plans[0] is not None and plans[1] is not None
     assert [it.name for it in desk.take_back(plans[0]).remarks] == ["value changed"]
     for plan in reversed(plans):
-        assert plan is not None and desk.perform_take_back("anna", desk.take_back(plan)).is_done
+        assert plan is not None and undo(desk, "anna", desk.take_back(plan)).is_done
     assert parts(desk, made) == old
 
 
@@ -190,7 +190,7 @@ def test_the_table_is_what_the_journal_replays(desk: Desk) -> None:
     assert states.count("done") > 40 and "refused" in states
     for plan in desk.history.recent(states=("done",), most=60)[::3]:
         back = desk.take_back(plan)
-        outcome = desk.perform_take_back("anna", back) if back.requests else None
+        outcome = undo(desk, "anna", back) if back.requests else None
         assert outcome is None or outcome.is_done or "set" not in str(outcome.failed), outcome
     assert is_as_replayed(desk)
     assert_as_store(desk)

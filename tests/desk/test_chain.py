@@ -6,7 +6,7 @@ from contextlib import closing
 from pathlib import Path
 
 import pytest
-from asking import label, new
+from asking import label, new, undo
 from processes import run_desk
 from thesaurus_desk.journal import journal_of
 from thesaurus_desk.journal.consistency import check, last_digest
@@ -52,7 +52,7 @@ def ended(desk: Desk) -> Desk:
     ):
         desk.perform("ben", "test", requests)
     plan = desk.journal.plan(4)
-    assert plan and desk.perform_take_back("anna", desk.take_back(plan)).is_done
+    assert plan and undo(desk, "anna", desk.take_back(plan)).is_done
     desk.stop()
     return desk
 

@@ -19,7 +19,7 @@ from pathlib import Path
 from typing import Any
 
 import pytest
-from asking import assert_as_store
+from asking import assert_as_store, undo
 from clients import Site, site_of, text_of
 from thesaurus_desk.journal import journal_of
 from thesaurus_desk.journal.consistency import check
@@ -218,7 +218,7 @@ def test_its_changes_are_taken_back(
         assert bool(back.requests) is (number not in RENUMBERED)
         if number in RENUMBERED:
             continue
-        outcome = desk.perform_take_back("anna", back)
+        outcome = undo(desk, "anna", back)
         assert outcome.is_done, (number, plan.action, outcome.answer)
     assert_as_store(desk)
     desk.stop()

@@ -13,14 +13,13 @@ from pathlib import Path
 from typing import Any
 
 import pytest
-from asking import assert_as_store, label, link, new
+from asking import assert_as_store, label, link, new, undo
 from ports import free_port
 from thesaurus_desk.journal import Acceptance, Draft, Journal, Step, journal_of
 from thesaurus_desk.journal.consistency import check
 from thesaurus_desk.journal.history import Filter, History
 from thesaurus_desk.journal.schema import now
 from thesaurus_desk.store.plan_execution import Desk, Outcome
-from thesaurus_desk.store.undo_run import undo_run
 from thesaurus_tools.command_line import ToolError
 from thesaurus_tools.table_store import open_tables
 from whole import resources
@@ -72,7 +71,7 @@ def test_how_a_concept_ended(desk: Desk) -> None:
         assert desk.perform("ina", "post", [{"do": "post", "key": f"k{it}", "record": "r", "concept": 6}]).is_done
     ending = desk.history.ending(6)
     assert ending and (ending.plan.id, ending.returned) == (merged.plan, None)
-    back = undo_run(desk, "anna", desk.take_back(ending.plan)).perform_rest()
+    back = undo(desk, "anna", desk.take_back(ending.plan))
     assert back.is_done
     ending = desk.history.ending(6)
     assert ending and (ending.plan.id, ending.returned) == (merged.plan, back.made)

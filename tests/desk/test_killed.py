@@ -15,6 +15,7 @@ from pathlib import Path
 from typing import Any
 
 import pytest
+from asking import undo
 from program import ROOT
 from test_lost_answers import PLANS
 from thesaurus_desk.journal import journal_of
@@ -66,7 +67,7 @@ def test_killed_in_a_plan(name: str, point: str, store: Path, program: str, open
     assert ((again.replica.counts(), views) == (counts, before)) == (not is_done)
     if is_done:
         back = again.take_back(kept)
-        assert not back.requests or again.perform_take_back("ben", back).is_done
+        assert not back.requests or undo(again, "ben", back).is_done
     elif name not in CHANGE_NOTHING:
         assert again.perform("anna", "test", plan).is_done
     again.stop()
@@ -90,7 +91,7 @@ def test_killed_in_an_import(point: str, store: Path, program: str, open_desk: C
     outcomes = {"BadShape": 1, "new" if point == "before" else "again": 2}
     assert plan.steps[0].answer == {"outcomes": outcomes, "first": 2, "last": 3}
     assert desk.journal.cut_imports() == desk.journal.open_plans() == []
-    assert desk.perform_take_back("ben", desk.take_back(plan)).is_done
+    assert undo(desk, "ben", desk.take_back(plan)).is_done
     assert [it.key for it in desk.replica.postings.page_at(5)] == ["old"]
     desk.stop()
     assert check(store) == []

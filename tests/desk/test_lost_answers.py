@@ -10,7 +10,7 @@ from pathlib import Path
 from typing import Any
 
 import pytest
-from asking import assert_as_store
+from asking import assert_as_store, undo
 from between import HOWS, Between
 from thesaurus_desk.journal.consistency import check
 from thesaurus_desk.journal.recovery import BY_OTHERS
@@ -348,7 +348,7 @@ def test_import_dropped(how: str, cut_desk: Desk, between: Between) -> None:
     assert BY_OTHERS not in [it.action for it in desk.history.recent()]
     again = desk.bring_in("anna", ROWS, "rows.csv")
     assert again.state == "done" and again.counts == {"again": 300}
-    assert desk.perform_take_back("ben", desk.take_back(plan)).is_done
+    assert undo(desk, "ben", desk.take_back(plan)).is_done
     assert desk.replica.postings.count_at(5) == 0
     assert_right(desk)
 

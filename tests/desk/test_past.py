@@ -9,7 +9,7 @@ from datetime import UTC, datetime, timedelta
 from typing import Any
 
 import pytest
-from asking import assert_as_store, done, label, link, new, post
+from asking import assert_as_store, done, label, link, new, post, undo
 from clients import Site, text_of
 from test_arrays import BASSES, BOWED, CELLOS, FIDDLES, PLUCKED, VIOLAS, VIOLINS, array
 from thesaurus_desk.journal import Plan
@@ -71,7 +71,7 @@ def each_kind(desk: Desk) -> Iterator[int]:
     split = {"do": "split", "source": VIOLAS, "tag": "en", "text": "Tenor violas", "postings": []}
     yield done(desk, split, link("link", "broaderGeneric", "$1", VIOLAS)).plan or 0
     yield done(desk, label("addLabel", CELLOS, "hidden", "Violoncelli"), post("p-1", CELLOS)).plan or 0
-    yield desk.perform_take_back("anna", desk.take_back(plan_of(desk, merged))).plan or 0
+    yield undo(desk, "anna", desk.take_back(plan_of(desk, merged))).plan or 0
     yield done(desk, link("link", "broaderGeneric", CELLOS, PLUCKED)).plan or 0
     yield done(desk, link("unlink", "broaderGeneric", CELLOS, BOWED), {"do": "deprecate", "concept": BASSES}).plan or 0
     yield done(desk, set_request(VIOLINS, "definition", "en", old="The smallest.")).plan or 0

@@ -7,10 +7,9 @@ from pathlib import Path
 from typing import Any
 
 import pytest
-from asking import assert_as_store, done, label, link, new, number, post, view
+from asking import assert_as_store, done, label, link, new, number, post, undo, view
 from thesaurus_desk.store.changes import Change
 from thesaurus_desk.store.plan_execution import Desk, LONGEST_PLAN
-from thesaurus_desk.store.undo_run import undo_run
 from whole import postings, resources
 
 IRI = "http://www.wikidata.org/entity/Q1467960"
@@ -76,7 +75,7 @@ def test_terms_are_swapped(desk: Desk) -> None:
     plan = desk.journal.plan(outcome.plan or 0)
     assert plan is not None
     back = desk.take_back(plan)
-    assert undo_run(desk, "ben", back).perform_rest().is_done
+    assert undo(desk, "ben", back).is_done
     assert ("en", "Violins") in view(desk, violins).pref and ("en", "Fiddles of old") in view(desk, violins).alt
     assert_as_store(desk)
 
@@ -96,7 +95,7 @@ def test_long_plans(desk: Desk) -> None:
     assert [it.first for it in plans] == [outcome.plan, outcome.plan, None]
     back = desk.take_back(plans[0])
     assert back.plan.id == outcome.plan and len(back.requests) == len(requests) and not back.later
-    assert undo_run(desk, "ben", back).perform_rest().is_done and view(desk, violins).postings == before
+    assert undo(desk, "ben", back).is_done and view(desk, violins).postings == before
     assert all(it.taken_back_by for it in desk.journal.parts(plans[0]))
     requests[LONGEST_PLAN + 4] = post("long-0", violins, "Another record")
     requests[:LONGEST_PLAN] = [post(f"longer-{it}", violins) for it in range(LONGEST_PLAN)]
@@ -200,7 +199,7 @@ def test_import(desk: Desk) -> None:
     assert plan is not None and plan.steps[0].answer is not None
     assert plan.steps[0].answer["first"] == before + 1 and plan.steps[0].answer["last"] == before + 2
     assert [it.id for it in desk.history.recent(number=6)] == [brought.plan]
-    assert desk.perform_take_back("ben", desk.take_back(plan)).is_done
+    assert undo(desk, "ben", desk.take_back(plan)).is_done
     assert view(desk, 5).postings == view(desk, 6).postings == 0
     refused = desk.bring_in("anna", b"record,concept\nx,5\n", "bad.csv")
     assert (refused.state, refused.answer) == ("refused", {"bad": "BadShape"})

@@ -11,7 +11,7 @@ from dataclasses import replace
 from pathlib import Path
 
 import pytest
-from asking import assert_as_store, done, label, link, new, number
+from asking import assert_as_store, done, label, link, new, number, undo
 from clients import Site
 from flask import Flask
 from rdflib import DCTERMS, OWL, SKOS, Graph, Literal, URIRef
@@ -23,7 +23,6 @@ from thesaurus_desk.journal.values import set_request
 from thesaurus_desk.store.export_replica import export_source, read_export
 from thesaurus_desk.store.plan_execution import Desk
 from thesaurus_desk.store.release_export import make_release
-from thesaurus_desk.store.undo_run import undo_run
 from thesaurus_tools.fields import Field
 from thesaurus_tools.rdf_writer import ISO_THES
 from thesaurus_tools.release_changes import Change
@@ -211,10 +210,10 @@ def test_it_is_undone_and_redone(reader: Reader, desk: Desk) -> None:
     plan = desk.journal.plan(desk.journal.last_plan())
     assert plan is not None and plan.action == "release"
     back = desk.take_back(plan)
-    assert back.lowest_role.word == "head" and undo_run(desk, "anna", back).perform_rest().is_done
+    assert back.lowest_role.word == "head" and undo(desk, "anna", back).is_done
     assert desk.releases.all() == [] and reader.get("/releases/1").status == 404
     redone = desk.journal.plan(desk.journal.last_plan())
-    assert redone is not None and undo_run(desk, "anna", desk.take_back(redone)).perform_rest().is_done
+    assert redone is not None and undo(desk, "anna", desk.take_back(redone)).is_done
     assert [it.name for it in desk.releases.all()] == ["1"]
 
 

@@ -5,7 +5,7 @@ from collections.abc import Callable
 from typing import Any
 
 import pytest
-from asking import assert_as_store, done, label, link, new, number, post, view
+from asking import assert_as_store, done, label, link, new, number, post, undo, view
 from thesaurus_desk.store.plan_execution import Desk, LONGEST_PLAN
 from whole import postings
 
@@ -39,13 +39,13 @@ def test_taken_back_wholly(desk: Desk, name: str) -> None:
     assert plan is not None
     back = desk.take_back(plan)
     assert not back.remarks and not back.later and back.requests
-    second = desk.perform_take_back("ben", back)
+    second = undo(desk, "ben", back)
     assert second.is_done and desk.replica.digest() == before
     plan = desk.journal.plan(first.plan or 0)
     assert plan is not None and plan.taken_back_by == second.plan
     again = desk.journal.plan(second.plan or 0)
     assert again is not None and again.takes_back == first.plan
-    assert desk.perform_take_back("anna", desk.take_back(again)).is_done
+    assert undo(desk, "anna", desk.take_back(again)).is_done
     assert desk.replica.digest() == after
     assert_as_store(desk)
 
@@ -74,11 +74,11 @@ def test_postings_are_taken_back(desk: Desk) -> None:
     assert plan is not None
     back = desk.take_back(plan)
     assert [it["do"] for it in back.requests] == ["withdraw", "withdraw"]
-    second = desk.perform_take_back("ben", back)
+    second = undo(desk, "ben", back)
     assert second.is_done and view(desk, 5).postings == 0
     plan = desk.journal.plan(second.plan or 0)
     assert plan is not None
-    third = desk.perform_take_back("ben", desk.take_back(plan))
+    third = undo(desk, "ben", desk.take_back(plan))
     assert third.is_done and {it.record for it in desk.replica.postings.page_at(5)} == {"Nyckelharpa 1710", "Other"}
     assert {it.key for it in desk.replica.postings.page_at(5)} == {"p-1~2", "p-2~2"}
     assert_as_store(desk)
@@ -90,11 +90,11 @@ def test_new_concept_is_taken_back(desk: Desk) -> None:
     assert plan is not None
     back = desk.take_back(plan)
     assert [it.name for it in back.remarks] == ["dead"]
-    ended = desk.perform_take_back("ben", back)
+    ended = undo(desk, "ben", back)
     assert ended.is_done and not view(desk, made.made).is_live
     plan = desk.journal.plan(ended.plan or 0)
     assert plan is not None
-    returned = desk.perform_take_back("anna", desk.take_back(plan))
+    returned = undo(desk, "anna", desk.take_back(plan))
     it = view(desk, returned.made)
     assert returned.is_done and it.broader == (4,) and it.pref == (("de", "X"), ("en", "Nyckelharpas"))
 
@@ -118,7 +118,7 @@ def test_merge_is_taken_back(desk: Desk) -> None:
         ("new number", violas),
         ("withdrawn", first),
     ]
-    outcome = desk.perform_take_back("ben", back)
+    outcome = undo(desk, "ben", back)
     assert outcome.is_done, (outcome.at, outcome.answer, outcome.failed)
     again = view(desk, outcome.made)
     assert (again.pref, again.alt, again.hidden, again.scope) == (source.pref, source.alt, source.hidden, source.scope)
@@ -141,7 +141,7 @@ def test_merge_whose_label_is_taken(desk: Desk) -> None:
     assert plan is not None and desk.take_back(plan).needs_label
     back = desk.take_back(plan, ("en", "Violas again"))
     assert not back.needs_label and {it.name for it in back.remarks} == {"new number", "label taken"}
-    outcome = desk.perform_take_back("ben", back)
+    outcome = undo(desk, "ben", back)
     assert outcome.is_done and view(desk, outcome.made).pref == (("en", "Violas again"),)
 
 
@@ -156,7 +156,7 @@ def test_long_merge_is_taken_back(desk: Desk) -> None:
     assert plan is not None
     back = desk.take_back(plan)
     assert len(back.requests) > 2 * LONGEST_PLAN
-    outcome = desk.perform_take_back("ben", back)
+    outcome = undo(desk, "ben", back)
     assert outcome.is_done, (outcome.at, outcome.answer)
     again = view(desk, outcome.made)
     assert (again.pref, again.alt, again.typed) == (source.pref, source.alt, source.typed)

@@ -14,7 +14,7 @@ from pathlib import Path
 from typing import Any
 
 import pytest
-from asking import assert_as_store, done, label, link, new, number, view
+from asking import assert_as_store, done, label, link, new, number, undo, view
 from clients import Client, Site, site_of, text_of
 from rdflib import DCTERMS, RDF, SKOS, Graph, Literal, URIRef
 from rdflib.term import Node
@@ -276,7 +276,7 @@ def take_back(desk: Desk, plan: int | None) -> list[str]:
     assert asked is not None
     back = desk.take_back(asked)
     if back.requests:
-        assert desk.perform_take_back("anna", back).is_done
+        assert undo(desk, "anna", back).is_done
     return [it.name for it in back.remarks]
 
 

@@ -6,7 +6,7 @@ import re
 from pathlib import Path
 
 import pytest
-from asking import done, link, new, number
+from asking import done, link, new, number, undo
 from clients import Site, site_of, text_of
 from reader import Page, Reader
 from test_public_view import status
@@ -179,7 +179,7 @@ def test_a_candidate_that_was_a_slip_is_taken_back_by_its_editor(site: Site, des
 def test_a_deprecated_candidate_comes_back_as_one(desk: Desk) -> None:
     made = done(desk, *as_candidates([new("Rebecs")])).made
     ended = desk.journal.plan(done(desk, {"do": "deprecate", "concept": made}).plan or 0)
-    assert ended is not None and desk.perform_take_back("anna", desk.take_back(ended)).is_done
+    assert ended is not None and undo(desk, "anna", desk.take_back(ended)).is_done
     assert desk.replica.statuses()[number(desk, "Rebecs")] == "candidate"
 
 
