@@ -10,7 +10,7 @@ from clients import Client, Site, text_of
 from test_bring_in import send
 from test_changes import number
 
-from thesaurus_tools.parse_places import ParsePlace, place_in, place_told, text_of_place
+from thesaurus_tools.parse_places import ParsePlace, place_in, place_of_text, text_of_place
 
 RDF_XML = b"""<?xml version="1.0"?>
 <rdf:RDF xmlns:rdf="http://www.w3.org/1999/02/22-rdf-syntax-ns#">
@@ -38,7 +38,7 @@ def test_places_in_messages(message: str, wanted: ParsePlace) -> None:
     """What a tool prints of them is read again."""
     assert place_in(message) == wanted
     if wanted.line:
-        assert place_told("a:1.rdf", f"a:1.rdf{text_of_place(wanted)}") == wanted
+        assert place_of_text("a:1.rdf", f"a:1.rdf{text_of_place(wanted)}") == wanted
 
 
 @pytest.mark.needs("rdflib")

@@ -40,7 +40,7 @@ def text_of_place(place: ParsePlace) -> str:
     return "".join(f":{it}" for it in (place.line, place.column) if it) + f": {place.reason}"
 
 
-def place_told(name: str, text: str) -> ParsePlace:
+def place_of_text(name: str, text: str) -> ParsePlace:
     """Returns the place in a file that a tool has printed, with the rest of the text."""
     found = TOLD.fullmatch(text.removeprefix(name)) if text.startswith(name) else None
     return place_of_match(found) if found else ParsePlace(0, 0, text)

@@ -60,7 +60,7 @@ def streamer_of(form: str) -> Streamer | None:
 
 
 @contextlib.contextmanager
-def unpacked(path: Path) -> Iterator[BinaryIO]:
+def open_dump(path: Path) -> Iterator[BinaryIO]:
     """Opens a file, unpacked if it is in gzip. Raises ToolError for one that can't be read or unpacked."""
     try:
         with open(path, "rb") as file:
@@ -92,7 +92,7 @@ class Feeder(threading.Thread):
     def write(self) -> None:
         """Writes the file block by block. Raises ToolError."""
         size = 0
-        with unpacked(self.path) as file:
+        with open_dump(self.path) as file:
             while block := file.read(BLOCK):
                 if size + len(block) > MOST_BYTES:
                     raise ToolError(f"{self.path}: {TOO_LARGE}", USAGE)

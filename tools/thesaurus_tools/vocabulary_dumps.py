@@ -15,7 +15,7 @@ from thesaurus_tools.command_line import REFUSED, USAGE, ToolError
 from thesaurus_tools.ntriples import BOM, DCTERMS, OWL, QUAD, RDF, SKOS, STATEMENT, Blank, Literal, Triple
 from thesaurus_tools.ntriples import parse_statement
 from thesaurus_tools.rdf_files import FORMATS, OTHER_WAY, PACKED, TooLargeError, beginning_of, form_of, read_triples
-from thesaurus_tools.rdf_streams import MOST_BYTES, STREAMERS, TOO_LARGE, open_as_ntriples, streamer_of, unpacked
+from thesaurus_tools.rdf_streams import MOST_BYTES, STREAMERS, TOO_LARGE, open_as_ntriples, open_dump, streamer_of
 from thesaurus_tools.skos_xl import FORM, XL
 from thesaurus_tools.vocabulary_tables import LABEL_KINDS
 from thesaurus_tools.zthes import is_zthes
@@ -70,10 +70,10 @@ def read_dump(path: Path, bad: BadLines) -> Iterator[Fact]:
     if not form:
         raise ToolError(f"{path}: its name ends with none of {' '.join(ENDS)}", USAGE)
     if form in LINES:
-        with unpacked(path) as file:
+        with open_dump(path) as file:
             yield from facts_of(triples_of(numbered_lines(file, str(path)), form, bad))
     elif form == "csv":
-        with unpacked(path) as file:
+        with open_dump(path) as file:
             yield from facts_of_rows(file, str(path), bad)
     elif (streamer := streamer_of(form)) and not is_zthes(beginning_of(path)):
         with open_as_ntriples(path, streamer) as pipe:

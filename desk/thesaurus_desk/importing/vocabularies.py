@@ -18,7 +18,7 @@ from thesaurus_desk.journal import Batch
 from thesaurus_desk.journal.batches import pack
 from thesaurus_desk.store.plan_execution import Desk, Outcome
 from thesaurus_tools.conversion import ReportRow, read_report_row
-from thesaurus_tools.parse_places import place_told
+from thesaurus_tools.parse_places import place_of_text
 from thesaurus_tools.rdf_files import FORMATS, PACKED, form_of
 from thesaurus_tools.requests import encode
 from thesaurus_tools.table_plans import TableOptions
@@ -37,7 +37,7 @@ class SkosError(Exception):
     def __init__(self, key: str, said: str = "", report: Sequence[ReportRow] = (), **values: object) -> None:
         super().__init__(f"{key} {said}")
         # (where the file is wrong is said in the reader's language, and why in the parser's)
-        self.place = place_told(str(values.get("name", "")), said)
+        self.place = place_of_text(str(values.get("name", "")), said)
         self.key, self.said, self.report, self.values = key, self.place.reason, report, values
 
 

@@ -10,7 +10,7 @@ from dataclasses import dataclass, field
 from pathlib import Path
 
 from thesaurus_desk.mapping.decisions import Decisions
-from thesaurus_tools.parse_places import ParsePlace, place_told
+from thesaurus_tools.parse_places import ParsePlace, place_of_text
 
 TOOL = Path(__file__).resolve().parents[3] / "tools" / "load-vocabulary"
 # The seconds that a load may take, and those that its sender waits for it.
@@ -75,7 +75,7 @@ class Loads:
             lines = ran.stderr.replace(str(path), load.file).splitlines()
             load.said = [it.removeprefix("load-vocabulary: ") for it in lines[-SHOWN:]]
             load.is_done = ran.returncode == 0
-            load.place = place_told(load.file, load.said[-1]) if load.said and load.file else load.place
+            load.place = place_of_text(load.file, load.said[-1]) if load.said and load.file else load.place
             if load.place.line:
                 load.said = [load.place.reason]
             self.decisions.note_lacking()
