@@ -45,19 +45,24 @@ class Held:
             assert self.may_go.wait(WAIT)
 
 
-@pytest.fixture
-def held(monkeypatch: pytest.MonkeyPatch) -> Iterator[Held]:
-    """A desk whose tables wait behind some rows, without the lock, as where another thread comes first."""
-    found = Held(BEFORE + 1)
+def hold_where_others_may(held: Held, monkeypatch: pytest.MonkeyPatch) -> None:
+    """Has a desk wait there without the lock, as where another thread comes first."""
     let_others = Desk.let_others
 
     def hold(desk: Desk) -> None:
         let_others(desk)
-        found.wait()
+        held.wait()
 
+    monkeypatch.setattr(Desk, "let_others", hold)
+
+
+@pytest.fixture
+def held(monkeypatch: pytest.MonkeyPatch) -> Iterator[Held]:
+    """A desk whose tables wait behind some rows."""
+    found = Held(BEFORE + 1)
     monkeypatch.setattr(background, "PATIENCE", 0.0)
     monkeypatch.setattr(run_threads, "PACE", 0.0)
-    monkeypatch.setattr(Desk, "let_others", hold)
+    hold_where_others_may(found, monkeypatch)
     yield found
     found.may_go.set()
 
@@ -299,10 +304,9 @@ def test_undoing_a_long_change_goes_on_beside_the_pages(
     terms = [f"Zither {it:03}" for it in range(300)]
     requests = [{"do": "concept", "scheme": scheme, "tag": "en", "text": it} for it in terms]
     first = site.desk.perform("anna", "test", requests, may_cut=True).plan
-    let_others = Desk.let_others
     monkeypatch.setattr(background, "PATIENCE", 0.0)
     monkeypatch.setattr(run_threads, "PACE", 0.0)
-    monkeypatch.setattr(Desk, "let_others", lambda desk: (let_others(desk), held.wait()))
+    hold_where_others_may(held, monkeypatch)
     form = {"form": "back", "last": str(site.desk.journal.last_plan())}
     path = led(anna, anna.post(f"/changes/{first}/back", form))
     assert held.is_there.wait(WAIT)
@@ -322,9 +326,8 @@ def test_what_ends_an_undoing_says_why(site: Site, anna: Client, monkeypatch: py
     scheme, held = site.desk.replica.numbers("scheme")[0], Held(1)
     requests = [{"do": "concept", "scheme": scheme, "tag": "en", "text": f"Zither {it:03}"} for it in range(300)]
     outcome = site.desk.perform("anna", "test", requests, may_cut=True)
-    let_others = Desk.let_others
     monkeypatch.setattr(background, "PATIENCE", 0.0)
-    monkeypatch.setattr(Desk, "let_others", lambda desk: (let_others(desk), held.wait()))
+    hold_where_others_may(held, monkeypatch)
     form = {"form": "back", "last": str(site.desk.journal.last_plan())}
     path = led(anna, anna.post(f"/changes/{outcome.plan}/back", form))
     assert held.is_there.wait(WAIT) and outcome.made
