@@ -92,7 +92,7 @@ return bad.slice(0, 8);"""
 # What a finger can't hit: less than 24 by 24 pixels, unless it is in a line of text.
 TARGETS = """
 const bad = [];
-for (const it of document.querySelectorAll('button, summary, input:not([type=hidden]), select')) {
+for (const it of document.querySelectorAll('a.act, button, summary, input:not([type=hidden]), select')) {
   if (!it.checkVisibility() || it.closest('.hidden')) continue;
   const isBox = it.type === 'checkbox' || it.type === 'radio';
   const box = (isBox ? it.closest('label') || it : it).getBoundingClientRect();

@@ -139,6 +139,7 @@ def test_structure_and_contrast(anna: Browser, path: str) -> None:
         anna.use_scheme(scheme)
         anna.go(path)
         assert anna.run(STRUCTURE) == [] and anna.run(CONTRAST) == [], scheme
+        assert anna.run(TARGETS) == []
         open_forms(anna)
         assert anna.run(CONTRAST) == [], f"{scheme}, with its forms open"
         assert anna.run(TARGETS) == []
@@ -179,7 +180,8 @@ def test_360_pixels(served: Running, language: str) -> None:
 SIGNS_BELOW = """
 const SIGNS = 'summary, a[data-form], button.x';
 const signs = (it) => [...it.closest('li').querySelectorAll(SIGNS)].filter((it) => it.checkVisibility());
-const texts = [...document.querySelectorAll('.labels .text, .links li > a')].filter((it) => signs(it).length);
+const all = [...document.querySelectorAll('.labels .text, .links li > a:not(.act)')];
+const texts = all.filter((it) => signs(it).length);
 for (const it of texts) it.textContent = 'a long text '.repeat(12);
 const bottom = (it) => it.getBoundingClientRect().bottom, top = (it) => it.getBoundingClientRect().top;
 const isBelow = (it) => signs(it).some((sign) => top(sign) >= bottom(it));
