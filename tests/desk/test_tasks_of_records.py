@@ -95,6 +95,7 @@ def test_13_correct_a_posting_and_a_merge(hand: Hand) -> None:
     hand.sees("3 records")
     hand.press("Changes")
     hand.press("Undo")
+    hand.sees("comes back under a new identifier")
     hand.sees("Fiddles")
 
 

@@ -126,9 +126,11 @@ def test_name_the_source_of_a_term(hand: Hand) -> None:
     hand.press("Rename")
     hand.sees("Violin (MIMO 2011)")
     hand.press("Undo")
-    hand.press("Undo")
+    hand.sees("renamed to “Violins” (en)")
     hand.open("/c/3")
     hand.sees("Violins (MIMO 2011)")
+    now = hand.text().partition("History")[0]
+    assert "Violin (MIMO 2011)" not in now and "UF Violins" not in now
 
 
 def test_see_what_was_on_a_day(hand: Hand) -> None:
