@@ -173,6 +173,8 @@ def test_two_editors_at_once(driver: WebDriver, program: str, store: Path) -> No
     with running("--db", store, "--alone", "anna", "--program", program) as desk:
         anna = come_in("mouse", driver, desk)
         anna.open("/c/5")
+        anna.press("Change preferred term Violins (en)")
+        anna.fill("Preferred term (en)", "Old violins")
         other = start_second(driver, desk)
         try:
             other.open("/c/5")
@@ -180,8 +182,6 @@ def test_two_editors_at_once(driver: WebDriver, program: str, store: Path) -> No
             other.fill("Preferred term (en)", "Fine violins")
             other.press("Rename")
             other.sees("renamed to “Fine violins” (en)")
-            anna.press("Change preferred term Violins (en)")
-            anna.fill("Preferred term (en)", "Old violins")
             anna.press("Rename")
             anna.sees("You changed Fine violins yourself after this page was opened")
             anna.sees("preferred term “Fine violins” (en)")
@@ -191,6 +191,9 @@ def test_two_editors_at_once(driver: WebDriver, program: str, store: Path) -> No
             anna.press("Make my change anyway")
             anna.sees("renamed to “Old violins” (en)")
             anna.sees("UF Fine violins")
+            # (a form is opened as the concept is by now)
+            other.press("Change preferred term Fine violins (en)")
+            assert other.find("Preferred term (en)", "input").get_attribute("value") == "Old violins"
         finally:
             other.driver.quit()
 
