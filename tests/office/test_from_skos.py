@@ -733,7 +733,7 @@ WRONG: dict[str, tuple[str | None, int, str]] = {
     "wrong.nt": ("<http://a> <http://b> c .\n", 1, "wrong.nt:1: no triple"),
     "cut.nt": ("\n<http://a> <http://b> ", 1, "cut.nt:2: no triple"),
     "none.nt": (None, 3, "No such file"),
-    "wrong.ttl": (":a :b .", 1, "wrong.ttl: "),
+    "wrong.ttl": (":a :b .", 1, "wrong.ttl:1: "),
     "none.rdf": (None, 3, "none.rdf"),
 }
 
