@@ -590,7 +590,10 @@ def test_zthes_is_read(room: Path) -> None:
 
 @pytest.mark.parametrize(
     ("text", "wanted"),
-    [(ZTHES.replace("</Zthes>", ""), "zthes.xml: no element found"), ("<!DOCTYPE a [<!ENTITY b 'c'>]>", "it declares")],
+    [
+        (ZTHES.replace("</Zthes>", ""), "zthes.xml:19: no element found"),
+        ("<!DOCTYPE a [<!ENTITY b 'c'>]>", "it declares"),
+    ],
 )
 def test_zthes_that_is_damaged(room: Path, text: str, wanted: str) -> None:
     file = room / "zthes.xml"
