@@ -125,7 +125,8 @@ def choose_types(given: argparse.Namespace, thesaurus: Thesaurus) -> None:
         if given.journal:
             add_values(store, given.journal)
         thesaurus.types = read_types(store)
-        thesaurus.names_elsewhere = store.names_elsewhere
+        # (processes that write pages are sent it)
+        thesaurus.names_elsewhere = dict(store.names_elsewhere)
         check_types(given, thesaurus, broader_links(store))
 
 
