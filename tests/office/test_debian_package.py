@@ -34,7 +34,7 @@ PACKAGES = {
     "rdflib": "python3-rdflib",
     "waitress": "python3-waitress",
 }
-WITH_FLASK = {"itsdangerous", "markupsafe", "werkzeug"}
+WITH_FLASK = {"itsdangerous", "jinja2", "markupsafe", "werkzeug"}
 OWN = {"thesaurus_desk", "thesaurus_tools", "_typeshed"}
 
 
