@@ -133,4 +133,12 @@ def test_backups_are_named(left: Desk, users: Path, tmp_path: Path) -> None:
     copy = tmp_path / "backups" / "museum-20991231T000000Z" / "museum-desk.sqlite"
     copy.parent.mkdir(parents=True)
     shutil.copy(journal_of(left.db), copy)
-    assert f"{copy}: may have the name still" in forget(left.db, users, NAME, "--backups", copy.parent.parent)[1]
+    beside = Path(shutil.copy(users, copy.parent))
+    said = forget(left.db, users, NAME, "--backups", copy.parent.parent)[1]
+    assert f"{copy}: may have the name still" in said and f"{beside}: may have the name still" in said
+
+
+def test_backups_that_are_elsewhere(left: Desk, users: Path, tmp_path: Path) -> None:
+    status, said = forget(left.db, users, NAME, "--backups", tmp_path / "none")
+    assert status and "there is no such folder" in said
+    assert Accounts(users).find(NAME) and NAME.encode() in bytes_of(left.db)

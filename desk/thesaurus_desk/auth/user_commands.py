@@ -4,7 +4,9 @@ from __future__ import annotations
 import argparse
 import getpass
 import sys
+from collections.abc import Iterable
 from contextlib import closing
+from pathlib import Path
 
 from thesaurus_desk.auth.accounts import AccountError, Accounts
 from thesaurus_desk.auth.passwords import fault_of
@@ -74,6 +76,11 @@ def carry_out(accounts: Accounts, given: argparse.Namespace) -> int:
     return DONE
 
 
+def copies_of(name: str, backups: Path | None) -> Iterable[Path]:
+    """Returns the files of this name in backups, if there are any."""
+    return backups.glob(f"*/{name}") if backups else ()
+
+
 def forget_user(accounts: Accounts, given: argparse.Namespace) -> None:
     """Removes a user, if there is an account, and takes the name out of the journal. Prints where else it may be.
 
@@ -81,11 +88,14 @@ def forget_user(accounts: Accounts, given: argparse.Namespace) -> None:
     path = journal_of(given.db)
     if not path.exists():
         raise ToolError(f"{path}: there is no journal", REFUSED)
+    if given.backups and not given.backups.is_dir():
+        raise ToolError(f"{given.backups}: there is no such folder", REFUSED)
     with closing(Journal(path).open()) as journal:
         if accounts.find(given.name) or not has_name(journal, given.name):
             accounts.remove(given.name)
         number, count = forget(journal, given.name)
     print(f"{path}: {number} takes the place of {given.name} in {count} places")
     earlier = path.parent.glob(f"{path.stem}-[0-9]*.sqlite")
-    for it in sorted([*earlier, *(given.backups.glob(f"*/{path.name}") if given.backups else ())]):
+    copies = [it for name in (path.name, accounts.path.name) for it in copies_of(name, given.backups)]
+    for it in sorted([*earlier, *copies]):
         print(f"{it}: may have the name still")
