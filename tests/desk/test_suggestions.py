@@ -137,5 +137,5 @@ def test_suggestions_are_measured_beside_the_commonest_concepts(site: Site) -> N
         index(desk, record, *concepts)
     # (by records alike, by a term the one of two, by records alike, by nothing; but four concepts are used at all)
     page = " ".join(text_of(ina.get("/index/quality")).split())
-    assert "measured on 4 records" in page and "suggestions 62 %" in page
+    assert "measured on 4 indexed records" in page and "suggestions 62 %" in page
     assert "concepts 100 %" in page
