@@ -84,7 +84,8 @@ def copies_of(name: str, backups: Path | None) -> Iterable[Path]:
 def forget_user(accounts: Accounts, given: argparse.Namespace) -> None:
     """Removes a user, if there is an account, and takes the name out of the journal. Prints where else it may be.
 
-    Raises AccountError if nobody has the name, and ToolError if the journal can't be opened."""
+    Raises AccountError if nobody has the name, and ToolError if the journal can't be opened, or there is no such folder
+    of backups."""
     path = journal_of(given.db)
     if not path.exists():
         raise ToolError(f"{path}: there is no journal", REFUSED)
